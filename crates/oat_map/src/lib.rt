@@ -1,0 +1,14 @@
+//! The control-flow map of an image: functions, blocks, rows, and edges of a path.
+#![tactic(auto)]
+
+mod edge;
+mod map;
+mod name;
+mod row;
+mod trap;
+
+pub use edge::{Edge, Path};
+pub use map::{Block, Function, Map};
+pub use name::Name;
+pub use row::Row;
+pub use trap::TrapKind;
