@@ -1,0 +1,7 @@
+-- What a sink of the system stands on.
+use Rattle.std.specs.Prelude.{ℕ}
+
+-- the writer that takes the bytes, and the count of faults
+pub record Onto (W : Type 0) : Type 0 where
+  pub writer : W
+  pub faults : ℕ
