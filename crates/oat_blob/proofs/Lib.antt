@@ -1,0 +1,5 @@
+pub mod Parts
+pub mod PackedBits
+pub mod OneLayout
+pub mod Reading
+pub mod Plain

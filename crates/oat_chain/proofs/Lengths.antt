@@ -1,0 +1,34 @@
+-- Lengths of digests, chains and begin records.
+use Rattle.std.proofs.Common.{◌≡◌, ℕ, List, [], ◌∷◌, ◌++◌, length, refl, arith, length-append}
+use Rattle.std.specs.Int.{w16, to_be_bytes}
+use Rattle.std.specs.List.{fold}
+use Rattle.sha2.specs.Sha256.{sha256}
+use Rattle.sha2.proofs.Facts256.{length-sha256}
+use Rattle.oat_chain.specs.Chain.{chain, link}
+use Rattle.oat_chain.specs.Laws.{BeginLength, ChainLength, DigestLength}
+
+pub length-digest : DigestLength
+length-digest message = length-sha256 message
+
+length-fold : (before addresses : List ℕ) → length before ≡ 32 → length (fold (λ h a. sha256 (link h a)) before addresses) ≡ 32
+length-fold before [] here = here
+length-fold before (a ∷ addresses) here = length-fold (sha256 (link before a)) addresses (length-sha256 (link before a))
+
+pub length-chain : ChainLength
+unfolding chain
+length-chain head addresses = length-fold (sha256 head) addresses (length-sha256 head)
+
+pub length-begin_record : BeginLength
+length-begin_record nonce op digest of_nonce of_digest =
+    let number : length (to_be_bytes w16 op) ≡ 2 = refl in
+    let both = length-append (to_be_bytes w16 op) digest in
+    let whole = length-append nonce (to_be_bytes w16 op ++ digest) in
+    omega arith
+
+fold-push : (before addresses : List ℕ) (a : ℕ) → fold (λ h b. sha256 (link h b)) before (addresses ++ a ∷ []) ≡ sha256 (link (fold (λ h b. sha256 (link h b)) before addresses) a)
+fold-push before [] a = refl
+fold-push before (b ∷ addresses) a = fold-push (sha256 (link before b)) addresses a
+
+pub chain-push : (head addresses : List ℕ) (a : ℕ) → chain head (addresses ++ a ∷ []) ≡ sha256 (link (chain head addresses) a)
+unfolding chain
+chain-push head addresses a = fold-push (sha256 head) addresses a

@@ -1,0 +1,18 @@
+//! Facts about digests, for proofs that rest on them: each function's contract is the fact.
+
+ghost use Rattle.oat_chain.specs.Laws.{BeginLength, ChainLength, DigestLength};
+
+/// A digest has 32 bytes.
+pub fn digest_length()
+    ensures { DigestLength }
+{}
+
+/// So has the chain of any list.
+pub fn chain_length()
+    ensures { ChainLength }
+{}
+
+/// A begin record has 50 bytes, and so isn't a link, which has 40.
+pub fn begin_length()
+    ensures { BeginLength }
+{}
