@@ -3,6 +3,14 @@
 
 mod event;
 mod inst;
+pub mod laws;
+mod places;
+pub mod step_laws;
+mod words;
 
 pub use event::{Event, FaultKind};
 pub use inst::Inst;
+pub use words::{decode, encode};
+
+#[cfg(test)]
+mod tests;

@@ -2,6 +2,7 @@
 #![tactic(auto)]
 
 mod edge;
+pub mod laws;
 mod map;
 mod name;
 mod row;
@@ -12,3 +13,6 @@ pub use map::{Block, Function, Map};
 pub use name::Name;
 pub use row::Row;
 pub use trap::TrapKind;
+
+#[cfg(test)]
+mod tests;

@@ -1,0 +1,5 @@
+pub mod Offsets
+pub mod Candidates
+pub mod Same
+pub mod FetchLemmas
+pub mod StepBounds

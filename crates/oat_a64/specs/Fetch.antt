@@ -1,0 +1,67 @@
+-- The instruction of a word: the one of the A64 base instructions of the device, if any, that the word encodes by the instruction table.
+use Rattle.std.specs.Prelude.{ℕ, suc, ◌-◌, ◌*◌, ◌^◌, ◌&&◌, nat_eq, nat_lt, Bool, if◌then◌else◌, Option, List, [], ◌∷◌, find, ℤ, pos, negsuc}
+use Rattle.std.specs.List.{list_all}
+use Rattle.oat_bits.specs.Field.{field}
+use Rattle.oat_a64.specs.declared.inst.Inst.{Inst}
+use Rattle.oat_a64.specs.declared.inst.Inst.TheVariants.{AddImm, SubImm, SubsImm, AddReg, SubReg, SubsReg, AndReg, OrrReg, EorReg, Madd, Msub, Udiv, Sdiv, Lslv, Lsrv, Asrv, Movz, Movk, Csinc, Ldr, Str, B, Bl, BCond, Cbz, Cbnz, Blr, Ret, Svc, Brk, Nop}
+use Rattle.oat_a64.specs.Table.{Part, unsigned, signed, condition, is_condition, form_of, word_of}
+
+-- the number that stands as n in two's complement
+abbrev pub from_twos_complement : ℕ → ℕ → ℤ
+from_twos_complement width n = if nat_lt (2 * n) (2 ^ width) then pos n else negsuc (2 ^ width - suc n)
+
+abbrev pub signed_field : ℕ → ℕ → ℕ → ℤ
+signed_field low width w = from_twos_complement width (field low width w)
+
+-- each form with the fields that a word has in its places
+unfoldable pub candidates : ℕ → List Inst
+candidates w =
+    AddImm (field 0 5 w) (field 5 5 w) (field 10 12 w) ∷
+    SubImm (field 0 5 w) (field 5 5 w) (field 10 12 w) ∷
+    SubsImm (field 0 5 w) (field 5 5 w) (field 10 12 w) ∷
+    AddReg (field 0 5 w) (field 5 5 w) (field 16 5 w) (field 10 6 w) ∷
+    SubReg (field 0 5 w) (field 5 5 w) (field 16 5 w) ∷
+    SubsReg (field 0 5 w) (field 5 5 w) (field 16 5 w) ∷
+    AndReg (field 0 5 w) (field 5 5 w) (field 16 5 w) ∷
+    OrrReg (field 0 5 w) (field 5 5 w) (field 16 5 w) ∷
+    EorReg (field 0 5 w) (field 5 5 w) (field 16 5 w) ∷
+    Madd (field 0 5 w) (field 5 5 w) (field 16 5 w) (field 10 5 w) ∷
+    Msub (field 0 5 w) (field 5 5 w) (field 16 5 w) (field 10 5 w) ∷
+    Udiv (field 0 5 w) (field 5 5 w) (field 16 5 w) ∷
+    Sdiv (field 0 5 w) (field 5 5 w) (field 16 5 w) ∷
+    Lslv (field 0 5 w) (field 5 5 w) (field 16 5 w) ∷
+    Lsrv (field 0 5 w) (field 5 5 w) (field 16 5 w) ∷
+    Asrv (field 0 5 w) (field 5 5 w) (field 16 5 w) ∷
+    Movz (field 0 5 w) (field 21 2 w) (field 5 16 w) ∷
+    Movk (field 0 5 w) (field 21 2 w) (field 5 16 w) ∷
+    Csinc (field 0 5 w) (field 5 5 w) (field 16 5 w) (field 12 4 w) ∷
+    Ldr (field 0 5 w) (field 5 5 w) (field 10 12 w) ∷
+    Str (field 0 5 w) (field 5 5 w) (field 10 12 w) ∷
+    B (signed_field 0 26 w) ∷
+    Bl (signed_field 0 26 w) ∷
+    BCond (field 0 4 w) (signed_field 5 19 w) ∷
+    Cbz (field 0 5 w) (signed_field 5 19 w) ∷
+    Cbnz (field 0 5 w) (signed_field 5 19 w) ∷
+    Blr (field 5 5 w) ∷
+    Ret (field 5 5 w) ∷
+    Svc (field 5 16 w) ∷
+    Brk (field 5 16 w) ∷
+    Nop ∷
+    []
+
+abbrev pub fits_signed : ℕ → ℤ → Bool
+fits_signed width (pos n) = nat_lt (2 * n) (2 ^ width)
+fits_signed width (negsuc n) = nat_lt (2 * n) (2 ^ width)
+
+abbrev pub is_part_in_range : Part → Bool
+is_part_in_range (unsigned low width n) = nat_lt n (2 ^ width)
+is_part_in_range (signed low width z) = fits_signed width z
+is_part_in_range (condition low c) = is_condition c
+
+-- The test of `Word i w`.
+unfoldable pub is_word : Inst → ℕ → Bool
+is_word i w = list_all is_part_in_range (form_of i).parts && nat_eq w (word_of i)
+
+-- The instruction that a word encodes: no word encodes two.
+unfoldable pub inst_of : ℕ → Option Inst
+inst_of w = find (λ i. is_word i w) (candidates w)

@@ -1,0 +1,4 @@
+pub mod Table
+pub mod Fetch
+pub mod Laws
+pub mod Step

@@ -1,0 +1,283 @@
+-- The machine step: how an instruction is fetched and what it does, one row for each form of the device's A64 instructions, by the operation of its section in the Arm A64 manual, "A64 base instructions".
+use Rattle.std.specs.Prelude.{ℕ, suc, ◌+◌, ◌-◌, ◌*◌, ◌/◌, ◌%◌, ◌^◌, ◌<◌, Bool, false, not, ◌&&◌, ◌||◌, nat_eq, nat_lt, nat_le, if◌then◌else◌, Option, Some, None, List, slice_get, option_and_then, ℤ, pos, negsuc, ◌-ℤ◌, int_div, bit_and, bit_or, bit_xor}
+use Rattle.std.specs.Bool.{beq}
+use Rattle.std.specs.Int.{w64, cast_signed, cast_unsigned, int_shr}
+use Rattle.oat_mem.specs.DataMemory.{can_access, word_in, with_word, IsBytes}
+use Rattle.oat_a64.specs.declared.event.Event.{Event}
+use Rattle.oat_a64.specs.declared.event.Event.TheVariants as event
+use Rattle.oat_a64.specs.declared.event.FaultKind.{FaultKind}
+use Rattle.oat_a64.specs.declared.event.FaultKind.TheVariants.{Access, Fetch, Undefined}
+use Rattle.oat_a64.specs.declared.inst.Inst.{Inst}
+use Rattle.oat_a64.specs.declared.inst.Inst.TheVariants.{AddImm, SubImm, SubsImm, AddReg, SubReg, SubsReg, AndReg, OrrReg, EorReg, Madd, Msub, Udiv, Sdiv, Lslv, Lsrv, Asrv, Movz, Movk, Csinc, Ldr, Str, B, Bl, BCond, Cbz, Cbnz, Blr, Ret, Svc, Brk, Nop}
+use Rattle.oat_a64.specs.Fetch.{fits_signed, inst_of}
+
+-- X0 to X30 by number, the stack pointer, the program counter, and the condition flags
+pub record Regs : Type 0 where
+  pub x : ℕ → ℕ
+  pub sp : ℕ
+  pub pc : ℕ
+  pub n : Bool
+  pub z : Bool
+  pub c : Bool
+  pub v : Bool
+
+-- the registers, and the byte at each data address
+pub record Machine : Type 0 where
+  pub regs : Regs
+  pub memory : ℕ → ℕ
+
+-- the machine that an instruction leaves, and what it tells
+pub record Outcome : Type 0 where
+  pub machine : Machine
+  pub event : Event
+
+-- ---- numbers of 64 bits
+
+abbrev pub wrap : ℕ → ℕ
+wrap value = value % 2 ^ 64
+
+abbrev pub difference : ℕ → ℕ → ℕ
+difference a b = wrap (a + (2 ^ 64 - b))
+
+-- the integer that a number stands for in two's complement, and back
+abbrev pub signed : ℕ → ℤ
+signed value = cast_signed w64 value
+
+abbrev pub unsigned : ℤ → ℕ
+unsigned value = cast_unsigned w64 value
+
+abbrev pub unsigned_quotient : ℕ → ℕ → ℕ
+unsigned_quotient a b = if nat_eq b 0 then 0 else a / b
+
+abbrev pub signed_quotient : ℕ → ℕ → ℕ
+signed_quotient a b = if nat_eq b 0 then 0 else unsigned (int_div (signed a) (signed b))
+
+abbrev pub shifted_left : ℕ → ℕ → ℕ
+shifted_left value amount = wrap (value * 2 ^ amount)
+
+abbrev pub shifted_right : ℕ → ℕ → ℕ
+shifted_right value amount = value / 2 ^ amount
+
+abbrev pub shifted_right_signed : ℕ → ℕ → ℕ
+shifted_right_signed value amount = unsigned (int_shr (signed value) amount)
+
+-- a number with other 16 bits from a place on
+abbrev pub with_bits : ℕ → ℕ → ℕ → ℕ
+with_bits value low bits =
+    wrap (value / 2 ^ (low + 16) * 2 ^ (low + 16) + bits * 2 ^ low + value % 2 ^ low)
+
+-- ---- registers
+
+-- X[n]: register 31 reads as zero
+abbrev pub reg : Regs → ℕ → ℕ
+reg r n = if nat_lt n 31 then r.x n else 0
+
+-- X[n] or SP: register 31 is the stack pointer
+abbrev pub reg_or_sp : Regs → ℕ → ℕ
+reg_or_sp r n = if nat_eq n 31 then r.sp else reg r n
+
+-- a write to register 31 is dropped
+abbrev pub set : (ℕ → ℕ) → ℕ → ℕ → (ℕ → ℕ)
+set x n value = λ k. if nat_eq k n && nat_lt n 31 then value else x k
+
+abbrev pub with_reg : Regs → ℕ → ℕ → Regs
+with_reg r n value = record r { x = set r.x n value }
+
+abbrev pub with_reg_or_sp : Regs → ℕ → ℕ → Regs
+with_reg_or_sp r n value =
+    record r { x = set r.x n value; sp = if nat_eq n 31 then value else r.sp }
+
+-- The flags of a subtraction: N is the difference's sign, Z that it is zero, C that nothing was borrowed, V that the signed difference does not fit.
+abbrev pub with_flags : Regs → ℕ → ℕ → Regs
+with_flags r a b =
+    record r { n = nat_le (2 ^ 63) (difference a b); z = nat_eq (difference a b) 0; c = nat_le b a; v = not (fits_signed 64 (signed a -ℤ signed b)) }
+
+-- ConditionHolds, at the ten conditions of the device
+abbrev pub holds : ℕ → Regs → Bool
+holds cond r =
+    if nat_eq cond 0 then r.z  -- EQ
+    else (if nat_eq cond 1 then not r.z  -- NE
+    else (if nat_eq cond 2 then r.c  -- HS
+    else (if nat_eq cond 3 then not r.c  -- LO
+    else (if nat_eq cond 8 then r.c && not r.z  -- HI
+    else (if nat_eq cond 9 then not r.c || r.z  -- LS
+    else (if nat_eq cond 10 then beq r.n r.v  -- GE
+    else (if nat_eq cond 11 then not (beq r.n r.v)  -- LT
+    else (if nat_eq cond 12 then not r.z && beq r.n r.v  -- GT
+    else (if nat_eq cond 13 then r.z || not (beq r.n r.v)  -- LE
+    else false)))))))))
+
+-- ---- where an instruction leads
+
+abbrev pub next_pc : ℕ → ℕ
+next_pc pc = wrap (pc + 4)
+
+-- an offset counts words from the branch itself
+abbrev pub branch_target : ℕ → ℤ → ℕ
+branch_target pc (pos words) = wrap (pc + 4 * words)
+branch_target pc (negsuc words) = difference pc (4 * suc words)
+
+abbrev pub outcome : Machine → Event → Outcome
+outcome m told = record { machine = m; event = told }
+
+-- nothing has changed
+abbrev pub fault : Machine → FaultKind → Outcome
+fault m kind = outcome m (event.Fault kind)
+
+-- with these registers on to the next instruction
+abbrev pub goes_on : Machine → Regs → Outcome
+goes_on m r = outcome (record m { regs = record r { pc = next_pc r.pc } }) event.Next
+
+abbrev pub jumps : Machine → Regs → ℕ → Outcome
+jumps m r address = outcome (record m { regs = record r { pc = address } }) event.Next
+
+abbrev pub jumps_if : Bool → Machine → ℕ → Outcome
+jumps_if test m address = if test then jumps m m.regs address else goes_on m m.regs
+
+-- the address of the next instruction goes into X30
+abbrev pub links : Machine → ℕ → Outcome
+links m address = jumps m (with_reg m.regs 30 (next_pc m.regs.pc)) address
+
+abbrev pub subtracts : Machine → ℕ → ℕ → ℕ → Outcome
+subtracts m rd a b = goes_on m (with_reg (with_flags m.regs a b) rd (difference a b))
+
+abbrev pub loads : Machine → ℕ → ℕ → Outcome
+loads m rt address =
+    if can_access address then goes_on m (with_reg m.regs rt (word_in m.memory address))
+    else fault m (Access address)
+
+abbrev pub stores : Machine → ℕ → ℕ → Outcome
+stores m rt address =
+    if can_access address then goes_on (record m { memory = with_word m.memory address (reg m.regs rt) }) m.regs
+    else fault m (Access address)
+
+-- a monitor call has a number up to 9
+abbrev pub calls_monitor : Machine → ℕ → Outcome
+calls_monitor m number =
+    if nat_le number 9 then outcome (goes_on m m.regs).machine (event.Svc number)
+    else fault m (Undefined m.regs.pc)
+
+-- a trap has a number from 1 to 4
+abbrev pub traps : Machine → ℕ → Outcome
+traps m number =
+    if nat_le 1 number && nat_le number 4 then outcome m (event.Brk number)
+    else fault m (Undefined m.regs.pc)
+
+-- ---- one row for each form, under the name of its section
+
+abbrev pub act : Inst → Machine → Outcome
+-- ADD (immediate)
+act (AddImm rd rn imm) m = goes_on m (with_reg_or_sp m.regs rd (wrap (reg_or_sp m.regs rn + imm)))
+-- SUB (immediate)
+act (SubImm rd rn imm) m = goes_on m (with_reg_or_sp m.regs rd (difference (reg_or_sp m.regs rn) imm))
+-- SUBS (immediate)
+act (SubsImm rd rn imm) m = subtracts m rd (reg_or_sp m.regs rn) imm
+-- ADD (shifted register)
+act (AddReg rd rn rm amount) m =
+    goes_on m (with_reg m.regs rd (wrap (reg m.regs rn + shifted_left (reg m.regs rm) amount)))
+-- SUB (shifted register)
+act (SubReg rd rn rm) m = goes_on m (with_reg m.regs rd (difference (reg m.regs rn) (reg m.regs rm)))
+-- SUBS (shifted register)
+act (SubsReg rd rn rm) m = subtracts m rd (reg m.regs rn) (reg m.regs rm)
+-- AND (shifted register)
+act (AndReg rd rn rm) m = goes_on m (with_reg m.regs rd (bit_and (reg m.regs rn) (reg m.regs rm)))
+-- ORR (shifted register)
+act (OrrReg rd rn rm) m = goes_on m (with_reg m.regs rd (bit_or (reg m.regs rn) (reg m.regs rm)))
+-- EOR (shifted register)
+act (EorReg rd rn rm) m = goes_on m (with_reg m.regs rd (bit_xor (reg m.regs rn) (reg m.regs rm)))
+-- MADD
+act (Madd rd rn rm ra) m =
+    goes_on m (with_reg m.regs rd (wrap (reg m.regs ra + reg m.regs rn * reg m.regs rm)))
+-- MSUB
+act (Msub rd rn rm ra) m =
+    goes_on m (with_reg m.regs rd (difference (reg m.regs ra) (wrap (reg m.regs rn * reg m.regs rm))))
+-- UDIV
+act (Udiv rd rn rm) m =
+    goes_on m (with_reg m.regs rd (unsigned_quotient (reg m.regs rn) (reg m.regs rm)))
+-- SDIV
+act (Sdiv rd rn rm) m =
+    goes_on m (with_reg m.regs rd (signed_quotient (reg m.regs rn) (reg m.regs rm)))
+-- LSLV
+act (Lslv rd rn rm) m =
+    goes_on m (with_reg m.regs rd (shifted_left (reg m.regs rn) (reg m.regs rm % 64)))
+-- LSRV
+act (Lsrv rd rn rm) m =
+    goes_on m (with_reg m.regs rd (shifted_right (reg m.regs rn) (reg m.regs rm % 64)))
+-- ASRV
+act (Asrv rd rn rm) m =
+    goes_on m (with_reg m.regs rd (shifted_right_signed (reg m.regs rn) (reg m.regs rm % 64)))
+-- MOVZ
+act (Movz rd hw imm) m = goes_on m (with_reg m.regs rd (shifted_left imm (16 * hw)))
+-- MOVK
+act (Movk rd hw imm) m = goes_on m (with_reg m.regs rd (with_bits (reg m.regs rd) (16 * hw) imm))
+-- CSINC
+act (Csinc rd rn rm cond) m =
+    goes_on m (with_reg m.regs rd (if holds cond m.regs then reg m.regs rn else wrap (reg m.regs rm + 1)))
+-- LDR (immediate), unsigned offset
+act (Ldr rt rn imm) m = loads m rt (wrap (reg_or_sp m.regs rn + 8 * imm))
+-- STR (immediate), unsigned offset
+act (Str rt rn imm) m = stores m rt (wrap (reg_or_sp m.regs rn + 8 * imm))
+-- B
+act (B offset) m = jumps m m.regs (branch_target m.regs.pc offset)
+-- BL
+act (Bl offset) m = links m (branch_target m.regs.pc offset)
+-- B.cond
+act (BCond cond offset) m = jumps_if (holds cond m.regs) m (branch_target m.regs.pc offset)
+-- CBZ
+act (Cbz rt offset) m = jumps_if (nat_eq (reg m.regs rt) 0) m (branch_target m.regs.pc offset)
+-- CBNZ
+act (Cbnz rt offset) m = jumps_if (not (nat_eq (reg m.regs rt) 0)) m (branch_target m.regs.pc offset)
+-- BLR
+act (Blr rn) m = links m (reg m.regs rn)
+-- RET
+act (Ret rn) m = jumps m m.regs (reg m.regs rn)
+-- SVC
+act (Svc number) m = calls_monitor m number
+-- BRK
+act (Brk number) m = traps m number
+-- NOP
+act Nop m = goes_on m m.regs
+
+-- ---- fetch, decode and act
+
+abbrev pub code_base : ℕ
+code_base = 0x10000
+
+-- the word of code at an address that is a multiple of 4
+abbrev pub word_at : List ℕ → ℕ → Option ℕ
+word_at code address =
+    if nat_eq (address % 4) 0 && nat_le code_base address then slice_get code ((address - code_base) / 4)
+    else None
+
+-- the instruction at an address of code
+abbrev pub instruction_at : List ℕ → ℕ → Option Inst
+instruction_at code address = option_and_then inst_of (word_at code address)
+
+abbrev pub acts : Option Inst → Machine → Outcome
+acts None m = fault m (Undefined m.regs.pc)
+acts (Some i) m = act i m
+
+abbrev pub decodes : Option ℕ → Machine → Outcome
+decodes None m = fault m (Fetch m.regs.pc)
+decodes (Some word) m = acts (inst_of word) m
+
+unfoldable pub step : List ℕ → Machine → Outcome
+step code m = decodes (word_at code m.regs.pc) m
+
+-- the registers at the start of a run
+abbrev pub first_regs : Regs
+first_regs =
+    record { x = λ _. 0; sp = 0x8000_0000; pc = code_base; n = false; z = false; c = false; v = false }
+
+-- ---- the law of bounds
+
+-- registers have 64 bits, and memory has bytes
+pub record IsBounded (m : Machine) : Type 0 where
+  pub x : (n : ℕ) → m.regs.x n < 2 ^ 64
+  pub sp : m.regs.sp < 2 ^ 64
+  pub pc : m.regs.pc < 2 ^ 64
+  pub bytes : IsBytes m.memory
+
+-- a step keeps the bounds, whatever the code
+abbrev pub StepKeepsBounds : Type 0
+StepKeepsBounds = (code : List ℕ) (m : Machine) → IsBounded m → IsBounded (step code m).machine

@@ -1,0 +1,5 @@
+pub mod Limits
+pub mod Grammar
+pub mod Reading
+pub mod Draft
+pub mod Simple

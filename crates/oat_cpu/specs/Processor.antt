@@ -1,0 +1,17 @@
+-- The machine that a processor and a memory stand for, in the words of the machine step.
+use Rattle.std.specs.Prelude.{slice_index}
+use Rattle.oat_mem.specs.DataMemory.{Regions, byte_at}
+use Rattle.oat_a64.specs.declared.event.Event.{Event}
+use Rattle.oat_a64.specs.Step.{Regs, Machine, Outcome}
+use Rattle.oat_cpu.specs.declared.cpu.Cpu.{Cpu}
+
+abbrev pub regs_of : Cpu → Regs
+regs_of cpu =
+    record { x = λ n. slice_index cpu.x n; sp = cpu.sp; pc = cpu.pc; n = cpu.n; z = cpu.z; c = cpu.c; v = cpu.v }
+
+abbrev pub machine_of : Cpu → Regions → Machine
+machine_of cpu memory = record { regs = regs_of cpu; memory = byte_at memory }
+
+-- the processor and the memory that a step left, with what it told
+abbrev pub outcome_of : Cpu → Regions → Event → Outcome
+outcome_of cpu memory event = record { machine = machine_of cpu memory; event = event }

@@ -1,0 +1,36 @@
+// Loads and stores.
+ghost use Rattle.std.specs.Prelude.{◌≡◌, ◌+◌, ◌*◌};
+ghost use Rattle.oat_a64.specs.Step.{loads, stores, wrap};
+ghost use Rattle.oat_cpu.specs.Processor.{machine_of, outcome_of};
+
+use crate::cpu::Cpu;
+use oat_a64::{Event, FaultKind};
+use oat_mem::Memory;
+
+impl Cpu {
+    pub(crate) fn load(&mut self, register: u8, address: u64, memory: &Memory) -> Event
+        ensures { outcome_of self.new memory.now result ≡ loads (machine_of self.old memory.now) register address }
+    {
+        match memory.read8(address) {
+            Some(value) => self.finish(register, value),
+            None => Event::Fault(FaultKind::Access(address)),
+        }
+    }
+
+    pub(crate) fn store(&mut self, register: u8, address: u64, memory: &mut Memory) -> Event
+        ensures { outcome_of self.new memory.new result ≡ stores (machine_of self.old memory.old) register address }
+    {
+        if memory.write8(address, self.read(register)) {
+            self.go_on()
+        } else {
+            Event::Fault(FaultKind::Access(address))
+        }
+    }
+}
+
+// The imm counts words of memory.
+pub(crate) fn address_of(base: u64, imm: u16) -> u64
+    ensures { result ≡ wrap (base + 8 * imm) }
+{
+    base.wrapping_add(8 * u64::from(imm))
+}

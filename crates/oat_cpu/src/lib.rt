@@ -1,0 +1,14 @@
+//! The processor: one instruction at a time.
+#![tactic(auto)]
+
+mod access;
+mod act;
+mod code;
+mod control;
+mod cpu;
+mod registers;
+#[cfg(test)]
+mod tests;
+mod value;
+
+pub use cpu::Cpu;

@@ -1,0 +1,130 @@
+-- The image grammar: which images have a text, and the one text of each. Addresses and words of code are
+-- eight upper-case hexadecimal digits, values of data sixteen, and all other numbers are decimal.
+-- docs/FORMATS.md shows whole texts.
+use Rattle.std.specs.Prelude.{◌≡◌, ℕ, ◌^◌, ◌<◌, ◌≤◌, Bool, true, false, List, [], ◌∷◌, ◌++◌, length, map, codes, decimal}
+use Rattle.std.specs.List.{AllByRecursion}
+use Rattle.std.specs.List.Sorted.{IsStrictlyIncreasing}
+use Rattle.oat_lines.specs.Fields.{spaced, ended}
+use Rattle.oat_lines.specs.Hexadecimal.{hexadecimal}
+use Rattle.oat_map.specs.Name.{IsName}
+use Rattle.oat_map.specs.declared.map.Function.{Function}
+use Rattle.oat_map.specs.declared.map.Block.{Block}
+use Rattle.oat_map.specs.declared.row.Row.{Row}
+use Rattle.oat_map.specs.declared.row.Row.TheVariants.{Jump, Branch, Call, ICall, Ret, Begin, End, UseCell, DefCell, Check}
+use Rattle.oat_image.specs.declared.image.Image.{Image}
+use Rattle.oat_image.specs.declared.image.InitWord.{InitWord}
+use Rattle.oat_image.specs.Spelling.{section_text}
+
+-- ---- the lines of the sections
+
+abbrev pub address_text : ℕ → List ℕ
+address_text address = hexadecimal 8 address
+
+abbrev pub code_line : ℕ → List ℕ
+code_line word = hexadecimal 8 word
+
+abbrev pub data_line : InitWord → List ℕ
+data_line word = spaced (decimal word.index ∷ hexadecimal 16 word.value ∷ [])
+
+abbrev pub cell_line : ℕ → List ℕ
+cell_line index = decimal index
+
+abbrev pub flag_text : Bool → List ℕ
+flag_text true = codes "1"
+flag_text false = codes "0"
+
+abbrev pub function_line : Function → List ℕ
+function_line f = spaced (address_text f.entry ∷ f.name ∷ decimal f.params ∷ flag_text f.referenced ∷ [])
+
+abbrev pub block_line : Block → List ℕ
+block_line b = spaced (address_text b.start ∷ b.label ∷ [])
+
+abbrev pub row_line : Row → List ℕ
+row_line (Jump at to) = spaced (codes "jump" ∷ address_text at ∷ address_text to ∷ [])
+row_line (Branch at taken other) = spaced (codes "branch" ∷ address_text at ∷ address_text taken ∷ address_text other ∷ [])
+row_line (Call at to) = spaced (codes "call" ∷ address_text at ∷ address_text to ∷ [])
+row_line (ICall at params) = spaced (codes "icall" ∷ address_text at ∷ decimal params ∷ [])
+row_line (Ret at) = spaced (codes "ret" ∷ address_text at ∷ [])
+row_line (Begin at op) = spaced (codes "begin" ∷ address_text at ∷ decimal op ∷ [])
+row_line (End at op) = spaced (codes "end" ∷ address_text at ∷ decimal op ∷ [])
+row_line (UseCell at cell) = spaced (codes "use" ∷ address_text at ∷ decimal cell ∷ [])
+row_line (DefCell at cell) = spaced (codes "def" ∷ address_text at ∷ decimal cell ∷ [])
+row_line (Check at) = spaced (codes "check" ∷ address_text at ∷ [])
+
+-- ---- the text
+
+abbrev pub image_text : Image → List ℕ
+image_text image =
+    ended (codes "oat-image 1")
+    ++ section_text (codes "code") code_line image.code
+    ++ section_text (codes "data") data_line image.words
+    ++ section_text (codes "cells") cell_line image.cells
+    ++ section_text (codes "functions") function_line image.map.functions
+    ++ section_text (codes "blocks") block_line image.map.blocks
+    ++ section_text (codes "rows") row_line image.map.rows
+    ++ ended (codes "end")
+
+-- ---- what has a text
+
+abbrev pub IsAddress : ℕ → Type 0
+IsAddress address = address < 2 ^ 32
+
+abbrev pub IsWord : ℕ → Type 0
+IsWord word = word < 2 ^ 32
+
+-- the number of a word of global data
+abbrev pub IsIndex : ℕ → Type 0
+IsIndex index = index ≤ 65535
+
+abbrev pub IsOperation : ℕ → Type 0
+IsOperation op = (1 ≤ op) × (op ≤ 65535)
+
+pub record IsInitWord (word : InitWord) : Type 0 where
+  pub index : IsIndex word.index
+  pub set : 1 ≤ word.value
+  pub value : word.value < 2 ^ 64
+
+pub record IsFunction (f : Function) : Type 0 where
+  pub entry : IsAddress f.entry
+  pub name : IsName f.name
+  pub params : f.params ≤ 4
+
+pub record IsBlock (b : Block) : Type 0 where
+  pub start : IsAddress b.start
+  pub label : IsName b.label
+
+abbrev pub IsRow : Row → Type 0
+IsRow (Jump at to) = IsAddress at × IsAddress to
+IsRow (Branch at taken other) = IsAddress at × IsAddress taken × IsAddress other
+IsRow (Call at to) = IsAddress at × IsAddress to
+IsRow (ICall at params) = IsAddress at × (params ≤ 4)
+IsRow (Ret at) = IsAddress at
+IsRow (Begin at op) = IsAddress at × IsOperation op
+IsRow (End at op) = IsAddress at × IsOperation op
+IsRow (UseCell at cell) = IsAddress at × IsIndex cell
+IsRow (DefCell at cell) = IsAddress at × IsIndex cell
+IsRow (Check at) = IsAddress at
+
+-- so many items, each in its ranges
+pub record IsSection {X : Type 0} (Fits : X → Type 0) (least most : ℕ) (items : List X) : Type 0 where
+  pub each : AllByRecursion Fits items
+  pub enough : least ≤ length items
+  pub limited : length items ≤ most
+
+-- the ranges and the order of an image
+pub record IsWellFormed (image : Image) : Type 0 where
+  pub code : IsSection IsWord 1 131072 image.code
+  pub words : IsSection IsInitWord 0 65536 image.words
+  pub words_rise : IsStrictlyIncreasing (map (λ w. w.index) image.words)
+  pub cells : IsSection IsIndex 0 65536 image.cells
+  pub cells_rise : IsStrictlyIncreasing image.cells
+  pub functions : IsSection IsFunction 0 131072 image.map.functions
+  pub functions_rise : IsStrictlyIncreasing (map (λ f. f.entry) image.map.functions)
+  pub blocks : IsSection IsBlock 0 131072 image.map.blocks
+  pub blocks_rise : IsStrictlyIncreasing (map (λ b. b.start) image.map.blocks)
+  pub rows : IsSection IsRow 0 131072 image.map.rows
+
+-- the image grammar: the text is the one of this image
+pub record IsImageText (text : List ℕ) (image : Image) : Type 0 where
+  pub well_formed : IsWellFormed image
+  pub spelled : text ≡ image_text image

@@ -1,0 +1,6 @@
+-- The place that the code holds in a text.
+use Rattle.oat_image.specs.declared.text.Text.{Text}
+use Rattle.oat_image.specs.Reading.{Place}
+
+abbrev pub seen : Text → Place
+seen text = record { rest = text.rest.now; line = text.line }

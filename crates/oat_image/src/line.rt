@@ -1,0 +1,202 @@
+ghost use Rattle.std.specs.Prelude.{◌≡◌, ◌<◌, ◌≤◌, ◌^◌, IfOk, Some};
+ghost use Rattle.oat_image.specs.ImageReading.{address_of, number_in, value_of, flag_of, name_of, code_of, data_of, cell_of, function_with, function_of, block_of, no_key, index_key, cell_key, entry_key, start_key};
+
+use crate::fault::LineFault;
+use crate::image::InitWord;
+use crate::text::Form;
+use oat_lines::{
+    read_decimal, read_four_fields, read_hexadecimal, read_one_field, read_two_fields,
+};
+use oat_map::{Block, Function, Name};
+
+/// A word of code.
+pub(crate) struct CodeLine;
+
+/// A word of data.
+pub(crate) struct DataLine;
+
+/// A critical cell.
+pub(crate) struct CellLine;
+
+pub(crate) struct FunctionLine;
+
+pub(crate) struct BlockLine;
+
+pub(crate) fn read_address(word: &[u8]) -> Result<u64, LineFault>
+    ensures value { result ≡ address_of word.now }
+    ensures bound { IfOk result (λ n. n < 2 ^ 32) }
+{
+    let Some(number) = read_hexadecimal(8, word) else {
+        return Err(LineFault::Number);
+    };
+    Ok(number)
+}
+
+pub(crate) fn read_number(least: u64, most: u64, word: &[u8]) -> Result<u64, LineFault>
+    requires { most ≤ 65535 }
+    ensures value { result ≡ number_in least most word.now }
+    ensures bound { IfOk result (λ n. n ≤ most) }
+{
+    let Some(number) = read_decimal(word) else {
+        return Err(LineFault::Number);
+    };
+    if number < least || number > most {
+        return Err(LineFault::Number);
+    }
+    Ok(number)
+}
+
+fn read_value(word: &[u8]) -> Result<u64, LineFault>
+    ensures { result ≡ value_of word.now }
+{
+    let Some(value) = read_hexadecimal(16, word) else {
+        return Err(LineFault::Number);
+    };
+    if value == 0 {
+        return Err(LineFault::Number);
+    }
+    Ok(value)
+}
+
+fn read_flag(word: &[u8]) -> Result<bool, LineFault>
+    ensures { result ≡ flag_of word.now }
+{
+    let number = read_number(0, 1, word)?;
+    Ok(number == 1)
+}
+
+fn read_name(word: &[u8]) -> Result<Name, LineFault>
+    ensures { result ≡ name_of word.now }
+{
+    match Name::new(word) {
+        Some(name) => Ok(name),
+        None => Err(LineFault::Token),
+    }
+}
+
+impl Form for CodeLine {
+    type Item = u32;
+
+    ghost reads = { code_of };
+
+    ghost key = { no_key };
+
+    #[tactic(auto, unfolding(crate::specs::ImageReading::code_of))]
+    fn read(line: &[u8]) -> Result<u32, LineFault> {
+        let Some(word) = read_one_field(line) else {
+            return Err(LineFault::Token);
+        };
+        let number = read_address(word)?;
+        Ok(number as u32)
+    }
+
+    fn key(_item: &u32) -> Option<u64> {
+        None
+    }
+}
+
+impl Form for DataLine {
+    type Item = InitWord;
+
+    ghost reads = { data_of };
+
+    ghost key = { index_key };
+
+    #[tactic(auto, unfolding(crate::specs::ImageReading::data_of))]
+    fn read(line: &[u8]) -> Result<InitWord, LineFault> {
+        let Some((first, second)) = read_two_fields(line) else {
+            return Err(LineFault::Token);
+        };
+        let index = read_number(0, 65535, first)? as u32;
+        let value = read_value(second)?;
+        Ok(InitWord { index, value })
+    }
+
+    fn key(item: &InitWord) -> Option<u64> {
+        Some(u64::from(item.index))
+    }
+}
+
+impl Form for CellLine {
+    type Item = u32;
+
+    ghost reads = { cell_of };
+
+    ghost key = { cell_key };
+
+    #[tactic(auto, unfolding(crate::specs::ImageReading::cell_of))]
+    fn read(line: &[u8]) -> Result<u32, LineFault> {
+        let Some(word) = read_one_field(line) else {
+            return Err(LineFault::Token);
+        };
+        let number = read_number(0, 65535, word)?;
+        Ok(number as u32)
+    }
+
+    fn key(item: &u32) -> Option<u64> {
+        Some(u64::from(*item))
+    }
+}
+
+#[tactic(auto, unfolding(crate::specs::ImageReading::function_with))]
+fn read_function(
+    name: Name,
+    entry: &[u8],
+    params: &[u8],
+    flag: &[u8],
+) -> Result<Function, LineFault>
+    ensures { result ≡ function_with name entry.now params.now flag.now }
+{
+    let entry = read_address(entry)?;
+    let params = read_number(0, 4, params)? as u8;
+    let referenced = read_flag(flag)?;
+    Ok(Function {
+        entry,
+        name,
+        params,
+        referenced,
+    })
+}
+
+impl Form for FunctionLine {
+    type Item = Function;
+
+    ghost reads = { function_of };
+
+    ghost key = { entry_key };
+
+    #[tactic(auto, unfolding(crate::specs::ImageReading::function_of))]
+    fn read(line: &[u8]) -> Result<Function, LineFault> {
+        let Some((entry, name, params, flag)) = read_four_fields(line) else {
+            return Err(LineFault::Token);
+        };
+        let name = read_name(name)?;
+        read_function(name, entry, params, flag)
+    }
+
+    fn key(item: &Function) -> Option<u64> {
+        Some(item.entry)
+    }
+}
+
+impl Form for BlockLine {
+    type Item = Block;
+
+    ghost reads = { block_of };
+
+    ghost key = { start_key };
+
+    #[tactic(auto, unfolding(crate::specs::ImageReading::block_of))]
+    fn read(line: &[u8]) -> Result<Block, LineFault> {
+        let Some((start, label)) = read_two_fields(line) else {
+            return Err(LineFault::Token);
+        };
+        let label = read_name(label)?;
+        let start = read_address(start)?;
+        Ok(Block { start, label })
+    }
+
+    fn key(item: &Block) -> Option<u64> {
+        Some(item.start)
+    }
+}

@@ -1,0 +1,190 @@
+ghost use Rattle.std.specs.Prelude.{◌≡◌, ◌<◌, ◌≤◌, IfOk};
+ghost use Rattle.oat_image.specs.ImageReading.{kind_of, sole_address, two_addresses, addresses_of, three_addresses, address_and_number, row_with, row_of, no_key};
+
+use crate::fault::LineFault;
+use crate::line::{read_address, read_number};
+use crate::text::Form;
+use oat_lines::{read_field, read_one_field, read_three_fields, read_two_fields};
+use oat_map::Row;
+
+/// What kind of row a line's keyword begins.
+#[derive(Clone, Copy, Debug, PartialEq, Eq)]
+pub(crate) enum RowKind {
+    Jump,
+    Branch,
+    Call,
+    ICall,
+    Ret,
+    Begin,
+    End,
+    UseCell,
+    DefCell,
+    Check,
+}
+
+pub(crate) struct RowLine;
+
+fn read_kind(word: &[u8]) -> Option<RowKind>
+    ensures { result ≡ kind_of word.now }
+{
+    if word == b"jump".as_slice() {
+        Some(RowKind::Jump)
+    } else if word == b"branch".as_slice() {
+        Some(RowKind::Branch)
+    } else if word == b"call".as_slice() {
+        Some(RowKind::Call)
+    } else if word == b"icall".as_slice() {
+        Some(RowKind::ICall)
+    } else if word == b"ret".as_slice() {
+        Some(RowKind::Ret)
+    } else if word == b"begin".as_slice() {
+        Some(RowKind::Begin)
+    } else if word == b"end".as_slice() {
+        Some(RowKind::End)
+    } else if word == b"use".as_slice() {
+        Some(RowKind::UseCell)
+    } else if word == b"def".as_slice() {
+        Some(RowKind::DefCell)
+    } else if word == b"check".as_slice() {
+        Some(RowKind::Check)
+    } else {
+        None
+    }
+}
+
+#[tactic(auto, unfolding(crate::specs::ImageReading::sole_address))]
+fn read_sole_address(fields: &[u8]) -> Result<u64, LineFault>
+    ensures { result ≡ sole_address fields.now }
+{
+    let Some(word) = read_one_field(fields) else {
+        return Err(LineFault::Token);
+    };
+    read_address(word)
+}
+
+#[tactic(auto, unfolding(crate::specs::ImageReading::two_addresses))]
+fn read_two_addresses(fields: &[u8]) -> Result<(u64, u64), LineFault>
+    ensures { result ≡ two_addresses fields.now }
+{
+    let Some((first, second)) = read_two_fields(fields) else {
+        return Err(LineFault::Token);
+    };
+    let first = read_address(first)?;
+    let second = read_address(second)?;
+    Ok((first, second))
+}
+
+#[tactic(auto, unfolding(crate::specs::ImageReading::addresses_of))]
+fn read_addresses(first: &[u8], second: &[u8], third: &[u8]) -> Result<(u64, u64, u64), LineFault>
+    ensures { result ≡ addresses_of first.now second.now third.now }
+{
+    let first = read_address(first)?;
+    let second = read_address(second)?;
+    let third = read_address(third)?;
+    Ok((first, second, third))
+}
+
+#[tactic(auto, unfolding(crate::specs::ImageReading::three_addresses))]
+fn read_three_addresses(fields: &[u8]) -> Result<(u64, u64, u64), LineFault>
+    ensures { result ≡ three_addresses fields.now }
+{
+    let Some((first, second, third)) = read_three_fields(fields) else {
+        return Err(LineFault::Token);
+    };
+    read_addresses(first, second, third)
+}
+
+#[tactic(auto, unfolding(crate::specs::ImageReading::address_and_number))]
+fn read_address_and_number(least: u64, most: u64, fields: &[u8]) -> Result<(u64, u64), LineFault>
+    requires { most ≤ 65535 }
+    ensures value { result ≡ address_and_number least most fields.now }
+    ensures bound { IfOk result (λ p. p.1 ≤ most) }
+{
+    let Some((first, second)) = read_two_fields(fields) else {
+        return Err(LineFault::Token);
+    };
+    let address = read_address(first)?;
+    let number = read_number(least, most, second)?;
+    Ok((address, number))
+}
+
+/// A row of an operation.
+#[tactic(auto, unfolding(crate::specs::ImageReading::row_with))]
+fn read_row(kind: RowKind, fields: &[u8]) -> Result<Row, LineFault>
+    ensures { result ≡ row_with kind fields.now }
+{
+    match kind {
+        RowKind::Jump => {
+            let (at, to) = read_two_addresses(fields)?;
+            Ok(Row::Jump { at, to })
+        }
+        RowKind::Branch => {
+            let (at, taken, other) = read_three_addresses(fields)?;
+            Ok(Row::Branch { at, taken, other })
+        }
+        RowKind::Call => {
+            let (at, to) = read_two_addresses(fields)?;
+            Ok(Row::Call { at, to })
+        }
+        RowKind::ICall => {
+            let (at, params) = read_address_and_number(0, 4, fields)?;
+            Ok(Row::ICall {
+                at,
+                params: params as u8,
+            })
+        }
+        RowKind::Ret => {
+            let at = read_sole_address(fields)?;
+            Ok(Row::Ret { at })
+        }
+        RowKind::Begin => {
+            let (at, op) = read_address_and_number(1, 65535, fields)?;
+            Ok(Row::Begin { at, op: op as u16 })
+        }
+        RowKind::End => {
+            let (at, op) = read_address_and_number(1, 65535, fields)?;
+            Ok(Row::End { at, op: op as u16 })
+        }
+        RowKind::UseCell => {
+            let (at, cell) = read_address_and_number(0, 65535, fields)?;
+            Ok(Row::UseCell {
+                at,
+                cell: cell as u16,
+            })
+        }
+        RowKind::DefCell => {
+            let (at, cell) = read_address_and_number(0, 65535, fields)?;
+            Ok(Row::DefCell {
+                at,
+                cell: cell as u16,
+            })
+        }
+        RowKind::Check => {
+            let at = read_sole_address(fields)?;
+            Ok(Row::Check { at })
+        }
+    }
+}
+
+impl Form for RowLine {
+    type Item = Row;
+
+    ghost reads = { row_of };
+
+    ghost key = { no_key };
+
+    #[tactic(auto, unfolding(crate::specs::ImageReading::row_of))]
+    fn read(line: &[u8]) -> Result<Row, LineFault> {
+        let Some((keyword, fields)) = read_field(line) else {
+            return Err(LineFault::Token);
+        };
+        let Some(kind) = read_kind(keyword) else {
+            return Err(LineFault::Token);
+        };
+        read_row(kind, fields)
+    }
+
+    fn key(_item: &Row) -> Option<u64> {
+        None
+    }
+}

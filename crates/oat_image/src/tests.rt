@@ -1,0 +1,237 @@
+ghost use Rattle.std.specs.Prelude.{◌≡◌};
+
+use super::*;
+use oat_map::Row;
+use std::alloc::Global;
+use std::test::Fail;
+
+/// An image of one jump, and a byte after it.
+const ONE_JUMP_AND_MORE: &[u8] = b"oat-image 1\n\
+    code 6\n\
+    D2800029\n\
+    D4000021\n\
+    14000001\n\
+    D2800029\n\
+    D4000041\n\
+    D4000001\n\
+    data 0\n\
+    cells 0\n\
+    functions 1\n\
+    00010000 main 0 0\n\
+    blocks 1\n\
+    0001000C b\n\
+    rows 3\n\
+    begin 00010000 1\n\
+    jump 00010008 0001000C\n\
+    end 0001000C 1\n\
+    end\n\
+    x";
+
+/// An image with two words of data, a cell, five functions and rows of eight kinds.
+const TWO_CALLS: &[u8] = b"oat-image 1\n\
+    code 45\n\
+    94000002\n\
+    D4000001\n\
+    D10043FF\n\
+    F90003FE\n\
+    D2800049\n\
+    D4000021\n\
+    9400001B\n\
+    9400001A\n\
+    D280010B\n\
+    F2A8000B\n\
+    F9400169\n\
+    B5000049\n\
+    D4200060\n\
+    D4000081\n\
+    D63F0120\n\
+    D280000B\n\
+    F2A8000B\n\
+    F940016A\n\
+    D2800009\n\
+    D40000E1\n\
+    EB0A001F\n\
+    9A9FA7E9\n\
+    D4000061\n\
+    B5000049\n\
+    14000003\n\
+    D4000121\n\
+    14000001\n\
+    D2800049\n\
+    D4000041\n\
+    F94003FE\n\
+    910043FF\n\
+    D40000A1\n\
+    D65F03C0\n\
+    D10043FF\n\
+    F90003FE\n\
+    F94003FE\n\
+    910043FF\n\
+    D40000A1\n\
+    D65F03C0\n\
+    D28000E0\n\
+    D40000A1\n\
+    D65F03C0\n\
+    D2800180\n\
+    D40000A1\n\
+    D65F03C0\n\
+    data 2\n\
+    0 000000000000000A\n\
+    1 000000000001009C\n\
+    cells 1\n\
+    0\n\
+    functions 5\n\
+    00010000 main 0 0\n\
+    00010008 work 0 0\n\
+    00010084 helper 1 1\n\
+    0001009C up 0 1\n\
+    000100A8 down 0 1\n\
+    blocks 2\n\
+    00010064 yes\n\
+    0001006C done\n\
+    rows 14\n\
+    call 00010000 00010008\n\
+    begin 00010010 2\n\
+    call 00010018 00010084\n\
+    call 0001001C 00010084\n\
+    check 0001002C\n\
+    icall 00010034 0\n\
+    use 0001003C 0\n\
+    branch 00010058 00010064 0001006C\n\
+    jump 00010068 0001006C\n\
+    end 0001006C 2\n\
+    ret 0001007C\n\
+    ret 00010094\n\
+    ret 000100A0\n\
+    ret 000100AC\n\
+    end\n\
+    ";
+
+/// An image that loops for ever.
+const LOOP: &[u8] = b"oat-image 1\n\
+    code 3\n\
+    D2800029\n\
+    D4000021\n\
+    14000000\n\
+    data 0\n\
+    cells 0\n\
+    functions 1\n\
+    00010000 main 0 0\n\
+    blocks 1\n\
+    00010008 loop\n\
+    rows 2\n\
+    begin 00010000 1\n\
+    jump 00010008 00010008\n\
+    end\n\
+    ";
+
+fn read(alloc: Global, text: &[u8]) -> Result<Image, ImageFault> {
+    if text.len() > 16_777_216 {
+        return Err(ImageFault::Memory);
+    }
+    read_image(alloc, text)
+}
+
+fn one_jump() -> &'static [u8] {
+    ONE_JUMP_AND_MORE.get(..204).unwrap_or(&[])
+}
+
+#[test]
+fn image_of_one_jump_is_read(rt: HostRuntime) -> Result<(), Fail> {
+    let image = read(rt.alloc(), one_jump())
+        .ok()
+        .ok_or("the text is an image")?;
+    assert!(rt; is_narrow(&image));
+    assert_eq!(rt;
+        image.code.as_slice(),
+        [
+            0xd280_0029,
+            0xd400_0021,
+            0x1400_0001,
+            0xd280_0029,
+            0xd400_0041,
+            0xd400_0001
+        ]
+        .as_slice()
+    );
+    assert_eq!(rt;
+        image.map.rows.as_slice(),
+        [
+            Row::Begin { at: 0x10000, op: 1 },
+            Row::Jump {
+                at: 0x10008,
+                to: 0x1000c
+            },
+            Row::End { at: 0x1000c, op: 1 },
+        ]
+        .as_slice()
+    );
+    for function in image.map.functions.as_slice() {
+        assert_eq!(rt; function.entry, 0x10000);
+        assert_eq!(rt; function.name.as_bytes(), b"main".as_slice());
+    }
+    Ok(())
+}
+
+#[test]
+fn images_of_all_sections_are_read(rt: HostRuntime) -> Result<(), Fail> {
+    let image = read(rt.alloc(), TWO_CALLS)
+        .ok()
+        .ok_or("the text is an image")?;
+    assert!(rt; !is_narrow(&image));
+    assert_eq!(rt;
+        image.words.as_slice(),
+        [
+            InitWord {
+                index: 0,
+                value: 10
+            },
+            InitWord {
+                index: 1,
+                value: 0x1009c
+            }
+        ]
+        .as_slice()
+    );
+    assert_eq!(rt; image.cells.as_slice(), [0].as_slice());
+    assert_eq!(rt; image.map.functions.len(), 5);
+    assert_eq!(rt; image.map.blocks.len(), 2);
+    assert_eq!(rt; image.map.rows.len(), 14);
+    assert!(rt; read(rt.alloc(), LOOP).is_ok());
+    Ok(())
+}
+
+#[test]
+fn first_fault_is_named_with_its_line(rt: HostRuntime) {
+    let faults: [(&[u8], ImageFault); 14] = [
+        (b"oat-image 3\n", ImageFault::Token(1)),
+        (b"oat-image1\n", ImageFault::Token(1)),
+        (b"oat-image 1\n", ImageFault::Token(2)),
+        (b"oat-image 1\ncode 06\n", ImageFault::Number(2)),
+        (b"oat-image 1\ncode -1\n", ImageFault::Number(2)),
+        (b"oat-image 1\ncode 0\n", ImageFault::Limit(2)),
+        (b"oat-image 1\ncode 131073\n", ImageFault::Limit(2)),
+        (b"oat-image 1\ncode 6\nd2800029\n", ImageFault::Number(3)),
+        (b"oat-image 1\ncode 1\n\n", ImageFault::Token(3)),
+        (
+            b"oat-image 1\ncode 1\nD2800029\ndata 1\n0 0000000000000000\n",
+            ImageFault::Number(5),
+        ),
+        (
+            b"oat-image 1\ncode 1\nD2800029\ndata 2\n1 0000000000000001\n1 0000000000000001\n",
+            ImageFault::Order(6),
+        ),
+        (
+            b"oat-image 1\ncode 1\nD2800029\ndata 2\n65536 0000000000000001\n",
+            ImageFault::Number(5),
+        ),
+        (
+            ONE_JUMP_AND_MORE.get(..203).unwrap_or(&[]),
+            ImageFault::Token(19),
+        ),
+        (ONE_JUMP_AND_MORE, ImageFault::Token(20)),
+    ];
+    for (text, fault) in faults {
+        assert_eq!(rt; read(rt.alloc(), text).err(), Some(fault));
+    }
+}

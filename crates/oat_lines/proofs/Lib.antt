@@ -1,0 +1,5 @@
+pub mod Cuts
+pub mod Digits
+pub mod Decimals
+pub mod Hexadecimals
+pub mod Cutting

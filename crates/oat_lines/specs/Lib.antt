@@ -1,0 +1,5 @@
+pub mod Reading
+pub mod Lines
+pub mod Decimal
+pub mod Hexadecimal
+pub mod Fields

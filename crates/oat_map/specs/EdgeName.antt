@@ -1,0 +1,104 @@
+-- Names of edges, as the lines of a path write them: by functions, blocks and numbers of rows, and
+-- not by addresses. A path of a program's source has names of the same kind.
+use Rattle.std.specs.Prelude.{ℕ, Bool, true, false, ◌&&◌, ◌==◌, nat_lt, nat_le, max, List, [], ◌++◌, filter, fold, find, reverse, count_by, Option, None, Some, unwrap_or}
+use Rattle.std.specs.Option.{option_map, option_or, option_and_then}
+use Rattle.oat_map.specs.declared.row.Row.{Row}
+use Rattle.oat_map.specs.declared.row.Row.TheVariants.{Jump, Branch, Call, ICall, Ret}
+use Rattle.oat_map.specs.declared.edge.Edge.{Edge}
+use Rattle.oat_map.specs.declared.edge.Edge.TheVariants as edges
+use Rattle.oat_map.specs.declared.map.Map.{Map}
+use Rattle.oat_map.specs.Rows.{address_of, after, entries_of, starts_of}
+
+-- a place: the entry of the function, written `f`, or one of its blocks, written `f.b`
+pub record PlaceName : Type 0 where
+  pub function : List ℕ
+  pub block : Option (List ℕ)
+
+-- a row's site: the greatest place at or below its address, written `-` where there is none, and
+-- the row's number among those of the same place
+pub record Site : Type 0 where
+  pub place : Option PlaceName
+  pub number : ℕ
+
+pub data EdgeName : Type 0 where
+  jump : (site : Site) (place : Option PlaceName) → EdgeName
+  branch : (site : Site) (bit : Bool) (place : Option PlaceName) → EdgeName
+  call : (site : Site) (place : Option PlaceName) → EdgeName
+  icall : (site : Site) (place : Option PlaceName) → EdgeName
+  return : (site called_from : Site) → EdgeName
+  finish : (op : ℕ) → EdgeName
+  stray : (from to : ℕ) → EdgeName  -- no row allows it, so it has no name but its addresses
+
+-- the addresses of all places
+abbrev pub places : Map → List ℕ
+places flow = entries_of flow.functions ++ starts_of flow.blocks
+
+abbrev pub later_of : Option ℕ → ℕ → Option ℕ
+later_of None place = Some place
+later_of (Some other) place = Some (max other place)
+
+-- the greatest place at or below an address
+abbrev pub place_of : Map → ℕ → Option ℕ
+place_of flow address = fold later_of None (filter (λ place. nat_le place address) (places flow))
+
+-- the name of the last function with its entry below an address, which is the one with the greatest
+-- entry where these rise; the empty name where there is none, which shape rule S8 excludes for blocks
+abbrev pub function_below : Map → ℕ → List ℕ
+function_below flow address =
+    unwrap_or (option_map (λ function. function.name) (find (λ function. nat_lt function.entry address) (reverse flow.functions))) []
+
+abbrev pub block_name : Map → ℕ → Option PlaceName
+block_name flow place =
+    option_map (λ block. record { function = function_below flow place; block = Some block.label })
+    (find (λ block. block.start == place) flow.blocks)
+
+-- the name of the place at just this address
+abbrev pub place_name : Map → ℕ → Option PlaceName
+place_name flow place =
+    option_or (option_map (λ function. record { function = function.name; block = None })
+    (find (λ function. function.entry == place) flow.functions)) (block_name flow place)
+
+abbrev pub is_transfer : Row → Bool
+is_transfer (Jump at to) = true
+is_transfer (Branch at taken other) = true
+is_transfer (Call at to) = true
+is_transfer (ICall at params) = true
+is_transfer (Ret at) = true
+is_transfer _ = false
+
+abbrev pub is_same_place : Option ℕ → Option ℕ → Bool
+is_same_place None None = true
+is_same_place (Some place) (Some other) = place == other
+is_same_place _ _ = false
+
+-- whether the row is numbered before the one at `address`: it transfers control, has the same place
+-- and a lower address
+abbrev pub is_numbered_before : Map → ℕ → Row → Bool
+is_numbered_before flow address row =
+    is_transfer row && nat_lt (address_of row) address && is_same_place (place_of flow (address_of row)) (place_of flow address)
+
+-- the site of the row at an address
+abbrev pub site : Map → ℕ → Site
+site flow address = record {
+  place = option_and_then (place_name flow) (place_of flow address);
+  number = count_by (is_numbered_before flow address) flow.rows;
+}
+
+-- the row that calls and has this return site
+abbrev pub returns_to : ℕ → Row → Bool
+returns_to back (Call at to) = after (Call at to) == back
+returns_to back (ICall at params) = after (ICall at params) == back
+returns_to back _ = false
+
+-- a return site is named by its call; an address that is none, by itself
+abbrev pub call_site : Map → ℕ → Site
+call_site flow back = site flow (unwrap_or (option_map address_of (find (returns_to back) flow.rows)) back)
+
+abbrev pub name_of : Map → Edge → EdgeName
+name_of flow (edges.Jump from to) = jump (site flow from) (place_name flow to)
+name_of flow (edges.Branch from bit to) = branch (site flow from) bit (place_name flow to)
+name_of flow (edges.Call from to) = call (site flow from) (place_name flow to)
+name_of flow (edges.ICall from to) = icall (site flow from) (place_name flow to)
+name_of flow (edges.Ret from to) = return (site flow from) (call_site flow to)
+name_of flow (edges.End op) = finish op
+name_of flow (edges.Stray from to) = stray from to

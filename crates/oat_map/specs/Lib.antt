@@ -1,0 +1,5 @@
+pub mod EdgeName
+pub mod Name
+pub mod Rows
+pub mod Walk
+pub mod Worked

@@ -1,0 +1,11 @@
+//! The device's data memory: the global data and the stack, by address.
+#![tactic(auto)]
+
+pub mod laws;
+mod memory;
+mod region;
+#[cfg(test)]
+mod tests;
+
+pub use memory::Memory;
+pub use region::fits;

@@ -1,0 +1,3 @@
+pub mod ReplayLemmas
+pub mod TurnLemmas
+pub mod WalkSoFar

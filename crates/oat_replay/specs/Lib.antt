@@ -1,0 +1,4 @@
+pub mod EndTurn
+pub mod Plain
+pub mod Replay
+pub mod StandsBehind

@@ -1,0 +1,16 @@
+//! The replay of a walk: from the records of one window back to the path.
+#![tactic(auto)]
+
+mod cause;
+pub mod laws;
+mod path;
+mod replay;
+mod turn;
+
+pub use cause::{ReplayCause, WalkFault};
+pub use path::walk;
+pub use replay::Replay;
+pub use turn::Turn;
+
+#[cfg(test)]
+mod tests;

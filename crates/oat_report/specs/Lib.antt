@@ -1,0 +1,4 @@
+pub mod PathLine
+pub mod Counting
+pub mod VerdictLine
+pub mod WorkedLines

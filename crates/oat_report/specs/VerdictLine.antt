@@ -1,0 +1,48 @@
+-- The line of a verdict (docs/FORMATS.md, "Commands, texts and statuses").
+use Rattle.std.specs.Prelude.{ℕ, List, ◌++◌, codes}
+use Rattle.std.specs.Fmt.{decimal, signed_decimal}
+use Rattle.std.specs.Int.{w64, cast_signed}
+use Rattle.oat_blob.specs.declared.body.Violation.{Violation}
+use Rattle.oat_replay.specs.declared.cause.ReplayCause.{ReplayCause}
+use Rattle.oat_replay.specs.declared.cause.ReplayCause.TheVariants.{BitsEnd, TargetsEnd, BadTarget, Underflow, EndInside, Nested, WrongEnd, OffCode, BitsLeft, TargetsLeft, PathLimit}
+use Rattle.oat_verify.specs.declared.verdict.Cause.{Cause}
+use Rattle.oat_verify.specs.declared.verdict.Cause.TheVariants as causes
+use Rattle.oat_verify.specs.declared.verdict.Verdict.{Verdict}
+use Rattle.oat_verify.specs.declared.verdict.Verdict.TheVariants.{Accept, Refuse}
+use Rattle.oat_report.specs.PathLine.{space, address_text}
+
+-- a value of the device as a signed number
+abbrev pub value_text : ℕ → List ℕ
+value_text value = signed_decimal (cast_signed w64 value)
+
+abbrev pub replay_text : ReplayCause → List ℕ
+replay_text BitsEnd = codes "BitsEnd"
+replay_text TargetsEnd = codes "TargetsEnd"
+replay_text (BadTarget target) = codes "BadTarget " ++ address_text target
+replay_text Underflow = codes "Underflow"
+replay_text EndInside = codes "EndInside"
+replay_text Nested = codes "Nested"
+replay_text WrongEnd = codes "WrongEnd"
+replay_text OffCode = codes "OffCode"
+replay_text (BitsLeft count) = codes "BitsLeft " ++ decimal count
+replay_text (TargetsLeft count) = codes "TargetsLeft " ++ decimal count
+replay_text PathLimit = codes "PathLimit"
+
+abbrev pub violation_text : Violation → List ℕ
+violation_text violation =
+    codes "critical " ++ decimal violation.cell ++ space ++ value_text violation.expected ++ space ++ value_text violation.found
+
+abbrev pub cause_text : Cause → List ℕ
+cause_text (causes.Form offset) = codes "form " ++ decimal offset
+cause_text causes.Mac = codes "mac"
+cause_text causes.Nonce = codes "nonce"
+cause_text causes.Operation = codes "operation"
+cause_text causes.Image = codes "image"
+cause_text (causes.Replay cause turn) = codes "replay " ++ decimal turn ++ space ++ replay_text cause
+cause_text causes.Hash = codes "hash"
+cause_text (causes.Critical violation) = violation_text violation
+
+-- the line without its line end
+abbrev pub verdict_text : Verdict → List ℕ
+verdict_text (Accept path) = codes "accept"
+verdict_text (Refuse cause) = codes "refuse " ++ cause_text cause

@@ -1,0 +1,11 @@
+//! The texts of an owner's report.
+#![tactic(auto)]
+
+pub mod laws;
+mod line;
+mod place;
+mod text;
+mod verdict;
+
+pub use line::path_line;
+pub use verdict::verdict_line;

@@ -1,0 +1,138 @@
+-- Bytes have one verdict, and an acceptance says all at once.
+use Rattle.std.proofs.Common.{◌≡◌, ◌↔◌, ℕ, ◌<◌, ◌≤◌, List, Option, Some, None, MatchOption, refl, sym, ap, ◌∙◌, inl, inr, arith}
+use Rattle.std.proofs.lemmas.Bool.{cases_lt}
+use Rattle.oat_map.specs.declared.edge.Edge.{Edge}
+use Rattle.oat_blob.specs.declared.body.Violation.{Violation}
+use Rattle.oat_blob.specs.Body.{Body}
+use Rattle.oat_hmac.specs.Hmac.{hmac}
+use Rattle.oat_blob.specs.Layout.{IsBlob, covered_of}
+use Rattle.oat_blob.specs.Faults.{IsFormOffset}
+use Rattle.oat_blob.proofs.OneLayout.{one_body}
+use Rattle.oat_replay.proofs.ReplayLemmas.{one_walk, never_both}
+use Rattle.oat_verify.specs.declared.verdict.Cause.{Cause}
+use Rattle.oat_verify.specs.declared.verdict.Cause.TheVariants as causes
+use Rattle.oat_verify.specs.declared.verdict.Verdict.{Verdict}
+use Rattle.oat_verify.specs.declared.verdict.Verdict.TheVariants.{Accept, Refuse}
+use Rattle.oat_verify.specs.Verdict.{Subject, Looks, fails, passes, Reports, Settles, Replays, stuck, walked, Judges, IsVerdict, blob, form, Accepts, AcceptanceAtOnce, OneVerdict}
+use Rattle.oat_verify.proofs.OneStuck.{one_stuck}
+
+-- ---- one verdict
+
+looks-one : (holds : Type 0) (cause : Cause) (rest others : Type 0) (v w : Verdict)
+    → Looks holds cause rest v → Looks holds cause others w → (rest → others → v ≡ w) → v ≡ w
+looks-one holds cause rest others v w (fails unheld is) (fails unheld_too is') both = is ∙ sym is'
+looks-one holds cause rest others v w (fails unheld is) (passes held more) both = absurd (unheld held)
+looks-one holds cause rest others v w (passes held more) (fails unheld is) both = absurd (unheld held)
+looks-one holds cause rest others v w (passes held more) (passes held_too more') both = both more more'
+
+reports-one : (violation : Option Violation) (path : List Edge) (v w : Verdict)
+    → MatchOption violation (v ≡ Accept path) (λ x. v ≡ Refuse (causes.Critical x))
+    → MatchOption violation (w ≡ Accept path) (λ x. w ≡ Refuse (causes.Critical x)) → v ≡ w
+reports-one None path v w is is' = is ∙ sym is'
+reports-one (Some x) path v w is is' = is ∙ sym is'
+
+settles-one : (head : List ℕ) (body : Body) (path : List Edge) (v w : Verdict)
+    → Settles head body path v → Settles head body path w → v ≡ w
+settles-one head body path v w one two = looks-one _ _ _ _ v w one two (reports-one body.head.violation path v w)
+
+replays-one : (s : Subject) (body : Body) (v w : Verdict) → Replays s body v → Replays s body w → v ≡ w
+replays-one s body v w (stuck cause turn gets is) (stuck other next gets' is') =
+    let one = one_stuck s.map s.session.op body.bits body.targets cause other turn next gets gets' in
+    is ∙ (rw (one.0, one.1) (sym is'))
+replays-one s body v w (stuck cause turn gets is) (walked path walks settles) =
+    absurd (never_both s.map s.session.op body.bits body.targets path cause turn walks gets)
+replays-one s body v w (walked path walks settles) (stuck cause turn gets is) =
+    absurd (never_both s.map s.session.op body.bits body.targets path cause turn walks gets)
+replays-one s body v w (walked path walks settles) (walked other walks' settles') =
+    let same : path ≡ other = one_walk s.map s.session.op body.bits body.targets path other walks walks' in
+    settles-one _ body path v w settles (rw same settles')
+
+judges-one : (s : Subject) (body : Body) (mac : List ℕ) (v w : Verdict) → Judges s body mac v → Judges s body mac w → v ≡ w
+judges-one s body mac v w one two =
+    looks-one _ _ _ _ v w one two (λ a b.
+    looks-one _ _ _ _ v w a b (λ c d.
+    looks-one _ _ _ _ v w c d (λ e f.
+    looks-one _ _ _ _ v w e f (replays-one s body v w))))
+
+offset-below : (bytes : List ℕ) (one two : ℕ) → IsFormOffset bytes one → IsFormOffset bytes two → one < two → ⊥
+offset-below bytes one two first second below = first.longest two below second.within second.begins
+
+offset-one : (bytes : List ℕ) (one two : ℕ) → IsFormOffset bytes one → IsFormOffset bytes two → one ≡ two
+offset-one bytes one two first second =
+    elim (cases_lt one two) [
+      | inl below ↦ absurd (offset-below bytes one two first second below)
+      | inr above ↦ elim (cases_lt two one) [
+        | inl below ↦ absurd (offset-below bytes two one second first below)
+        | inr same ↦ omega (arith, above, same)
+      ]
+    ]
+
+pub one_verdict : OneVerdict
+one_verdict s bytes v w (blob body mac is judges) (blob other other_mac is' judges') =
+    let same = one_body bytes body other mac other_mac is is' in
+    judges-one s body mac v w judges (rw (same.0, same.1) judges')
+one_verdict s bytes v w (blob body mac is judges) (form offset at is') = absurd (at.no_blob body mac is)
+one_verdict s bytes v w (form offset at is') (blob body mac is judges) = absurd (at.no_blob body mac is)
+one_verdict s bytes v w (form offset at is) (form other at' is') =
+    is ∙ ap (λ place. Refuse (causes.Form place)) (offset-one bytes offset other at at') ∙ sym is'
+
+-- ---- an acceptance
+
+never_refused : (path : List Edge) (cause : Cause) → Accept path ≡ Refuse cause → ⊥
+never_refused path cause same = cc
+
+accepted_path : (path other : List Edge) → Accept path ≡ Accept other → path ≡ other
+accepted_path path other same = cc
+
+looked : (holds : Type 0) (cause : Cause) (rest : Type 0) (path : List Edge) → Looks holds cause rest (Accept path) → holds × rest
+looked holds cause rest path (fails unheld is) = absurd (never_refused path cause is)
+looked holds cause rest path (passes held more) = (held, more)
+
+reported : (violation : Option Violation) (path accepted : List Edge)
+    → MatchOption violation (Accept accepted ≡ Accept path) (λ x. Accept accepted ≡ Refuse (causes.Critical x))
+    → (violation ≡ None) × (accepted ≡ path)
+reported None path accepted is = (refl, accepted_path accepted path is)
+reported (Some x) path accepted is = absurd (never_refused accepted (causes.Critical x) is)
+
+-- what is accepted beside the first four
+accepts_replay : (s : Subject) (bytes : List ℕ) (path : List Edge) (body : Body) (mac : List ℕ) → IsBlob bytes body mac
+    → mac ≡ hmac s.session.key (covered_of body) → body.head.nonce ≡ s.session.nonce → body.head.op ≡ s.session.op
+    → body.head.digest ≡ s.digest → Replays s body (Accept path) → Accepts s bytes path
+accepts_replay s bytes path body mac is right nonce op digest (stuck cause turn gets refused) =
+    absurd (never_refused path (causes.Replay cause turn) refused)
+accepts_replay s bytes path body mac is right nonce op digest (walked other walks settles) =
+    let hash = looked _ _ _ path settles in
+    let clean = reported body.head.violation other path hash.1 in
+    record {
+      body = body;
+      mac = mac;
+      is_blob = is;
+      right_mac = right;
+      nonce = nonce;
+      operation = op;
+      image = digest;
+      walked = rw clean.1 walks;
+      hash = rw clean.1 hash.0;
+      clean = clean.0;
+    }
+
+accepts : (s : Subject) (bytes : List ℕ) (path : List Edge) → IsVerdict s bytes (Accept path) → Accepts s bytes path
+accepts s bytes path (form offset at is) = absurd (never_refused path (causes.Form offset) is)
+accepts s bytes path (blob body mac is judges) =
+    let right_mac = looked _ _ _ path judges in
+    let nonce = looked _ _ _ path right_mac.1 in
+    let operation = looked _ _ _ path nonce.1 in
+    let image = looked _ _ _ path operation.1 in
+    accepts_replay s bytes path body mac is right_mac.0 nonce.0 operation.0 image.0 image.1
+
+unreported : (violation : Option Violation) (path : List Edge) → violation ≡ None
+    → MatchOption violation (Accept path ≡ Accept path) (λ x. Accept path ≡ Refuse (causes.Critical x))
+unreported violation path none = rw none refl
+
+is_accepted : (s : Subject) (bytes : List ℕ) (path : List Edge) → Accepts s bytes path → IsVerdict s bytes (Accept path)
+is_accepted s bytes path a =
+    blob a.body a.mac a.is_blob (passes a.right_mac (passes a.nonce (passes a.operation (passes a.image
+    (walked path a.walked (passes a.hash (unreported a.body.head.violation path a.clean)))))))
+
+pub acceptance_at_once : AcceptanceAtOnce
+acceptance_at_once s bytes path = (accepts s bytes path, is_accepted s bytes path)

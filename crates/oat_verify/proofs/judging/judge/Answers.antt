@@ -1,0 +1,14 @@
+use Rattle.std.proofs.Common.{rules, ◌≡◌}
+use Rattle.std.proofs.lemmas.Result.{IfOk-weaker}
+use Rattle.oat_hmac.specs.Hmac.{hmac}
+use Rattle.oat_blob.specs.Layout.{covered_of}
+use Rattle.oat_verify.specs.Verdict.{Judges, passes}
+use Rattle.oat_verify.proofs.judging.judge.Goals as goal
+
+pub returns : goal.returns
+returns c =
+    let right_mac : c.args.blob.now.mac ≡ hmac c.args.session.now.key (covered_of c.args.blob.now.body) = search rules in
+    let nonce : c.args.blob.now.body.head.nonce ≡ c.args.session.now.nonce = search rules in
+    let op : c.args.blob.now.body.head.op ≡ c.args.session.now.op = search rules in
+    let image : c.args.blob.now.body.head.digest ≡ c.args.digest.now = search rules in
+    IfOk-weaker c.replay.result _ _ (λ v replays. passes right_mac (passes nonce (passes op (passes image replays)))) c.replay.ensures

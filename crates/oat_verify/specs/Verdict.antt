@@ -1,0 +1,85 @@
+-- The verdict on a blob: what is looked at, in which order, and what each answer means (docs/DEFINITIONS.md, "Verdict").
+use Rattle.std.specs.Prelude.{◌≡◌, ◌↔◌, ℕ, List, None, MatchOption}
+use Rattle.oat_map.specs.declared.map.Map.{Map}
+use Rattle.oat_map.specs.declared.edge.Edge.{Edge}
+use Rattle.oat_map.specs.Walk.{returns_of}
+use Rattle.oat_case.specs.declared.case.Session.{Session}
+use Rattle.oat_blob.specs.Body.{Body}
+use Rattle.oat_blob.specs.Layout.{IsBlob, covered_of}
+use Rattle.oat_blob.specs.Faults.{IsFormOffset}
+use Rattle.oat_chain.specs.Chain.{begin_record, chain}
+use Rattle.oat_hmac.specs.Hmac.{hmac}
+use Rattle.oat_replay.specs.Replay.{IsWalked, GetsStuck}
+use Rattle.oat_replay.specs.declared.cause.ReplayCause.{ReplayCause}
+use Rattle.oat_verify.specs.declared.verdict.Cause.{Cause}
+use Rattle.oat_verify.specs.declared.verdict.Cause.TheVariants as causes
+use Rattle.oat_verify.specs.declared.verdict.Verdict.{Verdict}
+use Rattle.oat_verify.specs.declared.verdict.Verdict.TheVariants.{Accept, Refuse}
+
+-- what a verdict is about, beside the bytes of the blob
+pub record Subject : Type 0 where
+  pub map : Map
+  -- SHA-256 of the image text
+  pub digest : List ℕ
+  pub session : Session
+
+abbrev pub head_of : Subject → List ℕ
+head_of s = begin_record s.session.nonce s.session.op s.digest
+
+-- One thing that is looked at: where it fails its cause is the verdict, and else the rest decides.
+pub data Looks (holds : Type 0) (cause : Cause) (rest : Type 0) (v : Verdict) : Type 0 where
+  fails : ¬ holds → v ≡ Refuse cause → Looks holds cause rest v
+  passes : holds → rest → Looks holds cause rest v
+
+-- The device reports no violation, or the first one.
+abbrev pub Reports : Body → List Edge → Verdict → Type 0
+Reports body path v = MatchOption body.head.violation (v ≡ Accept path) (λ violation. v ≡ Refuse (causes.Critical violation))
+
+-- What is looked at once the replay has found a path: its returns, and then the report.
+abbrev pub Settles : List ℕ → Body → List Edge → Verdict → Type 0
+Settles head body path v = Looks (body.head.hash ≡ chain head (returns_of path)) causes.Hash (Reports body path v) v
+
+-- The replay finds the path that has the blob's records, or gets stuck.
+pub data Replays (s : Subject) (body : Body) (v : Verdict) : Type 0 where
+  stuck : (cause : ReplayCause) (turn : ℕ) → GetsStuck s.map s.session.op body.bits body.targets cause turn
+      → v ≡ Refuse (causes.Replay cause turn) → Replays s body v
+  walked : (path : List Edge) → IsWalked s.map s.session.op body.bits body.targets path
+      → Settles (head_of s) body path v → Replays s body v
+
+-- What is looked at in a blob, in this order: its MAC, nonce, operation and image, and then the replay.
+abbrev pub Judges : Subject → Body → List ℕ → Verdict → Type 0
+Judges s body mac v =
+    Looks (mac ≡ hmac s.session.key (covered_of body)) causes.Mac (
+    Looks (body.head.nonce ≡ s.session.nonce) causes.Nonce (
+    Looks (body.head.op ≡ s.session.op) causes.Operation (
+    Looks (body.head.digest ≡ s.digest) causes.Image (
+    Replays s body v) v) v) v) v
+
+-- The verdict on bytes: on the blob that they are, or where they stop to be one.
+pub data IsVerdict (s : Subject) (bytes : List ℕ) (v : Verdict) : Type 0 where
+  blob : (body : Body) (mac : List ℕ) → IsBlob bytes body mac → Judges s body mac v → IsVerdict s bytes v
+  form : (offset : ℕ) → IsFormOffset bytes offset → v ≡ Refuse (causes.Form offset) → IsVerdict s bytes v
+
+-- An acceptance, said at once: a blob with the right MAC, about this session and image, without a violation, whose
+-- records are those of a walk and whose hash is the chain of the walk's returns.
+pub record Accepts (s : Subject) (bytes : List ℕ) (path : List Edge) : Type 0 where
+  pub body : Body
+  pub mac : List ℕ
+  pub is_blob : IsBlob bytes body mac
+  pub right_mac : mac ≡ hmac s.session.key (covered_of body)
+  pub nonce : body.head.nonce ≡ s.session.nonce
+  pub operation : body.head.op ≡ s.session.op
+  pub image : body.head.digest ≡ s.digest
+  pub walked : IsWalked s.map s.session.op body.bits body.targets path
+  pub hash : body.head.hash ≡ chain (head_of s) (returns_of path)
+  pub clean : body.head.violation ≡ None
+
+-- ---- laws
+
+-- An acceptance is a verdict, and there is no other acceptance.
+abbrev pub AcceptanceAtOnce : Type 0
+AcceptanceAtOnce = (s : Subject) (bytes : List ℕ) (path : List Edge) → IsVerdict s bytes (Accept path) ↔ Accepts s bytes path
+
+-- Bytes have one verdict.
+abbrev pub OneVerdict : Type 0
+OneVerdict = (s : Subject) (bytes : List ℕ) (v w : Verdict) → IsVerdict s bytes v → IsVerdict s bytes w → v ≡ w

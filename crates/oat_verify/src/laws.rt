@@ -1,0 +1,13 @@
+//! Laws of the verdict, for proofs that rest on them: each function's contract is the law.
+
+ghost use Rattle.oat_verify.specs.Verdict.{AcceptanceAtOnce, OneVerdict};
+
+/// Bytes have one verdict.
+pub fn one_verdict()
+    ensures { OneVerdict }
+{}
+
+/// An acceptance, said at once.
+pub fn acceptance_at_once()
+    ensures { AcceptanceAtOnce }
+{}
