@@ -1,5 +1,5 @@
 -- The lines of a path: the text of each edge's name (docs/FORMATS.md, "Path lines").
-use Rattle.std.specs.Prelude.{ℕ, Bool, true, false, List, [], ◌∷◌, ◌++◌, length, drop, min, Option, None, Some, codes}
+use Rattle.std.specs.Prelude.{ℕ, Bool, true, false, List, ◌++◌, length, drop, min, Option, None, Some, codes}
 use Rattle.std.specs.Fmt.{decimal, radix_digits}
 use Rattle.oat_map.specs.declared.map.Map.{Map}
 use Rattle.oat_map.specs.declared.edge.Edge.{Edge}

@@ -5,5 +5,4 @@ ghost use Rattle.oat_report.specs.WorkedLines.{WorkedLines};
 /// The lines of a worked path are as they are written.
 pub fn worked_lines()
     ensures { WorkedLines }
-{
-}
+{}

@@ -1,5 +1,5 @@
 -- A replay gets stuck for one cause at one turn.
-use Rattle.std.proofs.Common.{◌≡◌, ℕ, ◌+◌, ◌<◌, ◌≤◌, Bool, List, [], ◌∷◌, ◌++◌, length, Option, Some, None, refl, sym, ap, ◌∙◌, inl, inr, arith, length-append, append-nil}
+use Rattle.std.proofs.Common.{◌≡◌, ℕ, ◌+◌, Bool, List, [], ◌∷◌, ◌++◌, length, Option, Some, None, refl, sym, ap, ◌∙◌, inl, inr, arith, length-append, append-nil}
 use Rattle.std.proofs.lemmas.Bool.{cases_lt}
 use Rattle.std.proofs.lemmas.List.{append_cancel_left}
 use Rattle.oat_map.specs.declared.row.Row.{Row}
@@ -9,7 +9,7 @@ use Rattle.oat_map.specs.Rows.{next}
 use Rattle.oat_map.specs.Walk.{Step, path_of, bits_of, targets_of, path_limit}
 use Rattle.oat_map.proofs.WalkLemmas.{Leads-continues}
 use Rattle.oat_replay.specs.declared.cause.ReplayCause.{ReplayCause}
-use Rattle.oat_replay.specs.declared.cause.ReplayCause.TheVariants.{BadTarget, PathLimit}
+use Rattle.oat_replay.specs.declared.cause.ReplayCause.TheVariants.{BadTarget}
 use Rattle.oat_replay.specs.Replay.{GetsStuck, Stops, StopsICall, StopsEnd, no_target, bad_target, wrong_end, end_inside, unused_bits, unused_targets}
 
 nil_or_cons : (xs : List ℕ) (y : ℕ) (ys : List ℕ) → xs ≡ [] → xs ≡ y ∷ ys → ⊥

@@ -1,5 +1,5 @@
 -- Bytes have one verdict, and an acceptance says all at once.
-use Rattle.std.proofs.Common.{◌≡◌, ◌↔◌, ℕ, ◌<◌, ◌≤◌, List, Option, Some, None, MatchOption, refl, sym, ap, ◌∙◌, inl, inr, arith}
+use Rattle.std.proofs.Common.{◌≡◌, ℕ, ◌<◌, List, Option, Some, None, MatchOption, refl, sym, ap, ◌∙◌, inl, inr, arith}
 use Rattle.std.proofs.lemmas.Bool.{cases_lt}
 use Rattle.oat_map.specs.declared.edge.Edge.{Edge}
 use Rattle.oat_blob.specs.declared.body.Violation.{Violation}
@@ -13,7 +13,7 @@ use Rattle.oat_verify.specs.declared.verdict.Cause.{Cause}
 use Rattle.oat_verify.specs.declared.verdict.Cause.TheVariants as causes
 use Rattle.oat_verify.specs.declared.verdict.Verdict.{Verdict}
 use Rattle.oat_verify.specs.declared.verdict.Verdict.TheVariants.{Accept, Refuse}
-use Rattle.oat_verify.specs.Verdict.{Subject, Looks, fails, passes, Reports, Settles, Replays, stuck, walked, Judges, IsVerdict, blob, form, Accepts, AcceptanceAtOnce, OneVerdict}
+use Rattle.oat_verify.specs.Verdict.{Subject, Looks, fails, passes, Settles, Replays, stuck, walked, Judges, IsVerdict, blob, form, Accepts, AcceptanceAtOnce, OneVerdict}
 use Rattle.oat_verify.proofs.OneStuck.{one_stuck}
 
 -- ---- one verdict

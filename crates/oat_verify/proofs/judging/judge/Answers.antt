@@ -2,7 +2,7 @@ use Rattle.std.proofs.Common.{rules, ◌≡◌}
 use Rattle.std.proofs.lemmas.Result.{IfOk-weaker}
 use Rattle.oat_hmac.specs.Hmac.{hmac}
 use Rattle.oat_blob.specs.Layout.{covered_of}
-use Rattle.oat_verify.specs.Verdict.{Judges, passes}
+use Rattle.oat_verify.specs.Verdict.{passes}
 use Rattle.oat_verify.proofs.judging.judge.Goals as goal
 
 pub returns : goal.returns

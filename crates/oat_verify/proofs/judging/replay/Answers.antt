@@ -1,5 +1,5 @@
 use Rattle.std.proofs.Common.{refl, subst, List, ℕ}
-use Rattle.oat_verify.specs.Verdict.{Replays, stuck, walked, Settles}
+use Rattle.oat_verify.specs.Verdict.{stuck, walked, Settles}
 use Rattle.oat_verify.proofs.judging.replay.Goals as goal
 
 pub returns-in-Ok : goal.returns-in-Ok
