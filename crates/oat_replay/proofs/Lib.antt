@@ -1,3 +1,4 @@
 pub mod ReplayLemmas
+pub mod SentLemmas
 pub mod TurnLemmas
 pub mod WalkSoFar

@@ -7,31 +7,53 @@ use oat_map::{Edge, Map, Row};
 use std::alloc::{AllocError, Global};
 use std::test::Fail;
 
-struct NoRecords;
+/// At most one bit and one target.
+#[derive(Clone, Copy)]
+struct Sent {
+    bit: Option<bool>,
+    target: Option<u64>,
+}
 
-impl Records for NoRecords {
-    ghost use Rattle.std.specs.Prelude.{[]};
+impl Records for Sent {
+    ghost use Rattle.std.specs.Option.{option_to_list};
 
-    ghost bits = { λ _. [] };
+    ghost bits = { λ sent. option_to_list sent.bit };
 
-    ghost targets = { λ _. [] };
+    ghost targets = { λ sent. option_to_list sent.target };
 
     fn bit_count(&self) -> u32 {
-        0
+        match self.bit {
+            Some(_) => 1,
+            None => 0,
+        }
     }
 
     fn bit(&self, _i: u32) -> bool {
-        unreachable!()
+        match self.bit {
+            Some(bit) => bit,
+            None => unreachable!(),
+        }
     }
 
     fn target_count(&self) -> u32 {
-        0
+        match self.target {
+            Some(_) => 1,
+            None => 0,
+        }
     }
 
     fn target(&self, _i: u32) -> u64 {
-        unreachable!()
+        match self.target {
+            Some(target) => target,
+            None => unreachable!(),
+        }
     }
 }
+
+const NOTHING: Sent = Sent {
+    bit: None,
+    target: None,
+};
 
 fn map_of(alloc: Global, rows: &[Row]) -> Result<Map, AllocError>
     ensures { IfOk result (λ map. map.rows ≡ rows.now) }
@@ -57,7 +79,7 @@ fn walk_finds_one_jump(rt: HostRuntime) -> Result<(), Fail> {
     let map = map_of(rt.alloc(), &rows)?;
     assert!(rt; map.ordered());
     assert!(rt; map.start(1).is_some());
-    let path = walk(rt.alloc(), &map, 1, &NoRecords)?;
+    let path = walk(rt.alloc(), &map, 1, &NOTHING)?;
     let edges = [
         Edge::Jump {
             from: 0x10008,
@@ -66,6 +88,18 @@ fn walk_finds_one_jump(rt: HostRuntime) -> Result<(), Fail> {
         Edge::End { op: 1 },
     ];
     assert_eq!(rt; path.as_slice(), edges.as_slice());
+    let one_bit = Sent {
+        bit: Some(true),
+        target: None,
+    };
+    let left = walk(rt.alloc(), &map, 1, &one_bit).err();
+    assert_eq!(rt;
+        left,
+        Some(WalkFault::Stuck {
+            cause: ReplayCause::BitsLeft(1),
+            turn: 2
+        })
+    );
     Ok(())
 }
 
@@ -85,7 +119,7 @@ fn walk_of_an_endless_jump_reaches_the_limit(rt: HostRuntime) -> Result<(), Fail
         cause: ReplayCause::PathLimit,
         turn: 4_194_305,
     };
-    match walk(rt.alloc(), &map, 1, &NoRecords) {
+    match walk(rt.alloc(), &map, 1, &NOTHING) {
         Ok(_) => assert!(rt; false, "a path of an endless jump"),
         Err(fault) => assert_eq!(rt; fault, limit),
     }

@@ -1,0 +1,4 @@
+pub mod Loops
+pub mod Searches
+pub mod RowRules
+pub mod NameRules
