@@ -1,0 +1,14 @@
+pub mod Lists
+pub mod Loading
+pub mod One
+pub mod Settling
+pub mod Ending
+pub mod Corollaries
+pub mod Judging
+pub mod Putting
+pub mod Showing
+pub mod Verifying
+pub mod Maps
+pub mod Reporting
+pub mod Stopping
+pub mod CaseReading

@@ -1,0 +1,42 @@
+-- How pieces that were put one after another add up to a front of a text.
+use Rattle.std.proofs.Common.{◌≡◌, ◌≤◌, ◌<◌, ◌+◌, ◌-◌, ℕ, List, [], ◌++◌, length, take, drop, Option, None, Some, Result, Ok, Err, refl, sym, ◌∙◌, ap, subst, append_assoc, arith}
+use Rattle.std.proofs.Math.Seq.{take-add}
+use Rattle.std.proofs.lemmas.List.{take-append-drop, take_rest, append-nil}
+use Rattle.oat_world.specs.Outside.{Adds, Rose, Puts}
+use Rattle.oat_world.specs.declared.sink.SinkFault.{SinkFault}
+use Rattle.oat_world.specs.declared.sink.SinkFault.TheVariants as sink
+use Rattle.oat_tool.specs.Puts.{PutsAll, PutsFront}
+
+pub Adds-nothing : (old : Option (List ℕ)) → Adds old [] old
+Adds-nothing None = refl
+Adds-nothing (Some before) = ap (λ x. Some x) (sym (append-nil before))
+
+pub Adds-then : (first second : List ℕ) (old mid new : Option (List ℕ))
+    → Adds old first mid → Adds mid second new → Adds old (first ++ second) new
+Adds-then first second None mid new one two = rw one at two
+Adds-then first second (Some before) mid new one two =
+    let e : new ≡ Some ((before ++ first) ++ second) = rw one at two in
+    e ∙ ap (λ x. Some x) (append_assoc before first second)
+
+-- A put takes the text further.
+pub Adds-more : (text : List ℕ) (done count : ℕ) (old mid new : Option (List ℕ)) → Adds old (take done text) mid
+    → Adds mid (take count (take (length text - done) (drop done text))) new → Adds old (take (done + count) text) new
+Adds-more text done count old mid new so_far put =
+    rw (take-add done count text) (Adds-then _ _ old mid new so_far (rw (take_rest text done) at put))
+
+-- A put that fails leaves a front of the text.
+pub Puts-fails : (text : List ℕ) (done : ℕ) (old mid new : Option (List ℕ)) (first before now : ℕ) (fault : SinkFault)
+    → first ≤ before → before ≤ now → Adds old (take done text) mid
+    → Puts (drop done text) mid new before now (Err fault) → PutsAll text old new first now (Err fault)
+Puts-fails text done old mid new first before now sink.Failed low high so_far puts =
+    (omega (arith, puts.0), (take done text, (drop done text, sym (take-append-drop done text)), puts.1 ∙ so_far))
+Puts-fails text done old mid new first before now sink.Memory low high so_far puts =
+    (omega arith, (take done text, (drop done text, sym (take-append-drop done text)), puts.1 ∙ so_far))
+
+pub PutsFront-whole : (text : List ℕ) (old new : Option (List ℕ)) → Adds old text new → PutsFront text old new
+PutsFront-whole text old new added = (text, ([], sym (append-nil text)), added)
+
+pub Adds-none : (text : List ℕ) (old new : Option (List ℕ)) → text ≡ [] → Adds old text new → new ≡ old
+Adds-none text old new none added =
+    let nothing : Adds old [] new = subst (λ (x : List ℕ). Adds old x new) none added in
+    nothing ∙ sym (Adds-nothing old)

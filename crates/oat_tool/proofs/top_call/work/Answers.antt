@@ -1,0 +1,7 @@
+use Rattle.oat_tool.specs.Words.{verify}
+use Rattle.oat_tool.proofs.Loading.{Works-ending}
+use Rattle.oat_tool.proofs.top_call.work.Goals as goal
+
+pub returns-in-Verify-clause-works : goal.returns-in-Verify-clause-works
+returns-in-Verify-clause-works g c = λ contents told.
+    Works-ending _ contents _ (verify _ _ _) _ c.in-Verify.ensures (c.verify_files.ensures.works contents told)

@@ -1,0 +1,48 @@
+use Rattle.std.proofs.Common.{◌≡◌, ◌∙◌, ℕ, List, [], ◌∷◌, Some, inl, inr, refl, arith}
+use Rattle.std.proofs.lemmas.Result.{err_from_is_err_and}
+use Rattle.oat_world.specs.Outside.{Rose}
+use Rattle.oat_tool.specs.Words.{verify}
+use Rattle.oat_tool.specs.Defined.{Does, image_limit, case_limit, blob_limit}
+use Rattle.oat_tool.specs.Pages.{Works, Meets, does_it}
+use Rattle.oat_tool.proofs.Loading.{Stops-load, Works-verify}
+use Rattle.oat_tool.proofs.Verifying.{Works-unfaulted}
+use Rattle.oat_tool.proofs.verify.verify_files.Goals as goal
+
+pub returns-in_err-image_text-clause-works : goal.returns-in_err-image_text-clause-works
+returns-in_err-image_text-clause-works g c = λ contents told.
+    let p = err_from_is_err_and c.from_residual.result c.from_residual.ensures.1 in
+    rw (p.1, p.2) (Stops-load _ contents _ _ _ _ _ _ _ (omega arith) (0, omega arith, refl) (λ o refused. inl refused)
+    (c.in_err-image_text.ensures.fetches contents told))
+
+pub returns-in_err-case_text-clause-works : goal.returns-in_err-case_text-clause-works
+returns-in_err-case_text-clause-works g c = λ contents told.
+    let p = err_from_is_err_and c.from_residual-in_err-case_text.result c.from_residual-in_err-case_text.ensures.1 in
+    let image = c.in_ok-image_text.ensures in
+    rw (p.1, p.2) (Stops-load _ contents _ _ _ _ _ _ _ image.faults_stay (1, omega arith, refl)
+    (λ o refused. inr (c.in_ok-image_text.image_text.items, image.fetches contents told, inl refused))
+    (c.in_err-case_text.ensures.fetches contents (image.same ∙ told)))
+
+pub returns-in_err-blob_text-clause-works : goal.returns-in_err-blob_text-clause-works
+returns-in_err-blob_text-clause-works g c = λ contents told.
+    let p = err_from_is_err_and c.from_residual-in_err-blob_text.result c.from_residual-in_err-blob_text.ensures.1 in
+    let image = c.in_ok-image_text.ensures in
+    let case = c.in_ok-case_text.ensures in
+    rw (p.1, p.2) (Stops-load _ contents _ _ _ _ _ _ _ (omega (arith, image.faults_stay, case.faults_stay)) (2, omega arith, refl)
+    (λ o refused. inr (
+      c.in_ok-image_text.image_text.items,
+      image.fetches contents told,
+      inr (c.in_ok-case_text.case_text.items, case.fetches contents (image.same ∙ told), inl refused),
+    ))
+    (c.in_err-blob_text.ensures.fetches contents (case.same ∙ (image.same ∙ told))))
+
+pub returns-clause-works : goal.returns-clause-works
+returns-clause-works g c = λ contents told.
+    let image = c.in_ok-image_text.ensures in
+    let case = c.in_ok-case_text.ensures in
+    let judged = rw (c.as_slice.ensures.value, c.as_slice-2.ensures.value, c.as_slice-3.ensures.value) at c.judge.ensures in
+    Works-verify contents _ _ _ _ _ _ _ _ (image.fetches contents told) (case.fetches contents (image.same ∙ told))
+    (c.in_ok-blob_text.ensures.fetches contents (case.same ∙ (image.same ∙ told))) judged
+
+pub returns-clause-faulted : goal.returns-clause-faulted
+returns-clause-faulted g c = λ told.
+    Works-unfaulted c.args.image.now c.args.case.now c.args.blob.now c.as_slice.result.now c.as_slice-2.result.now c.as_slice-3.result.now _ _ c.judge.ensures

@@ -1,0 +1,13 @@
+-- That words and contents determine the outcome.
+use Rattle.std.specs.Prelude.{◌≡◌, ℕ, List}
+use Rattle.oat_world.specs.Outside.{Contents}
+use Rattle.oat_tool.specs.Outcome.{Outcome}
+use Rattle.oat_tool.specs.Defined.{Defined}
+
+-- Two outcomes of which this holds are one.
+abbrev pub IsOne : (Outcome → Type 0) → Type 0
+IsOne P = (o p : Outcome) → P o → P p → o ≡ p
+
+-- For one list of words and one content of the files there is one defined outcome.
+abbrev pub OneOutcome : Type 0
+OneOutcome = (words : List (List ℕ)) (contents : Contents) → IsOne (Defined words contents)

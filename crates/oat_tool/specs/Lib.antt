@@ -1,0 +1,17 @@
+pub mod Outcome
+pub mod Words
+pub mod Commands
+pub mod Texts
+pub mod Loads
+pub mod Inputs
+pub mod BlobText
+pub mod Report
+pub mod Verifies
+pub mod Defined
+pub mod Ends
+pub mod Answers
+pub mod Judged
+pub mod Puts
+pub mod Laws
+pub mod Pages
+pub mod Stages

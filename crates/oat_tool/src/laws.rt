@@ -1,0 +1,8 @@
+//! Facts about the definitions, for proofs that rest on them: each function's contract is the fact.
+
+ghost use Rattle.oat_tool.specs.Laws.{OneOutcome};
+
+/// For one list of words and one content of the files there is one defined outcome.
+pub fn one_outcome()
+    ensures { OneOutcome }
+{}
