@@ -2,3 +2,9 @@ pub mod Loops
 pub mod Searches
 pub mod RowRules
 pub mod NameRules
+pub mod Turns
+pub mod Linkage
+pub mod Bounds
+pub mod WorkedShapesRules
+pub mod WorkedShapes
+pub mod WorkedShapesCalls

@@ -1,2 +1,9 @@
 pub mod MapRules
 pub mod Parts
+pub mod Groups
+pub mod Shape
+pub mod Run
+pub mod Journal
+pub mod Window
+pub mod Uses
+pub mod WorkedShapes

@@ -1,0 +1,46 @@
+-- Groups: which instructions stand at a row's address (docs/FORMATS.md, "Rows and their groups").
+use Rattle.std.specs.Prelude.{◌≡◌, ◌+◌, ◌*◌, ◌/◌, ◌%◌, ◌^◌, ◌⊎◌, ℕ, ℤ, pos, List, slice_get, Some}
+use Rattle.oat_mem.specs.DataMemory.{global_base}
+use Rattle.oat_a64.specs.declared.inst.Inst.{Inst}
+use Rattle.oat_a64.specs.declared.inst.Inst.TheVariants.{Movz, Movk, Ldr, Str, B, Bl, BCond, Cbnz, Blr, Ret, Svc, Brk}
+use Rattle.oat_a64.specs.Step.{instruction_at, branch_target}
+use Rattle.oat_map.specs.declared.row.Row.{Row}
+use Rattle.oat_map.specs.declared.row.Row.TheVariants as rows
+
+-- this instruction stands at the address
+abbrev pub Stands : List ℕ → ℕ → Inst → Type 0
+Stands code address inst = instruction_at code address ≡ Some inst
+
+-- a branch of this form stands at the address and leads there
+abbrev pub Branches : List ℕ → ℕ → (ℤ → Inst) → ℕ → Type 0
+Branches code address form to = (offset : ℤ) × Stands code address (form offset) × (branch_target address offset ≡ to)
+
+-- the address of a word of global data
+abbrev pub global_address : ℕ → ℕ
+global_address index = global_base + 8 * index
+
+-- two moves put an address into X11
+abbrev pub MovesAddress : List ℕ → ℕ → ℕ → Type 0
+MovesAddress code at address = Stands code at (Movz 11 0 (address % 2 ^ 16)) × Stands code (at + 4) (Movk 11 1 (address / 2 ^ 16))
+
+-- a test of a register or of the flags skips one instruction
+abbrev pub SkipsOne : List ℕ → ℕ → Type 0
+SkipsOne code at = ((rt : ℕ) × Stands code at (Cbnz rt (pos 2))) ⊎ ((cond : ℕ) × Stands code at (BCond cond (pos 2)))
+
+-- The group of a row stands at its address, in code and with the cells of an image.
+abbrev pub IsGroup : List ℕ → List ℕ → Row → Type 0
+IsGroup code cells (rows.Jump at to) = Branches code at B to
+IsGroup code cells (rows.Branch at taken other) =
+    Stands code at (Svc 3) × Branches code (at + 4) (Cbnz 9) taken × Branches code (at + 8) B other
+IsGroup code cells (rows.Call at to) = Branches code at Bl to
+IsGroup code cells (rows.ICall at params) = Stands code at (Svc 4) × Stands code (at + 4) (Blr 9)
+IsGroup code cells (rows.Ret at) = Stands code at (Svc 5) × Stands code (at + 4) (Ret 30)
+IsGroup code cells (rows.Begin at op) = Stands code at (Movz 9 0 op) × Stands code (at + 4) (Svc 1)
+IsGroup code cells (rows.End at op) = Stands code at (Movz 9 0 op) × Stands code (at + 4) (Svc 2)
+IsGroup code cells (rows.UseCell at cell) =
+    (index : ℕ) × (slice_get cells cell ≡ Some index) × MovesAddress code at (global_address index)
+    × Stands code (at + 8) (Ldr 10 11 0) × Stands code (at + 12) (Movz 9 0 cell) × Stands code (at + 16) (Svc 7)
+IsGroup code cells (rows.DefCell at cell) =
+    (index : ℕ) × (slice_get cells cell ≡ Some index) × MovesAddress code at (global_address index)
+    × Stands code (at + 8) (Movz 9 0 cell) × Stands code (at + 12) (Str 10 11 0) × Stands code (at + 16) (Svc 6)
+IsGroup code cells (rows.Check at) = SkipsOne code at × ((number : ℕ) × Stands code (at + 4) (Brk number))
