@@ -1,0 +1,4 @@
+//! The laws that join device runs and verdicts.
+#![tactic(auto)]
+
+pub mod laws;

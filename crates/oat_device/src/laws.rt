@@ -1,0 +1,24 @@
+//! Laws of measured runs, each the contract of a function that does nothing.
+ghost use Rattle.oat_device.specs.Measured.{RunsReportExactly};
+ghost use Rattle.oat_device.specs.Worked.{OneJumpIsMeasured};
+ghost use Rattle.oat_device.specs.Violations.{NoViolationIsSound, ViolationsAreExact};
+
+/// A sealed state holds the violation of the first use of its window that wasn't sound.
+pub fn violations_are_exact()
+    ensures { ViolationsAreExact }
+{}
+
+/// Each use in the window of a sealed state without a violation found the last defined value.
+pub fn no_violation_is_sound()
+    ensures { NoViolationIsSound }
+{}
+
+/// The violation that a sealed run reports is that of the first checked use that wasn't sound, whatever was given and written.
+pub fn runs_report_exactly()
+    ensures { RunsReportExactly }
+{}
+
+/// The smallest image with a jump, run by the definitions: it seals within five instructions, shows the jump and the end, and the sixth halts it.
+pub fn one_jump_is_measured()
+    ensures { OneJumpIsMeasured }
+{}

@@ -1,0 +1,2 @@
+pub mod WritesDue
+pub mod Whole

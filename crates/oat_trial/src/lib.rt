@@ -1,0 +1,22 @@
+//! A plain interpreter of the definitions of device runs: it makes them instruction by instruction, and its contract is what they say.
+//!
+//! It is slow and small. Tests of a device compare with it.
+#![tactic(auto)]
+
+mod call;
+mod due;
+pub mod laws;
+mod monitor;
+mod run;
+mod shown;
+mod state;
+#[cfg(test)]
+mod tests;
+mod trial;
+
+pub use call::MonitorCall;
+pub use due::are_in_data;
+pub use run::Run;
+pub use shown::{edge_over, is_transfer, row_over};
+pub use state::{Monitor, Stage};
+pub use trial::Trial;
