@@ -14,12 +14,12 @@ use Rattle.oat_measure.specs.Monitor.{Call, call_of, call_numbered}
 use Rattle.oat_measure.specs.Measurement.{State, Stop, Measured, booted, behind as joined, measured, measures}
 use Rattle.oat_shape.specs.declared.end.DeviceEnd.{DeviceEnd}
 use Rattle.oat_shape.specs.declared.end.DeviceEnd.TheVariants.{Stopped}
-use Rattle.oat_shape.specs.Run.{Running, Entry, started, found, makes, told, called, takes, turn, turns, turn_of, entry, entry_of, from_entry, journal, journal_from, bare}
+use Rattle.oat_shape.specs.Run.{Running, Entry, started, found, makes, told, called, turn, turns, turn_of, entry, entry_of, from_entry, journal_from}
 use Rattle.oat_shape.specs.Window.{made_call}
 use Rattle.oat_shape.proofs.Turns.{EntryIs, entry-is, step-is}
-use Rattle.oat_device.specs.Measured.{Run, dev, run_until, start_cells, stop_kind}
-use Rattle.oat_trial.specs.Trial.{Progress, call_told, kept, stop_of, stopped_by, measurement, next_of}
-use Rattle.oat_trial.specs.Whole.{going_on, after_turns, first_of, progress_of_run, TurnsAreTheRun}
+use Rattle.oat_device.specs.Measured.{run_until, start_cells, stop_kind}
+use Rattle.oat_trial.specs.Trial.{Progress, call_told, kept, stop_of, stopped_by, next_of}
+use Rattle.oat_trial.specs.Whole.{going_on, after_turns, progress_of_run, TurnsAreTheRun}
 
 -- ---- the call of an entry
 

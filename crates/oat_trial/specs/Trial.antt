@@ -10,7 +10,6 @@ use Rattle.oat_measure.specs.declared.opening.Opening.{Opening}
 use Rattle.oat_measure.specs.Monitor.{Call, begins, ends, bit, target, returns, defines, uses, call_numbered}
 use Rattle.oat_measure.specs.Measurement.{State, Stop, measured}
 use Rattle.oat_measure.specs.Measurement as stages
-use Rattle.oat_shape.specs.declared.end.DeviceEnd.{DeviceEnd}
 use Rattle.oat_shape.specs.declared.end.DeviceEnd.TheVariants.{Stopped}
 use Rattle.oat_shape.specs.declared.end.StopKind.{StopKind}
 use Rattle.oat_shape.specs.Run.{Running, found, turn}

@@ -188,9 +188,11 @@ fn boot(alloc: Global) -> Result<Trial<'static>, AllocError> {
     })
 }
 
-// What the window of a run showed.
+// What a run showed: the numbers of its monitor calls from 1 to 7, and of its window the path and the
+// returns.
 #[derive(Drop)]
 struct Window {
+    calls: Vec<u16>,
     path: Vec<Edge>,
     returns: Vec<u64>,
 }
@@ -198,6 +200,15 @@ struct Window {
 fn inst_at(pc: u64) -> Option<Inst> {
     let index = pc.checked_sub(0x10000)? / 4;
     decode(*CODE.get(index as usize)?)
+}
+
+fn count_call(window: &mut Window, found: &Cpu) -> Result<(), AllocError> {
+    if let Some(Inst::Svc { imm }) = inst_at(found.pc) {
+        if imm >= 1 && imm <= 7 {
+            window.calls.push(imm)?;
+        }
+    }
+    Ok(())
 }
 
 // Shows one entry of the window.
@@ -226,6 +237,7 @@ fn run(
     steps: u32,
 ) -> Result<Window, AllocError> {
     let mut window = Window {
+        calls: Vec::new(alloc),
         path: Vec::new(alloc),
         returns: Vec::new(alloc),
     };
@@ -239,6 +251,7 @@ fn run(
         let found = trial.run.cpu;
         let stage = trial.monitor.stage;
         trial.turn(&CODE, writes, &OPENING)?;
+        count_call(&mut window, &found)?;
         if stage == Stage::Measuring && trial.run.end.is_none() {
             show(&mut window, map, &found, trial)?;
         }
@@ -452,6 +465,10 @@ fn run_takes_the_path_of_nine_edges(rt: HostRuntime) -> Result<(), Fail> {
     let mut trial = boot(rt.alloc())?;
     let window = run(rt.alloc(), &mut trial, &map, &[], 100_000)?;
     assert_eq!(rt; trial.run.made, 46);
+    assert_eq!(rt;
+        window.calls.as_slice(),
+        [1, 5, 5, 4, 5, 7, 3, 2, 5].as_slice()
+    );
     assert_eq!(rt; trial.monitor.bits.as_slice(), [true].as_slice());
     assert_eq!(rt; trial.monitor.hash, Some(HASH));
     assert_eq!(rt;
