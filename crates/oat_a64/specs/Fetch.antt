@@ -1,4 +1,4 @@
--- The instruction of a word: the one of the A64 base instructions of the device, if any, that the word encodes by the instruction table.
+-- The instruction of a word: the one of the A64 base instructions of the device, if any, that the word encodes by the instruction table (Arm A64 manual).
 use Rattle.std.specs.Prelude.{ℕ, suc, ◌-◌, ◌*◌, ◌^◌, ◌&&◌, nat_eq, nat_lt, Bool, if◌then◌else◌, Option, List, [], ◌∷◌, find, ℤ, pos, negsuc}
 use Rattle.std.specs.List.{list_all}
 use Rattle.oat_bits.specs.Field.{field}

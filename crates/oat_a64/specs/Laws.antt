@@ -1,4 +1,4 @@
--- What holds of the instruction table as a whole.
+-- What holds of the instruction table as a whole (docs/PROMISES.md).
 use Rattle.std.specs.Prelude.{◌≡◌, ℕ, ◌↔◌, Some}
 use Rattle.oat_a64.specs.declared.inst.Inst.{Inst}
 use Rattle.oat_a64.specs.Table.{Word}

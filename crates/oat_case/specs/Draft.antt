@@ -1,4 +1,4 @@
--- A case that is being read, as reading sees it.
+-- A case that is being read, as reading sees it (docs/FORMATS.md).
 use Rattle.oat_case.specs.declared.draft.Draft.{Draft}
 use Rattle.oat_case.specs.Reading.{Given}
 

@@ -1,4 +1,4 @@
--- Which case a text stands for, or else the fault of its first bad line. A line is read with what the lines above it
+-- Which case a text stands for, or else the fault of its first bad line (docs/FORMATS.md). A line is read with what the lines above it
 -- have given; its faults are tested in the order Token, Twice, Range, OutsideData, Order.
 use Rattle.std.specs.Prelude.{◌≡◌, ◌+◌, ◌==◌, ◌&&◌, ℕ, ℤ, Bool, true, false, List, [], ◌∷◌, ◌++◌, length, nat_le, codes, Option, Some, None, is_none, option_map, Result, Ok, Err, if◌then◌else◌}
 use Rattle.std.specs.Option.{ok_or}

@@ -1,4 +1,4 @@
--- The begin record and the addresses for which a Chain stands while addresses come in one by one.
+-- The begin record and the addresses for which a Chain stands while addresses come in one by one (docs/DEFINITIONS.md).
 use Rattle.std.specs.Prelude.{◌≡◌, ℕ, List}
 use Rattle.oat_chain.specs.declared.Chain.{Chain}
 use Rattle.oat_chain.specs.Chain.{chain}

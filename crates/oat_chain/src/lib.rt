@@ -8,8 +8,6 @@ ghost use Rattle.oat_chain.specs.Standing.{StandsFor};
 use sha2::{Digest, Sha256};
 
 mod laws;
-#[cfg(test)]
-mod tests;
 
 pub use laws::{begin_length, chain_length, digest_length};
 
@@ -66,3 +64,6 @@ impl Chain {
         self.value
     }
 }
+
+#[cfg(test)]
+mod tests;

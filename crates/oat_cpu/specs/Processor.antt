@@ -1,4 +1,4 @@
--- The machine that a processor and a memory stand for, in the words of the machine step.
+-- The machine that a processor and a memory stand for, in the words of the machine step (docs/DEFINITIONS.md).
 use Rattle.std.specs.Prelude.{slice_index}
 use Rattle.oat_mem.specs.DataMemory.{Regions, byte_at}
 use Rattle.oat_a64.specs.declared.event.Event.{Event}

@@ -1,4 +1,4 @@
--- The run of the smallest image with a jump (image/Worked), computed by the definitions.
+-- The run of the smallest image with a jump (image/Worked), computed by the definitions (docs/DEFINITIONS.md).
 use Rattle.std.specs.Prelude.{◌≡◌, ℕ, List, [], ◌∷◌, Some, None}
 use Rattle.sha2.specs.Sha256.{sha256}
 use Rattle.oat_chain.specs.Chain.{begin_record}

@@ -7,9 +7,6 @@ ghost use Rattle.oat_hmac.specs.Standing.{StandsFor};
 
 use sha2::{Digest, Sha256};
 
-#[cfg(test)]
-mod tests;
-
 /// The bytes of a block of SHA-256.
 const BLOCK: usize = 64;
 
@@ -87,3 +84,6 @@ impl Mac {
         outer.finalize()
     }
 }
+
+#[cfg(test)]
+mod tests;

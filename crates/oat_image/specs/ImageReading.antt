@@ -1,5 +1,5 @@
 -- What the lines of an image text say, with the first fault of a line, and the image or the fault of a whole
--- text. In a line a wrong word or spacing comes first, then a wrong number, then a count above its limit, then
+-- text (docs/FORMATS.md). In a line a wrong word or spacing comes first, then a wrong number, then a count above its limit, then
 -- an index or address that doesn't rise.
 use Rattle.std.specs.Prelude.{ℕ, Bool, List, length, codes, Option, Some, None, ok_or, Result, Ok, Err, nat_lt, ◌==◌, ◌&&◌, ◌||◌, not, bytes_eq, slice_index, if◌then◌else◌}
 use Rattle.std.specs.List.{list_all}

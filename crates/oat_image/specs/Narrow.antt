@@ -1,5 +1,5 @@
 -- Images of one straight operation: one function, no data, no cells, and rows that only jump, begin and end,
--- one of which begins.
+-- one of which begins (docs/FORMATS.md).
 use Rattle.std.specs.Prelude.{◌≡◌, Bool, true, false, [], length, count_by}
 use Rattle.std.specs.List.{list_all}
 use Rattle.oat_map.specs.declared.row.Row.{Row}

@@ -1,4 +1,4 @@
--- The place that the code holds in a text.
+-- The place that the code holds in a text (docs/DEFINITIONS.md).
 use Rattle.oat_image.specs.declared.text.Text.{Text}
 use Rattle.oat_image.specs.Reading.{Place}
 

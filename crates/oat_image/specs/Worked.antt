@@ -1,4 +1,4 @@
--- The smallest image with a jump, and its text: an operation that jumps to the block behind it, and ends.
+-- The smallest image with a jump, and its text: an operation that jumps to the block behind it, and ends (docs/FORMATS.md).
 use Rattle.std.specs.Prelude.{ℕ, List, [], ◌∷◌, codes, false}
 use Rattle.std.specs.List.{flat_map}
 use Rattle.oat_lines.specs.Fields.{ended}

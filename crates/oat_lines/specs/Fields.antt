@@ -1,4 +1,4 @@
--- Texts with one spelling: each line ends with LF, and one space stands between two words of a line.
+-- Texts with one spelling: each line ends with LF, and one space stands between two words of a line (docs/FORMATS.md).
 use Rattle.std.specs.Prelude.{◌≡◌, ℕ, ◌<◌, Bool, true, List, [], ◌∷◌, ◌++◌, ◌==◌, ◌&&◌, length, nat_lt, Option, Some, None, is_none, option_map, option_and_then, if◌then◌else◌}
 use Rattle.std.specs.List.{list_all}
 

@@ -1,4 +1,4 @@
--- Hexadecimal numbers of texts: a fixed number of upper-case digits, the highest first.
+-- Hexadecimal numbers of texts: a fixed number of upper-case digits, the highest first (docs/FORMATS.md).
 use Rattle.std.specs.Prelude.{ℕ, zero, suc, ◌+◌, ◌/◌, ◌%◌, Bool, ◌&&◌, ◌||◌, List, [], ◌∷◌, ◌++◌, length, Option, Some, None, nat_le, nat_lt, ◌==◌, if◌then◌else◌}
 use Rattle.std.specs.List.{list_all}
 use Rattle.std.specs.Str.Parse.{digits_value}

@@ -1,4 +1,4 @@
--- Reading step by step: the value of each step, or the first fault. These are words of this project's own.
+-- Reading step by step: the value of each step, or the first fault (docs/DEFINITIONS.md). These are words of this project's own.
 use Rattle.std.specs.Prelude.{◌≡◌, ℕ, Bool, true, false, Result, Ok, Err, nat_le, ◌&&◌}
 
 -- the next step, where the one before gave a value

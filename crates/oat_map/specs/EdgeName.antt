@@ -1,5 +1,5 @@
 -- Names of edges, as the lines of a path write them: by functions, blocks and numbers of rows, and
--- not by addresses. A path of a program's source has names of the same kind.
+-- not by addresses (docs/FORMATS.md). A path of a program's source has names of the same kind.
 use Rattle.std.specs.Prelude.{ℕ, Bool, true, false, ◌&&◌, ◌==◌, nat_lt, nat_le, max, List, [], ◌++◌, filter, fold, find, reverse, count_by, Option, None, Some, unwrap_or}
 use Rattle.std.specs.Option.{option_map, option_or, option_and_then}
 use Rattle.oat_map.specs.declared.row.Row.{Row}

@@ -1,4 +1,4 @@
--- What a name is: the form that program texts and image texts give to functions and labels.
+-- What a name is: the form that program texts and image texts give to functions and labels (docs/FORMATS.md).
 use Rattle.std.specs.Prelude.{ℕ, ◌≡◌, ◌≤◌, ◌⊎◌, List, length, slice_index, All}
 use Rattle.std.specs.Char.{IsAsciiAlphanumeric, IsAsciiDigit}
 

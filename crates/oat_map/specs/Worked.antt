@@ -1,4 +1,4 @@
--- Two worked maps, and what the definitions of walks and names say of them.
+-- Two worked maps, and what the definitions of walks and names say of them (docs/DEFINITIONS.md).
 use Rattle.std.specs.Prelude.{ℕ, ◌≡◌, Bool, true, false, List, [], ◌∷◌, map, Option, None, Some, codes}
 use Rattle.oat_map.specs.declared.row.Row.TheVariants.{Jump, Branch, Call, ICall, Ret, Begin, End, UseCell, Check}
 use Rattle.oat_map.specs.declared.edge.Edge.{Edge}

@@ -1,4 +1,4 @@
--- What a turn at an End row answers.
+-- What a turn at an End row answers (docs/DEFINITIONS.md).
 use Rattle.std.specs.Prelude.{ℕ, ◌≡◌}
 use Rattle.oat_map.specs.declared.edge.Edge.TheVariants as edges
 use Rattle.oat_replay.specs.declared.turn.Turn.{Turn}

@@ -1,4 +1,4 @@
--- The rows that a replay can follow by now.
+-- The rows that a replay can follow by now (docs/DEFINITIONS.md).
 use Rattle.std.specs.Prelude.{Bool, true, false, List, IsTrue}
 use Rattle.std.specs.List.{list_all}
 use Rattle.oat_map.specs.declared.row.Row.{Row}

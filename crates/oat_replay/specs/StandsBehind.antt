@@ -1,4 +1,4 @@
--- Which partial walk a replay has made so far, and what each of its turns leads to.
+-- Which partial walk a replay has made so far, and what each of its turns leads to (docs/DEFINITIONS.md).
 use Rattle.std.specs.Prelude.{ℕ, ◌≡◌, ◌+◌, Bool, List, [], ◌∷◌, ◌++◌, length}
 use Rattle.oat_map.specs.declared.edge.Edge.TheVariants as edges
 use Rattle.oat_map.specs.declared.map.Map.{Map}

@@ -1,4 +1,4 @@
--- The lines of a worked path: an operation that calls a helper twice, then another function by its reference, and branches.
+-- The lines of a worked path: an operation that calls a helper twice, then another function by its reference, and branches (docs/FORMATS.md).
 use Rattle.std.specs.Prelude.{◌≡◌, [], ◌∷◌, map, codes}
 use Rattle.oat_map.specs.Worked.{calls_map, calls_path}
 use Rattle.oat_report.specs.PathLine.{line_of}

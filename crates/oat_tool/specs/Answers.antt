@@ -1,4 +1,4 @@
--- What an answer of the program says to its caller: single sentences that follow from what it shows.
+-- What an answer of the program says to its caller: single sentences that follow from what it shows (docs/PROMISES.md).
 use Rattle.std.specs.Prelude.{◌≡◌, ◌⊎◌, ℕ, List, None, Some, Option, Contains}
 use Rattle.oat_world.specs.Outside.{Contents, Adds}
 use Rattle.oat_tool.specs.Outcome.{Outcome}

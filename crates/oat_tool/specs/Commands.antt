@@ -1,4 +1,4 @@
--- What it means that words were read as a request.
+-- What it means that words were read as a request (docs/FORMATS.md).
 use Rattle.std.specs.Prelude.{◌≡◌, ◌≢◌, ℕ, List}
 use Rattle.oat_tool.specs.declared.command.Request.{Request}
 use Rattle.oat_tool.specs.declared.command.Request.TheVariants.{Verify, Usage}

@@ -1,4 +1,4 @@
--- Which outcome is defined for a list of words, from what each file holds alone.
+-- Which outcome is defined for a list of words, from what each file holds alone (docs/DEFINITIONS.md).
 use Rattle.std.specs.Prelude.{◌≡◌, ◌≢◌, ◌⊎◌, ℕ, List, Contains}
 use Rattle.oat_world.specs.Outside.{Contents}
 use Rattle.oat_tool.specs.Outcome.{Outcome}

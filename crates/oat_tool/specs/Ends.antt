@@ -1,4 +1,4 @@
--- How a call puts the outcome that it set out for, over outputs that may fail.
+-- How a call puts the outcome that it set out for, over outputs that may fail (docs/DEFINITIONS.md).
 use Rattle.std.specs.Prelude.{◌≡◌, ℕ, List, [], Option}
 use Rattle.oat_world.specs.Outside.{Adds}
 use Rattle.oat_tool.specs.Outcome.{Outcome, IsPrefix}

@@ -1,4 +1,4 @@
--- How inputs are looked at one after another: the first that fails decides, and else what comes after it.
+-- How inputs are looked at one after another: the first that fails decides, and else what comes after it (docs/DEFINITIONS.md).
 use Rattle.std.specs.Prelude.{◌≡◌}
 use Rattle.oat_tool.specs.Outcome.{Outcome}
 

@@ -1,4 +1,4 @@
--- What the two statuses of a verdict say to the caller of `verify`: what was judged, and that just the report was shown.
+-- What the two statuses of a verdict say to the caller of `verify`: what was judged, and that just the report was shown (docs/PROMISES.md).
 use Rattle.std.specs.Prelude.{◌≡◌, ℕ, List, Option, IsSome}
 use Rattle.oat_world.specs.Outside.{Contents}
 use Rattle.oat_map.specs.Rows.{start}

@@ -1,4 +1,4 @@
--- That words and contents determine the outcome.
+-- That words and contents determine the outcome (docs/PROMISES.md).
 use Rattle.std.specs.Prelude.{◌≡◌, ℕ, List}
 use Rattle.oat_world.specs.Outside.{Contents}
 use Rattle.oat_tool.specs.Outcome.{Outcome}

@@ -1,4 +1,4 @@
--- Loads in the order of the words: each file is held within its limit, or the first that isn't decides.
+-- Loads in the order of the words: each file is held within its limit, or the first that isn't decides (docs/FORMATS.md).
 use Rattle.std.specs.Prelude.{◌≡◌, ◌<◌, ◌≤◌, ◌⊎◌, ℕ, List, length, Some, None, IsSomeAnd}
 use Rattle.oat_world.specs.Outside.{Contents}
 use Rattle.oat_tool.specs.Outcome.{Outcome}

@@ -1,4 +1,4 @@
--- A page of the program as the outcome that it stands for.
+-- A page of the program as the outcome that it stands for (docs/DEFINITIONS.md).
 use Rattle.std.specs.Prelude.{◌≡◌, ◌<◌, ℕ, List, Result, Ok, Err}
 use Rattle.oat_tool.specs.declared.page.Page.{Page}
 use Rattle.oat_tool.specs.declared.page.Status.{Status}

@@ -1,4 +1,4 @@
--- How far a text was put on one output.
+-- How far a text was put on one output (docs/DEFINITIONS.md).
 use Rattle.std.specs.Prelude.{◌≡◌, ◌≤◌, ℕ, List, Option, Result, Ok, Err}
 use Rattle.oat_world.specs.Outside.{Adds, Rose}
 use Rattle.oat_world.specs.declared.sink.SinkFault.{SinkFault}

@@ -1,4 +1,4 @@
--- A stage of work that reads one input: it gives what the text stands for, or stops with its refusal.
+-- A stage of work that reads one input: it gives what the text stands for, or stops with its refusal (docs/DEFINITIONS.md).
 use Rattle.std.specs.Prelude.{◌≡◌, Result, Ok, Err}
 use Rattle.oat_tool.specs.declared.page.Stop.{Stop}
 use Rattle.oat_tool.specs.Outcome.{Outcome}

@@ -1,4 +1,4 @@
--- What `verify` answers to three loaded texts: the first refusal of an input, or the verdict.
+-- What `verify` answers to three loaded texts: the first refusal of an input, or the verdict (docs/FORMATS.md).
 use Rattle.std.specs.Prelude.{◌≡◌, ℕ, List, [], IsSome, codes}
 use Rattle.sha2.specs.Sha256.{sha256}
 use Rattle.oat_map.specs.declared.map.Map.{Map}

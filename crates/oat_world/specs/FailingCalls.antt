@@ -1,4 +1,4 @@
--- Which calls of a stand-in for the outside fail: those whose numbers, counted from 0, are listed.
+-- Which calls of a stand-in for the outside fail: those whose numbers, counted from 0, are listed (docs/DEFINITIONS.md).
 use Rattle.std.specs.Prelude.{◌+◌, ◌-◌, ◌^◌, ℕ, nat_lt, if◌then◌else◌, List, Contains, Option, Some, None, IsSomeAnd, option_and_then}
 
 -- the numbers that fail, and the number of the next call; None where it has more than 64 bits

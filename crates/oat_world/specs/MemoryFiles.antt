@@ -1,4 +1,4 @@
--- What files in memory hold: of two files with one name the first counts.
+-- What files in memory hold: of two files with one name the first counts (docs/DEFINITIONS.md).
 use Rattle.std.specs.Prelude.{ℕ, nat_eq, List, find}
 use Rattle.std.specs.Option.{option_map}
 use Rattle.std.specs.Cmp.Lexicographic.{pointwise}

@@ -1,4 +1,4 @@
--- What a sink in memory holds.
+-- What a sink in memory holds (docs/DEFINITIONS.md).
 use Rattle.std.specs.Prelude.{ℕ, List}
 use Rattle.std.specs.declared.alloc.Global.{Global}
 use Rattle.oat_world.specs.FailingCalls.{Calls}

@@ -1,4 +1,4 @@
--- What files and sinks mean to a caller: contents by name, bytes put, and counts that never fall.
+-- What files and sinks mean to a caller: contents by name, bytes put, and counts that never fall (docs/DEFINITIONS.md).
 use Rattle.std.specs.Prelude.{◌≡◌, ◌≤◌, ◌<◌, ◌+◌, ◌-◌, ◌^◌, ◌⊎◌, ◌++◌, ℕ, min, List, length, take, Option, Some, None, Result, Ok, Err, IsSome, IsSomeAnd}
 use Rattle.std.specs.Option.{option_map}
 use Rattle.std.specs.declared.vec.Vec.{Vec}

@@ -1,4 +1,4 @@
--- What a sink of the system stands on.
+-- What a sink of the system stands on (docs/DEFINITIONS.md).
 use Rattle.std.specs.Prelude.{ℕ}
 
 -- the writer that takes the bytes, and the count of faults
