@@ -41,7 +41,7 @@ reads_back low width word value fits =
 low_bit : (n k rest : ℕ) → bit_at (n % 2 ^ (rest + (1 + k))) k ≡ bit_at n k
 low_bit n k rest = sym (field_of (n % 2 ^ (rest + (1 + k))) 1 k) ∙ ap (λ m. m / 2 ^ k) (mod-mod-pow n rest (1 + k)) ∙ field_of n 1 k
 
-low_bits : (low n m k : ℕ) → k < low → n % 2 ^ low ≡ m % 2 ^ low → bit_at n k ≡ bit_at m k
+pub low_bits : (low n m k : ℕ) → k < low → n % 2 ^ low ≡ m % 2 ^ low → bit_at n k ≡ bit_at m k
 low_bits low n m k under same =
     let place : low ≡ (low - (1 + k)) + (1 + k) = omega arith in
     let bit : (x : ℕ) → bit_at (x % 2 ^ low) k ≡ bit_at x k = λ x. subst (λ (p : ℕ). bit_at (x % 2 ^ p) k ≡ bit_at x k) (sym place) (low_bit x k (low - (1 + k))) in

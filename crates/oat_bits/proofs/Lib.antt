@@ -1,1 +1,4 @@
 pub mod FieldLemmas
+pub mod PackedForm
+pub mod OnePackedForm
+pub mod Filling

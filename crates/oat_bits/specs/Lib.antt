@@ -1,1 +1,5 @@
 pub mod Field
+pub mod Packed
+pub mod Bits
+pub mod PackedLaws
+pub mod Held
