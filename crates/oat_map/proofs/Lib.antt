@@ -1,3 +1,5 @@
 pub mod RowLemmas
+pub mod StackLemmas
+pub mod TargetLemmas
 pub mod WalkLemmas
 pub mod WorkedLemmas

@@ -1,14 +1,18 @@
 -- Rows in the order of their addresses, and the row next behind an address.
-use Rattle.std.proofs.Common.{◌≡◌, ℕ, zero, suc, ◌+◌, ◌-◌, ◌<◌, ◌≤◌, Bool, true, false, List, [], ◌∷◌, length, map, get_or, Some, refl, sym, ap, subst, ◌∙◌, inl, inr, arith, cond, position}
+use Rattle.std.proofs.Common.{◌≡◌, ℕ, zero, suc, ◌+◌, ◌-◌, ◌<◌, ◌≤◌, Bool, true, false, List, [], ◌∷◌, length, map, get_or, None, Some, refl, sym, ap, subst, ◌∙◌, inl, inr, arith, cond, position}
 use Rattle.std.specs.List.{slice_get, position_or_len, find}
 use Rattle.std.specs.Option.{option_and_then}
-use Rattle.std.specs.Prelude.{nat_le}
-use Rattle.std.proofs.lemmas.Bool.{cases_lt, lt-ltb, le-ltb, leb-true, leb-false}
+use Rattle.std.specs.Prelude.{nat_le, nat_lt}
+use Rattle.std.specs.List.Sorted.{IsPartitionedBy, IsPartitionPoint, IsNonDecreasingBy}
+use Rattle.std.proofs.lemmas.Bool.{cases_lt, lt-ltb, le-ltb, le-leb, lt-leb, ltb-true, ltb-false, leb-true, leb-false}
 use Rattle.std.proofs.lemmas.List.{get_or_default, get_or-map, length-map}
 use Rattle.std.proofs.lemmas.List.Folds.{find_at}
+use Rattle.std.proofs.lemmas.List.Sorted.{IsPartitionedBy-ltb}
+use Rattle.std.proofs.lemmas.List.Sums.{position_or_len_is}
 use Rattle.std.proofs.lemmas.List.Kept.{AllPairs-from_increasing}
 use Rattle.std.proofs.lemmas.Option.{slice_get_past}
 use Rattle.oat_map.specs.declared.row.Row.{Row}
+use Rattle.oat_map.specs.declared.row.Row.TheVariants.{Jump}
 use Rattle.oat_map.specs.Rows.{address_of, next, IsOrdered, NextIsLowest}
 
 -- the rows' addresses rise up to row number i
@@ -114,3 +118,39 @@ next_lowest rows place lowest ordered found =
                 ]
           ],
     )
+
+IsNonDecreasingBy-rows : (rows : List Row) → IsOrdered rows → IsNonDecreasingBy address_of rows
+IsNonDecreasingBy-rows rows ordered i j d before within =
+    elim (cases_lt i j) [
+      | inl less ↦
+          let many : j < length (map address_of rows) = rw length-map within in
+          let rises = AllPairs-from_increasing (map address_of rows) ordered i j 0 less many in
+          let rises' = rw (get_or-map address_of rows i d 0 (omega arith), get_or-map address_of rows j d 0 within) at rises in
+          omega arith
+      | inr not_less ↦
+          let same : i ≡ j = omega arith in
+          rw same (omega arith)
+    ]
+
+-- ordered rows are parted by a place: those below it stand first
+pub rows_parted : (rows : List Row) (place : ℕ) → IsOrdered rows → IsPartitionedBy (λ row. nat_lt (address_of row) place) rows
+rows_parted rows place ordered = IsPartitionedBy-ltb address_of rows place (IsNonDecreasingBy-rows rows ordered)
+
+-- where the rows below the place end, the row next at or above it stands
+module _ (rows : List Row) (place index : ℕ) (bound : index ≤ length rows)
+    (point : IsPartitionPoint (λ row. nat_lt (address_of row) place ≡ true) (λ row. nat_lt (address_of row) place ≡ false) rows index) where
+  position_at_point : position_or_len (λ row. nat_le place (address_of row)) rows ≡ index
+  position_at_point =
+      position_or_len_is (λ row. nat_le place (address_of row)) rows index (Jump 0 0) bound
+      (λ k below.
+      let less : address_of (get_or rows k (Jump 0 0)) < place = ltb-true _ _ (point.0 k (Jump 0 0) (omega arith) below) in
+      lt-leb _ _ less)
+      (λ within.
+      let at_least : place ≤ address_of (get_or rows index (Jump 0 0)) = ltb-false _ _ (point.1 index (Jump 0 0) (omega arith) within) in
+      le-leb _ _ at_least)
+
+  pub found_at_point : index < length rows → Some index ≡ position (λ row. nat_le place (address_of row)) rows
+  found_at_point within = rw (position_at_point, lt-ltb index (length rows) within) refl
+
+  pub none_at_point : length rows ≤ index → None ≡ position (λ row. nat_le place (address_of row)) rows
+  none_at_point past = rw (position_at_point, le-ltb index (length rows) past) refl

@@ -1,5 +1,6 @@
 pub mod EdgeName
 pub mod Name
 pub mod Rows
+pub mod Stack
 pub mod Walk
 pub mod Worked

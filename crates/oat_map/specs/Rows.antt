@@ -1,7 +1,7 @@
 -- The rows of a control-flow map: the words of their groups (one A64 instruction each, 4 bytes as
 -- the Arm A64 manual has it), the address behind a group, and the row that stands next behind an
 -- address. Addresses are numbers of 64 bits, and their sums are taken modulo 2 ^ 64.
-use Rattle.std.specs.Prelude.{ℕ, ◌≡◌, ◌+◌, ◌*◌, ◌%◌, ◌^◌, ◌≤◌, Bool, true, false, ◌==◌, List, map, find, nat_le, Option, Some, Contains}
+use Rattle.std.specs.Prelude.{ℕ, ◌≡◌, ◌+◌, ◌*◌, ◌%◌, ◌^◌, ◌≤◌, Bool, true, false, ◌==◌, ◌&&◌, List, map, find, nat_le, Option, Some, Contains}
 use Rattle.std.specs.Option.{option_map}
 use Rattle.std.specs.List.Sorted.{IsStrictlyIncreasing}
 use Rattle.oat_map.specs.declared.row.Row.{Row}
@@ -76,3 +76,7 @@ pub record IsIndirectTarget (functions : List Function) (params target : ℕ) : 
   pub entry : function.entry ≡ target
   pub same_params : function.params ≡ params
   pub referenced : function.referenced ≡ true
+
+-- whether the function has its entry there, and may be called by an indirect call with so many parameters
+abbrev pub is_called_at : ℕ → ℕ → Function → Bool
+is_called_at params target function = (function.entry == target) && (function.params == params) && function.referenced

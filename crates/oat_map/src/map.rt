@@ -1,5 +1,6 @@
-ghost use Rattle.std.specs.Prelude.{◌≡◌, position, nat_le};
-ghost use Rattle.oat_map.specs.Rows.{address_of};
+ghost use Rattle.std.specs.Prelude.{◌≡◌, position, nat_le, IsTrue};
+ghost use Rattle.std.specs.List.{list_any};
+ghost use Rattle.oat_map.specs.Rows.{address_of, is_called_at, IsOrdered};
 
 use crate::name::Name;
 use crate::row::Row;
@@ -29,9 +30,9 @@ pub struct Map {
 }
 
 impl Map {
-    ghost use Rattle.std.specs.Prelude.{◌↔◌, IsTrue, slice_get};
+    ghost use Rattle.std.specs.Prelude.{◌↔◌, slice_get};
     ghost use Rattle.std.specs.Option.{option_and_then};
-    ghost use Rattle.oat_map.specs.Rows.{IsOrdered, next, start};
+    ghost use Rattle.oat_map.specs.Rows.{next, start, IsIndirectTarget};
 
     /// Whether the rows' addresses rise strictly.
     pub fn ordered(&self) -> bool
@@ -55,6 +56,16 @@ impl Map {
         row_index(self.rows.as_slice(), t)
     }
 
+    /// Whether an indirect call with this number of parameters may lead to an address.
+    ///
+    /// Where the entries rise, a `true` takes a binary search; a `false` takes a look at all functions.
+    pub fn is_indirect_target(&self, params: u8, target: u64) -> bool
+        ensures { IsTrue result ↔ IsIndirectTarget self.now.functions params target }
+    {
+        let functions = self.functions.as_slice();
+        is_found_in_order(functions, params, target) || any_called_at(functions, params, target)
+    }
+
     /// Where an operation starts: behind its Begin row; None where it has none.
     pub fn start(&self, op: u16) -> Option<u64>
         ensures { result ≡ start self.now.rows op }
@@ -68,7 +79,38 @@ impl Map {
 }
 
 fn row_index(rows: &[Row], t: u64) -> Option<usize>
+    requires { IsOrdered rows.now }
     ensures { result ≡ position (λ row. nat_le t (address_of row)) rows.now }
 {
-    rows.iter().position(|row| row.address() >= t)
+    let index = rows.partition_point(|row| row.address() < t);
+    if index < rows.len() {
+        Some(index)
+    } else {
+        None
+    }
+}
+
+/// Looks at the one place where the target's function stands if the entries rise.
+fn is_found_in_order(functions: &[Function], params: u8, target: u64) -> bool
+    ensures { IsTrue result → IsTrue (list_any (is_called_at params target) functions.now) }
+{
+    let place = functions.partition_point(|function| function.entry < target);
+    if place >= functions.len() {
+        return false;
+    }
+    is_called_at(params, target, &functions[place])
+}
+
+fn any_called_at(functions: &[Function], params: u8, target: u64) -> bool
+    ensures { result ≡ list_any (is_called_at params target) functions.now }
+{
+    functions
+        .iter()
+        .any(|function| is_called_at(params, target, function))
+}
+
+fn is_called_at(params: u8, target: u64, function: &Function) -> bool
+    ensures { result ≡ is_called_at params target function.now }
+{
+    function.entry == target && function.params == params && function.referenced
 }

@@ -1,4 +1,4 @@
-use crate::{Map, Name, Row};
+use crate::{Function, Map, Name, Row};
 use oat_list::Listed;
 use std::test::Fail;
 
@@ -45,5 +45,36 @@ fn next_row_is_at_or_above(rt: HostRuntime) -> Result<(), Fail> {
     assert_eq!(rt; map.next_row(0x10009), Some(2));
     assert_eq!(rt; map.next_row(0x1001D), None);
     assert_eq!(rt; rows[1].after(), 0x1001C);
+    Ok(())
+}
+
+#[test]
+fn an_indirect_target_is_a_referenced_entry(rt: HostRuntime) -> Result<(), Fail> {
+    let functions = [(0x10008, 1, true), (0x10084, 0, false), (0x10000, 1, true)];
+    let mut listed = Vec::new(rt.alloc());
+    for (entry, params, referenced) in functions {
+        let name = Name::new(b"called").ok_or("no name")?;
+        listed.push(Function {
+            entry,
+            name,
+            params,
+            referenced,
+        })?;
+    }
+    let map = Map {
+        functions: Listed::from_vec(listed),
+        blocks: Listed::from_vec(Vec::new(rt.alloc())),
+        rows: Listed::from_vec(Vec::new(rt.alloc())),
+    };
+    let calls = [
+        (1, 0x10008, true),
+        (0, 0x10008, false),
+        (0, 0x10084, false),
+        (1, 0x10000, true),
+        (1, 0x1000C, false),
+    ];
+    for (params, target, allowed) in calls {
+        assert_eq!(rt; map.is_indirect_target(params, target), allowed);
+    }
     Ok(())
 }

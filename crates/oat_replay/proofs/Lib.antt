@@ -1,4 +1,5 @@
+pub mod OneAnswer
+pub mod OneStuck
 pub mod ReplayLemmas
-pub mod SentLemmas
 pub mod TurnLemmas
 pub mod WalkSoFar

@@ -15,7 +15,7 @@ use Rattle.oat_replay.specs.declared.cause.ReplayCause.{ReplayCause}
 use Rattle.oat_replay.specs.Replay.{IsWalked, Follows, Stops, StopsEnd, no_target, bad_target, wrong_end, end_inside, unused_bits, unused_targets, OneWalk, NeverBoth}
 
 -- of two that follow the same records, the longer one goes on where the shorter one leads
-Follows-continues : (flow : Map) (op : ℕ) (bits : List Bool) (targets : List ℕ) (xs ys : List Step) (to other : ℕ)
+pub Follows-continues : (flow : Map) (op : ℕ) (bits : List Bool) (targets : List ℕ) (xs ys : List Step) (to other : ℕ)
     (b c : List Bool) (t u : List ℕ)
     → Follows flow op bits targets xs to b t → Follows flow op bits targets ys other c u
     → length xs ≤ length ys → Continues flow [] xs to ys other
@@ -82,7 +82,7 @@ stops_longest flow op bits targets steps place b t cause follows stops others ot
     ]
 
 -- at an End row no step follows
-at_end : (flow : Map) (steps : List Step) (place at op : ℕ) (rest : List Step) (other : ℕ)
+pub at_end : (flow : Map) (steps : List Step) (place at op : ℕ) (rest : List Step) (other : ℕ)
     → next flow.rows place ≡ Some (End at op) → Leads flow steps place rest other → rest ≡ []
 at_end flow steps place at op [] other ends leads = refl
 at_end flow steps place at op (step ∷ rest) other ends (middle, (row, at_row, goes), leads) =

@@ -1,4 +1,3 @@
 pub mod EndTurn
-pub mod Plain
 pub mod Replay
 pub mod StandsBehind

@@ -78,6 +78,12 @@ abbrev pub OneWalk : Type 0
 OneWalk = (flow : Map) (op : ℕ) (bits : List Bool) (targets : List ℕ) (one two : List Edge)
     → IsWalked flow op bits targets one → IsWalked flow op bits targets two → one ≡ two
 
+-- replays of the same records get stuck for one cause, at one turn
+abbrev pub OneCause : Type 0
+OneCause = (flow : Map) (op : ℕ) (bits : List Bool) (targets : List ℕ) (cause other : ReplayCause) (turn next_turn : ℕ)
+    → GetsStuck flow op bits targets cause turn → GetsStuck flow op bits targets other next_turn
+    → (cause ≡ other) × (turn ≡ next_turn)
+
 -- where a path is walked, nothing gets stuck
 abbrev pub NeverBoth : Type 0
 NeverBoth = (flow : Map) (op : ℕ) (bits : List Bool) (targets : List ℕ) (path : List Edge) (cause : ReplayCause) (turn : ℕ)

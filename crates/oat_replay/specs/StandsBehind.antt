@@ -1,8 +1,11 @@
 -- Which partial walk a replay has made so far, and what each of its turns leads to (docs/DEFINITIONS.md).
-use Rattle.std.specs.Prelude.{ℕ, ◌≡◌, ◌+◌, Bool, List, [], ◌∷◌, ◌++◌, length}
+use Rattle.std.specs.Prelude.{ℕ, ◌≡◌, ◌+◌, Bool, List, [], ◌∷◌, ◌++◌, length, Some}
 use Rattle.oat_map.specs.declared.edge.Edge.TheVariants as edges
 use Rattle.oat_map.specs.declared.map.Map.{Map}
-use Rattle.oat_map.specs.Walk.{Step, passed, moved, path_of, bits_of, targets_of, depth}
+use Rattle.oat_map.specs.declared.row.Row.{Row}
+use Rattle.oat_map.specs.Rows.{next}
+use Rattle.oat_map.specs.Stack.{IsStack}
+use Rattle.oat_map.specs.Walk.{Step, passed, moved, path_of, bits_of, targets_of, Walk}
 use Rattle.oat_replay.specs.declared.cause.WalkFault.{WalkFault}
 use Rattle.oat_replay.specs.declared.cause.WalkFault.TheVariants as faults
 use Rattle.oat_replay.specs.declared.replay.Replay.{Replay}
@@ -20,7 +23,7 @@ pub record StandsBehind (flow : Map) (op : ℕ) (bits : List Bool) (targets : Li
   pub turns_made : replay.turns ≡ length steps
   pub bits_used : replay.bits_used ≡ length (bits_of (path_of steps))
   pub targets_used : replay.targets_used ≡ length (targets_of (path_of steps))
-  pub no_calls : depth steps ≡ 0
+  pub open_calls : IsStack steps replay.stack.items
 
 -- what a turn of a replay behind these steps answers, and where the replay stands then
 abbrev pub Turns : Map → ℕ → List Bool → List ℕ → List Step → Replay → Turn → Type 0
@@ -28,9 +31,21 @@ Turns flow op bits targets steps new (Moved edge) = StandsBehind flow op bits ta
 Turns flow op bits targets steps new Passed = StandsBehind flow op bits targets new (steps ++ passed ∷ [])
 Turns flow op bits targets steps new (Done edge) =
     StandsBehind flow op bits targets new steps × (edge ≡ edges.End op)
-    × IsWalked flow op bits targets (path_of (steps ++ moved edge ∷ []))
+    × IsWalked flow op bits targets (path_of (steps ++ moved edge ∷ [])) × Walk flow op (steps ++ moved edge ∷ [])
 Turns flow op bits targets steps new (Stuck cause) =
     StandsBehind flow op bits targets new steps × GetsStuck flow op bits targets cause (length steps + 1)
+
+-- the same, where the replay stands at this row
+abbrev pub TurnsAt : Row → List Bool → List ℕ → Replay → Replay → Turn → Type 0
+TurnsAt row bits targets old new turn =
+    (flow : Map) (op : ℕ) (steps : List Step) → StandsBehind flow op bits targets old steps
+    → next flow.rows old.place ≡ Some row → Turns flow op bits targets steps new turn
+
+-- turns of replays behind the same steps answer the same: so a turn that is done or stuck, and leaves
+-- the replay where it stood, would be answered the same again
+abbrev pub OneAnswer : Type 0
+OneAnswer = (flow : Map) (op : ℕ) (bits : List Bool) (targets : List ℕ) (steps : List Step) (one two : Replay) (answer other : Turn)
+    → Turns flow op bits targets steps one answer → Turns flow op bits targets steps two other → answer ≡ other
 
 -- a walk that fails gets stuck as told, or finds no memory
 abbrev pub WalkFails : Map → ℕ → List Bool → List ℕ → WalkFault → Type 0

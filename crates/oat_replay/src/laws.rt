@@ -1,6 +1,7 @@
 //! Laws of the definitions.
 
-ghost use Rattle.oat_replay.specs.Replay.{OneWalk, NeverBoth};
+ghost use Rattle.oat_replay.specs.Replay.{NeverBoth, OneCause, OneWalk};
+ghost use Rattle.oat_replay.specs.StandsBehind.{OneAnswer};
 
 /// Records are those of one walk at most.
 pub fn one_walk()
@@ -10,4 +11,14 @@ pub fn one_walk()
 /// A replay doesn't get stuck where there is a walk.
 pub fn never_both()
     ensures { NeverBoth }
+{}
+
+/// A replay gets stuck for one cause, at one turn.
+pub fn one_cause()
+    ensures { OneCause }
+{}
+
+/// A turn of a replay has one answer.
+pub fn one_answer()
+    ensures { OneAnswer }
 {}

@@ -1,7 +1,6 @@
 ghost use Rattle.std.specs.Prelude.{◌≡◌, List, IfOk, IfErr, IsSome};
 ghost use Rattle.oat_map.specs.declared.edge.Edge.{Edge};
 ghost use Rattle.oat_map.specs.Rows.{IsOrdered, start};
-ghost use Rattle.oat_replay.specs.Plain.{IsPlain};
 ghost use Rattle.oat_replay.specs.Replay.{IsWalked};
 ghost use Rattle.oat_replay.specs.StandsBehind.{WalkFails};
 
@@ -16,14 +15,15 @@ use std::alloc::Global;
 pub fn walk<R: Records>(alloc: Global, map: &Map, op: u16, records: &R) -> Result<Path, WalkFault>
     requires ordered { IsOrdered map.now.rows }
     requires begun { IsSome (start map.now.rows op) }
-    requires plain { IsPlain map.now.rows }
 
     ensures walks { IfOk result (IsWalked map.now op (R.bits records.now) (R.targets records.now)) }
     ensures only { IfOk result (λ path. (other : List Edge)
         → IsWalked map.now op (R.bits records.now) (R.targets records.now) other → other ≡ path) }
     ensures stuck { IfErr result (WalkFails map.now op (R.bits records.now) (R.targets records.now)) }
 {
-    let mut replay = Replay::new(map, op);
+    let Ok(mut replay) = Replay::new(alloc, map, op) else {
+        return Err(WalkFault::Memory);
+    };
     let mut path = Vec::new(alloc);
     for turn in 1..PATH_LIMIT + 2 {
         match replay.turn(records) {

@@ -7,7 +7,7 @@ use Rattle.oat_replay.proofs.path.walk.Goals as goal
 use Rattle.oat_replay.proofs.path.walk.Goals.{in-Moved+else-is_err, in-Passed}
 
 pub loop-turn-init : goal.loop-turn-init
-loop-turn-init g c = record { steps = []; behind = c.new-replay.ensures _ _; path_is = c.new-path.ensures.items; turn_is = refl }
+loop-turn-init g c = record { steps = []; behind = c.in-Ok.ensures _ _; path_is = c.new-path.ensures.items; turn_is = refl }
 
 pub loop-turn-preserved : goal.loop-turn-preserved
 loop-turn-preserved g c =
