@@ -1,5 +1,9 @@
 pub mod Parts
-pub mod PackedBits
+pub mod Joined
+pub mod Fixed
+pub mod Counted
 pub mod OneLayout
 pub mod Reading
 pub mod Plain
+pub mod Form
+pub mod Sealed

@@ -1,16 +1,20 @@
 -- The layout of a blob determines its body and its MAC, whatever stands behind it.
-use Rattle.std.proofs.Common.{◌≡◌, ℕ, ◌<◌, ◌^◌, List, [], ◌++◌, Option, Some, None, length, drop, get_or, refl, ap, sym, ◌∙◌, arith, append_assoc}
-use Rattle.std.proofs.lemmas.List.{append-nil, append_cancel_left}
+use Rattle.std.proofs.Common.{◌≡◌, ℕ, ◌<◌, ◌^◌, Bool, List, [], ◌++◌, Option, Some, None, length, drop, get_or, refl, ap, sym, ◌∙◌, arith, append_assoc}
+use Rattle.std.proofs.lemmas.List.{append-nil}
 use Rattle.std.specs.Prelude.{IfSome}
 use Rattle.std.specs.Int.{w16, w32, w64, to_be_bytes}
 use Rattle.std.specs.List.{flat_map}
+use Rattle.oat_blob.specs.declared.body.BodyHead.{BodyHead}
 use Rattle.oat_blob.specs.declared.body.Violation.{Violation}
-use Rattle.oat_blob.specs.Body.{AreBytes, Body, IsBody, IsViolation}
-use Rattle.oat_blob.specs.Packed.{packed}
+use Rattle.oat_blob.specs.Body.{AreBytes, IsViolation}
+use Rattle.oat_bits.specs.Packed.{packed}
+use Rattle.oat_bits.proofs.OnePackedForm.{packed-one}
 use Rattle.oat_blob.specs.Layout.{bits_part, covered_of, opening, targets_part, violation_part}
 use Rattle.oat_blob.specs.Laws.{NoProperPrefix, OneBody}
-use Rattle.oat_blob.proofs.Parts.{behind, bytes_part, listed_parts, number_part_16, number_part_32, number_part_64}
-use Rattle.oat_blob.proofs.PackedBits.{packed-one}
+use Rattle.oat_blob.specs.Parts.{AreFewBits, AreFewTargets, IfViolation, IsBelow, IsHead, IsOpening, head_part, plain_part}
+use Rattle.oat_blob.specs.Shown.{IsWhole, Shown, blob_part}
+use Rattle.oat_blob.proofs.Parts.{IsPart, behind, bytes_part, fixed_part, listed_parts, number_part_16, number_part_32, number_part_64}
+use Rattle.oat_blob.proofs.Joined.{IsRecoded, joined_fits, joined_one, joined_part}
 
 violation-one : (x y : Option Violation) (r s : List ℕ) → IfSome x IsViolation → IfSome y IsViolation → violation_part x ++ r ≡ violation_part y ++ s → (x ≡ y) × (r ≡ s)
 violation-one None None r s of_x of_y same = (refl, ap (drop 1) same)
@@ -23,60 +27,174 @@ violation-one (Some x) (Some y) r s of_x of_y same =
     let found = number_part_64.one x.found y.found r s of_x.found of_y.found expected.1 in
     (λ i. Some (record { cell = cell.0 i; expected = expected.0 i; found = found.0 i }), found.1)
 
-counted_bits-one : (a b : Body) (r s : List ℕ) → IsBody a → IsBody b → bits_part a.bits ++ r ≡ bits_part b.bits ++ s → (a.bits ≡ b.bits) × (r ≡ s)
-counted_bits-one a b r s of_a of_b same =
-    let count = behind (to_be_bytes w32) (λ n. n < 2 ^ 32) number_part_32 (length a.bits) (length b.bits) (packed a.bits) (packed b.bits) r s of_a.bits of_b.bits same in
-    packed-one a.bits b.bits r s count.0 count.1
+pub violation_one : IsPart violation_part IfViolation
+violation_one = record { one = violation-one }
 
-counted_targets-one : (a b : Body) (r s : List ℕ) → IsBody a → IsBody b → targets_part a.targets ++ r ≡ targets_part b.targets ++ s → (a.targets ≡ b.targets) × (r ≡ s)
-counted_targets-one a b r s of_a of_b same =
-    let count = behind (to_be_bytes w32) (λ n. n < 2 ^ 32) number_part_32 (length a.targets) (length b.targets) (flat_map (to_be_bytes w64) a.targets) (flat_map (to_be_bytes w64) b.targets) r s of_a.targets of_b.targets same in
-    listed_parts (to_be_bytes w64) (λ n. n < 2 ^ 64) number_part_64 a.targets b.targets r s count.0 of_a.addresses of_b.addresses count.1
+bits-one : (a b : List Bool) (r s : List ℕ) → AreFewBits a → AreFewBits b → bits_part a ++ r ≡ bits_part b ++ s → (a ≡ b) × (r ≡ s)
+bits-one a b r s of_a of_b same =
+    let count = behind (to_be_bytes w32) (λ n. n < 2 ^ 32) number_part_32 (length a) (length b) (packed a) (packed b) r s of_a of_b same in
+    packed-one a b r s count.0 count.1
 
--- the parts from the operation on, and what stands behind them
-abbrev parts_of : Body → List ℕ → List ℕ
-parts_of body rest = to_be_bytes w16 body.head.op ++ (body.head.nonce ++ (body.head.digest ++ (body.head.hash ++ (violation_part body.head.violation ++ (bits_part body.bits ++ (targets_part body.targets ++ rest))))))
+pub bits_one : IsPart bits_part AreFewBits
+bits_one = record { one = bits-one }
 
-regrouped : (a b c d e f g r : List ℕ) → (a ++ (b ++ (c ++ (d ++ (e ++ (f ++ g)))))) ++ r ≡ a ++ (b ++ (c ++ (d ++ (e ++ (f ++ (g ++ r))))))
-regrouped a b c d e f g r = simp append_assoc
+targets-one : (a b : List ℕ) (r s : List ℕ) → AreFewTargets a → AreFewTargets b → targets_part a ++ r ≡ targets_part b ++ s → (a ≡ b) × (r ≡ s)
+targets-one a b r s of_a of_b same =
+    let count = behind (to_be_bytes w32) (λ n. n < 2 ^ 32) number_part_32 (length a) (length b) (flat_map (to_be_bytes w64) a) (flat_map (to_be_bytes w64) b) r s of_a.few of_b.few same in
+    listed_parts (to_be_bytes w64) (λ n. n < 2 ^ 64) number_part_64 a b r s count.0 of_a.addresses of_b.addresses count.1
 
-covered-parts : (body : Body) (rest : List ℕ) → covered_of body ++ rest ≡ opening ++ parts_of body rest
+pub targets_one : IsPart targets_part AreFewTargets
+targets_one = record { one = targets-one }
+
+pub opening_one : IsPart plain_part IsOpening
+opening_one = fixed_part plain_part IsOpening 5 (λ bytes opens. ap length opens) (λ x y of_x of_y same. same)
+
+recoded_one : {X Y : Type 0} (first : X → List ℕ) (fa : X → Type 0) (second : Y → List ℕ) (fb : Y → Type 0) (to : X → Y) (from : Y → X)
+    → IsRecoded first fa second fb to from → ((y : Y) → to (from y) ≡ y) → IsPart first fa → IsPart second fb
+recoded_one {X} {Y} first fa second fb to from code back part = record { one = both } where
+  both : (x y : Y) (r s : List ℕ) → fb x → fb y → second x ++ r ≡ second y ++ s → (x ≡ y) × (r ≡ s)
+  both x y r s of_x of_y same =
+      let one = part.one (from x) (from y) r s (code.from_fits x of_x) (code.from_fits y of_y)
+      (sym (ap (λ xs. xs ++ r) (code.from_same x of_x)) ∙ (same ∙ ap (λ xs. xs ++ s) (code.from_same y of_y))) in
+      (sym (back x) ∙ (ap to one.0 ∙ back y), one.1)
+
+-- ---- a head, part by part
+
+abbrev pub hash_part : List ℕ × Option Violation → List ℕ
+hash_part = joined_part plain_part violation_part
+
+abbrev pub HashFits : List ℕ × Option Violation → Type 0
+HashFits = joined_fits (AreBytes 32) (λ _. IfViolation)
+
+abbrev pub digest_part : List ℕ × (List ℕ × Option Violation) → List ℕ
+digest_part = joined_part plain_part hash_part
+
+abbrev pub DigestFits : List ℕ × (List ℕ × Option Violation) → Type 0
+DigestFits = joined_fits (AreBytes 32) (λ _. HashFits)
+
+abbrev pub nonce_part : List ℕ × (List ℕ × (List ℕ × Option Violation)) → List ℕ
+nonce_part = joined_part plain_part digest_part
+
+abbrev pub NonceFits : List ℕ × (List ℕ × (List ℕ × Option Violation)) → Type 0
+NonceFits = joined_fits (AreBytes 16) (λ _. DigestFits)
+
+abbrev pub op_part : ℕ × (List ℕ × (List ℕ × (List ℕ × Option Violation))) → List ℕ
+op_part = joined_part (to_be_bytes w16) nonce_part
+
+abbrev pub OpFits : ℕ × (List ℕ × (List ℕ × (List ℕ × Option Violation))) → Type 0
+OpFits = joined_fits (IsBelow 16) (λ _. NonceFits)
+
+abbrev pub Fields : Type 0
+Fields = List ℕ × (ℕ × (List ℕ × (List ℕ × (List ℕ × Option Violation))))
+
+abbrev pub fields_part : Fields → List ℕ
+fields_part = joined_part plain_part op_part
+
+abbrev pub FieldsFit : Fields → Type 0
+FieldsFit = joined_fits IsOpening (λ _. OpFits)
+
+abbrev pub head_of : Fields → BodyHead
+head_of p = record { op = p.1.0; nonce = p.1.1.0; digest = p.1.1.1.0; hash = p.1.1.1.1.0; violation = p.1.1.1.1.1 }
+
+abbrev pub fields_of : BodyHead → Fields
+fields_of head = (opening, (head.op, (head.nonce, (head.digest, (head.hash, head.violation)))))
+
+pub head_fields : IsRecoded fields_part FieldsFit head_part IsHead head_of fields_of
+head_fields = record {
+  to_fits = λ p fits. record { op = fits.1.0; nonce = fits.1.1.0; digest = fits.1.1.1.0; hash = fits.1.1.1.1.0; violation = fits.1.1.1.1.1 };
+  to_same = λ p fits. ap (λ xs. xs ++ op_part p.1) fits.0;
+  from_fits = λ head fits. (refl, (fits.op, (fits.nonce, (fits.digest, (fits.hash, fits.violation)))));
+  from_same = λ head fits. refl;
+}
+
+pub head_one : IsPart head_part IsHead
+head_one =
+    recoded_one fields_part FieldsFit head_part IsHead head_of fields_of head_fields (λ head. refl)
+    (joined_one plain_part op_part IsOpening OpFits opening_one
+    (joined_one (to_be_bytes w16) nonce_part (IsBelow 16) NonceFits number_part_16
+    (joined_one plain_part digest_part (AreBytes 16) DigestFits (bytes_part 16)
+    (joined_one plain_part hash_part (AreBytes 32) HashFits (bytes_part 32)
+    (joined_one plain_part violation_part (AreBytes 32) IfViolation (bytes_part 32) violation_one)))))
+
+-- ---- a blob, part by part
+
+abbrev pub end_part : List ℕ × List ℕ → List ℕ
+end_part = joined_part targets_part plain_part
+
+abbrev pub EndFits : List ℕ × List ℕ → Type 0
+EndFits = joined_fits AreFewTargets (λ _. AreBytes 32)
+
+abbrev pub records_part : List Bool × (List ℕ × List ℕ) → List ℕ
+records_part = joined_part bits_part end_part
+
+abbrev pub RecordsFit : List Bool × (List ℕ × List ℕ) → Type 0
+RecordsFit = joined_fits AreFewBits (λ _. EndFits)
+
+abbrev pub Pieces : Type 0
+Pieces = BodyHead × (List Bool × (List ℕ × List ℕ))
+
+abbrev pub pieces_part : Pieces → List ℕ
+pieces_part = joined_part head_part records_part
+
+abbrev pub PiecesFit : Pieces → Type 0
+PiecesFit = joined_fits IsHead (λ _. RecordsFit)
+
+abbrev pub shown_of : Pieces → Shown
+shown_of p = record { body = record { head = p.0; bits = p.1.0; targets = p.1.1.0 }; mac = p.1.1.1 }
+
+abbrev pub pieces_of : Shown → Pieces
+pieces_of shown = (shown.body.head, (shown.body.bits, (shown.body.targets, shown.mac)))
+
+regrouped : (a b c d e f g h m : List ℕ) → (a ++ (b ++ (c ++ (d ++ (e ++ f))))) ++ (g ++ (h ++ m)) ≡ (a ++ (b ++ (c ++ (d ++ (e ++ (f ++ (g ++ h))))))) ++ m
+regrouped a b c d e f g h m = simp append_assoc
+
+spelled : (shown : Shown) → pieces_part (pieces_of shown) ≡ blob_part shown
 unfolding covered_of
-covered-parts body rest = ap (λ xs. opening ++ xs) (regrouped (to_be_bytes w16 body.head.op) body.head.nonce body.head.digest body.head.hash (violation_part body.head.violation) (bits_part body.bits) (targets_part body.targets) rest)
+spelled shown =
+    let head = shown.body.head in
+    regrouped opening (to_be_bytes w16 head.op) head.nonce head.digest head.hash (violation_part head.violation) (bits_part shown.body.bits) (targets_part shown.body.targets) shown.mac
 
-parts-one : (a b : Body) (r s : List ℕ) → IsBody a → IsBody b → parts_of a r ≡ parts_of b s → (a ≡ b) × (r ≡ s)
-parts-one a b r s of_a of_b same =
-    let op = number_part_16.one a.head.op b.head.op _ _ of_a.op of_b.op same in
-    let nonce = (bytes_part 16).one a.head.nonce b.head.nonce _ _ of_a.nonce of_b.nonce op.1 in
-    let digest = (bytes_part 32).one a.head.digest b.head.digest _ _ of_a.digest of_b.digest nonce.1 in
-    let hash = (bytes_part 32).one a.head.hash b.head.hash _ _ of_a.hash of_b.hash digest.1 in
-    let violation = violation-one a.head.violation b.head.violation _ _ of_a.violation of_b.violation hash.1 in
-    let bits = counted_bits-one a b _ _ of_a of_b violation.1 in
-    let targets = counted_targets-one a b r s of_a of_b bits.1 in (
-      λ i. record {
-        head = record { op = op.0 i; nonce = nonce.0 i; digest = digest.0 i; hash = hash.0 i; violation = violation.0 i };
-        bits = bits.0 i;
-        targets = targets.0 i;
-      },
-      targets.1,
-    )
+pub blob_pieces : IsRecoded pieces_part PiecesFit blob_part IsWhole shown_of pieces_of
+blob_pieces = record {
+  to_fits = λ p fits. record {
+    body = record {
+      op = fits.0.op;
+      nonce = fits.0.nonce;
+      digest = fits.0.digest;
+      hash = fits.0.hash;
+      violation = fits.0.violation;
+      bits = fits.1.0;
+      targets = fits.1.1.0.few;
+      addresses = fits.1.1.0.addresses;
+    };
+    mac = fits.1.1.1;
+  };
+  to_same = λ p fits. spelled (shown_of p);
+  from_fits = λ shown fits. (
+    record { op = fits.body.op; nonce = fits.body.nonce; digest = fits.body.digest; hash = fits.body.hash; violation = fits.body.violation },
+    (fits.body.bits, (record { few = fits.body.targets; addresses = fits.body.addresses }, fits.mac)),
+  );
+  from_same = λ shown fits. sym (spelled shown);
+}
 
-pub blob-one : (a b : Body) (mac other r s : List ℕ) → IsBody a → IsBody b → AreBytes 32 mac → AreBytes 32 other → covered_of a ++ (mac ++ r) ≡ covered_of b ++ (other ++ s) → (a ≡ b) × (mac ≡ other) × (r ≡ s)
-blob-one a b mac other r s of_a of_b of_mac of_other same =
-    let from_opening : opening ++ parts_of a (mac ++ r) ≡ opening ++ parts_of b (other ++ s) = sym (covered-parts a (mac ++ r)) ∙ (same ∙ covered-parts b (other ++ s)) in
-    let body = parts-one a b (mac ++ r) (other ++ s) of_a of_b (append_cancel_left opening (parts_of a (mac ++ r)) (parts_of b (other ++ s)) from_opening) in
-    let code = (bytes_part 32).one mac other r s of_mac of_other body.1 in
-    (body.0, code.0, code.1)
+pub blob_one : IsPart blob_part IsWhole
+blob_one =
+    recoded_one pieces_part PiecesFit blob_part IsWhole shown_of pieces_of blob_pieces (λ shown. refl)
+    (joined_one head_part records_part IsHead RecordsFit head_one
+    (joined_one bits_part end_part AreFewBits EndFits bits_one
+    (joined_one targets_part plain_part AreFewTargets (AreBytes 32) targets_one (bytes_part 32))))
 
 pub no_proper_prefix : NoProperPrefix
 no_proper_prefix bytes rest body other mac other_mac first second =
-    let fronts : covered_of body ++ (mac ++ rest) ≡ covered_of other ++ (other_mac ++ []) =
-    sym (append_assoc (covered_of body) mac rest) ∙ (sym (ap (λ xs. xs ++ rest) first.layout) ∙ (second.layout ∙ sym (ap (λ xs. covered_of other ++ xs) (append-nil other_mac)))) in
-    (blob-one body other mac other_mac rest [] first.body_fits second.body_fits first.mac_fits second.mac_fits fronts).2
+    let fronts : (covered_of body ++ mac) ++ rest ≡ (covered_of other ++ other_mac) ++ [] =
+    sym (ap (λ xs. xs ++ rest) first.layout) ∙ (second.layout ∙ sym (append-nil (covered_of other ++ other_mac))) in
+    (blob_one.one (record { body = body; mac = mac }) (record { body = other; mac = other_mac }) rest []
+    (record { body = first.body_fits; mac = first.mac_fits }) (record { body = second.body_fits; mac = second.mac_fits }) fronts).1
 
 pub one_body : OneBody
 one_body bytes body other mac other_mac first second =
-    let fronts : covered_of body ++ (mac ++ []) ≡ covered_of other ++ (other_mac ++ []) =
-    rw (append-nil mac, append-nil other_mac) (sym first.layout ∙ second.layout) in
-    let both = blob-one body other mac other_mac [] [] first.body_fits second.body_fits first.mac_fits second.mac_fits fronts in
-    (both.0, both.1)
+    let fronts : (covered_of body ++ mac) ++ [] ≡ (covered_of other ++ other_mac) ++ [] = ap (λ xs. xs ++ []) (sym first.layout ∙ second.layout) in
+    let one : ◌≡◌ {A = Shown} (record { body = body; mac = mac }) (record { body = other; mac = other_mac }) =
+    (blob_one.one (record { body = body; mac = mac }) (record { body = other; mac = other_mac }) [] []
+    (record { body = first.body_fits; mac = first.mac_fits }) (record { body = second.body_fits; mac = second.mac_fits }) fronts).0 in
+    (ap (λ (shown : Shown). shown.body) one, ap (λ (shown : Shown). shown.mac) one)

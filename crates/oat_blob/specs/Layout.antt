@@ -5,7 +5,7 @@ use Rattle.std.specs.List.{flat_map}
 use Rattle.oat_hmac.specs.Hmac.{hmac}
 use Rattle.oat_blob.specs.declared.body.Violation.{Violation}
 use Rattle.oat_blob.specs.Body.{AreBytes, Body, IsBody}
-use Rattle.oat_blob.specs.Packed.{packed}
+use Rattle.oat_bits.specs.Packed.{packed}
 
 -- 'OATB', and the version
 abbrev pub opening : List ℕ

@@ -1,6 +1,6 @@
 pub mod Body
-pub mod Packed
 pub mod Layout
+pub mod Parts
 pub mod Faults
 pub mod Laws
 pub mod Shown

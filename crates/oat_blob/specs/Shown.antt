@@ -1,21 +1,14 @@
 -- What a blob that was read shows, and where in its bytes it stands (docs/FORMATS.md).
-use Rattle.std.specs.Prelude.{◌≡◌, ℕ, ◌+◌, ◌-◌, ◌*◌, ◌/◌, ◌%◌, Bool, List, [], length, take, drop, map, replicate, slice_index, ◌==◌, None}
-use Rattle.std.specs.Int.{w16, w64, bit_at, from_be_bytes}
+use Rattle.std.specs.Prelude.{◌≡◌, ℕ, ◌+◌, ◌*◌, ◌/◌, List, ◌++◌, length, take, drop, map}
+use Rattle.std.specs.Int.{w64, from_be_bytes}
 use Rattle.std.specs.List.{range_with_len}
-use Rattle.oat_blob.specs.Body.{Body}
-use Rattle.oat_blob.specs.Layout.{covered_of, opening}
+use Rattle.oat_blob.specs.Body.{AreBytes, Body, IsBody}
+use Rattle.oat_blob.specs.Layout.{covered_of}
 
 -- the body, and the MAC that the bytes carry
 pub record Shown : Type 0 where
   pub body : Body
   pub mac : List ℕ
-
--- the bit in a place of packed bytes, the highest of a byte first
-abbrev pub bit_in : List ℕ → ℕ → Bool
-bit_in bytes place = bit_at (slice_index bytes (place / 8)) (7 - place % 8) == 1
-
-unfoldable pub bits_in : ℕ → List ℕ → List Bool
-bits_in count bytes = map (bit_in bytes) (range_with_len 0 count)
 
 -- the number in a place of bytes that hold eight for each
 abbrev pub target_in : List ℕ → ℕ → ℕ
@@ -30,23 +23,10 @@ pub record IsShown (body : Body) (covered : List ℕ) (bit_count : ℕ) (bits : 
   pub bits_held : length bits ≡ (bit_count + 7) / 8
   pub targets_held : length targets ≡ target_count * 8
 
--- the bytes have the length, the opening, the flag and the counts of a blob without violation and
--- records
-pub record LooksPlain (bytes : List ℕ) : Type 0 where
-  pub whole : length bytes ≡ 128
-  pub opens : take 5 bytes ≡ opening
-  pub empty : take 9 (drop 87 bytes) ≡ replicate 9 0
+-- a blob as its layout has it, with any 32 bytes in place of the MAC
+abbrev pub blob_part : Shown → List ℕ
+blob_part shown = covered_of shown.body ++ shown.mac
 
--- the body that such bytes hold
-unfoldable pub plain_body_in : List ℕ → Body
-plain_body_in bytes = record {
-  head = record {
-    op = from_be_bytes w16 (take 2 (drop 5 bytes));
-    nonce = take 16 (drop 7 bytes);
-    digest = take 32 (drop 23 bytes);
-    hash = take 32 (drop 55 bytes);
-    violation = None;
-  };
-  bits = [];
-  targets = [];
-}
+pub record IsWhole (shown : Shown) : Type 0 where
+  pub body : IsBody shown.body
+  pub mac : AreBytes 32 shown.mac

@@ -1,20 +1,14 @@
-ghost use Rattle.std.specs.Prelude.{◌≡◌, ◌↔◌, ◌<◌, ℕ, List, length, take, drop, IsTrue, IsSome, IfSome, IsSomeAnd};
-ghost use Rattle.oat_blob.specs.Body.{Body, IsPlain};
+ghost use Rattle.std.specs.Prelude.{◌≡◌, ◌-◌, ◌≤◌, ℕ, List, length, IfOk, IfErr, IsOkAnd};
+ghost use Rattle.oat_blob.specs.Body.{Body};
+ghost use Rattle.oat_blob.specs.Faults.{IsFormOffset};
 ghost use Rattle.oat_blob.specs.Layout.{IsBlob, covered_of};
-ghost use Rattle.oat_blob.specs.Shown.{LooksPlain, plain_body_in};
 
 use crate::body::BodyHead;
-use crate::fields::{array_at, u16_at, u64_at};
+use crate::fault::FormFault;
+use crate::fields::u64_at;
+use crate::reader::{self, Stop};
 use crate::records::Records;
 use std::marker::Model;
-
-/// The letters OATB, and the version.
-const OPENING: [u8; 5] = [0x4F, 0x41, 0x54, 0x42, 1];
-
-/// The length of a blob without violation and records, and of what stands before its MAC.
-const PLAIN_LENGTH: usize = 128;
-
-const PLAIN_COVERED: usize = 96;
 
 /// A blob that was read, over the bytes that it stands in.
 #[derive(Drop)]
@@ -29,7 +23,8 @@ pub struct BlobRef<'a> {
 }
 
 impl<'a> Model for BlobRef<'a> {
-    ghost use Rattle.oat_blob.specs.Shown.{Shown, IsShown, bits_in, targets_in};
+    ghost use Rattle.oat_bits.specs.Bits.{bits_in};
+    ghost use Rattle.oat_blob.specs.Shown.{Shown, IsShown, targets_in};
 
     ghost Value = { Shown };
 
@@ -83,47 +78,40 @@ impl<'a> Records for BlobRef<'a> {
     }
 }
 
-fn looks_plain(bytes: &[u8]) -> bool
-    ensures { IsTrue result ↔ LooksPlain bytes.now }
+fn blob(bytes: &[u8]) -> Result<BlobRef<'_>, Stop>
+    ensures found { IfOk result (λ blob. IsBlob bytes.now blob.body blob.mac) }
+    ensures within { IfErr result (λ stop. stop.left ≤ length bytes.now) }
+    ensures form { IfErr result (λ stop. IsFormOffset bytes.now (length bytes.now - stop.left)) }
 {
-    bytes.len() == PLAIN_LENGTH
-        && &bytes[..5] == OPENING.as_slice()
-        && &bytes[87..96] == [0; 9].as_slice()
-}
-
-fn read_plain(bytes: &[u8]) -> BlobRef<'_>
-    requires { LooksPlain bytes.now }
-    ensures body { result.body ≡ plain_body_in bytes.now }
-    ensures mac { result.mac ≡ drop 96 bytes.now }
-{
-    let head = BodyHead {
-        op: u16_at(bytes, 5),
-        nonce: array_at(bytes, 7),
-        digest: array_at(bytes, 23),
-        hash: array_at(bytes, 55),
-        violation: None,
-    };
-    let (covered, mac) = bytes.split_at(PLAIN_COVERED);
-    BlobRef {
+    let (head, rest) = reader::head(bytes)?;
+    let (bits, rest) = reader::bits(rest)?;
+    let (targets, rest) = reader::targets(rest)?;
+    let (covered, _) = bytes.split_at(bytes.len() - rest.len());
+    let (mac, rest) = reader::array(rest)?;
+    if !rest.is_empty() {
+        return Err(Stop { left: rest.len() });
+    }
+    Ok(BlobRef {
         head,
         covered,
-        bit_count: 0,
-        bits: &[],
-        target_count: 0,
-        targets: &[],
-        mac: array_at(mac, 0),
-    }
+        bit_count: bits.count,
+        bits: bits.bytes,
+        target_count: targets.count,
+        targets: targets.bytes,
+        mac,
+    })
 }
 
-/// The blob without violation and records that the bytes are, if they are one.
-pub fn decode_plain(bytes: &[u8]) -> Option<BlobRef<'_>>
-    ensures shape { IsSome result ↔ LooksPlain bytes.now }
-    ensures found { IfSome result (λ blob. IsPlain blob.body × IsBlob bytes.now blob.body blob.mac) }
-    ensures only { (body : Body) (mac : List ℕ) → IsPlain body → IsBlob bytes.now body mac → IsSomeAnd result (λ blob. (blob.body ≡ body) × (blob.mac ≡ mac)) }
+/// The blob that the bytes are, if they are one.
+pub fn decode(bytes: &[u8]) -> Result<BlobRef<'_>, FormFault>
+    ensures found { IfOk result (λ blob. IsBlob bytes.now blob.body blob.mac) }
+    ensures only { (body : Body) (mac : List ℕ) → IsBlob bytes.now body mac → IsOkAnd result (λ blob. (blob.body ≡ body) × (blob.mac ≡ mac)) }
+    ensures form { IfErr result (λ fault. IsFormOffset bytes.now fault.offset) }
 {
-    if looks_plain(bytes) {
-        Some(read_plain(bytes))
-    } else {
-        None
+    match blob(bytes) {
+        Ok(blob) => Ok(blob),
+        Err(stop) => Err(FormFault {
+            offset: bytes.len() - stop.left,
+        }),
     }
 }

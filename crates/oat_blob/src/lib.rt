@@ -3,13 +3,18 @@
 
 mod body;
 mod decoding;
+mod encoding;
+mod fault;
 mod fields;
 mod laws;
+mod reader;
 mod records;
 #[cfg(test)]
 mod tests;
 
 pub use body::{BodyHead, Violation};
-pub use decoding::{BlobRef, decode_plain};
+pub use decoding::{BlobRef, decode};
+pub use encoding::encode;
+pub use fault::FormFault;
 pub use laws::{no_proper_prefix, one_body, plain_length};
 pub use records::Records;

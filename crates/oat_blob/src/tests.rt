@@ -1,5 +1,5 @@
 use super::*;
-use oat_hmac::Mac;
+use oat_bits::PackedBits;
 use std::test::Fail;
 
 const NONCE: [u8; 16] = [0, 1, 2, 3, 4, 5, 6, 7, 8, 9, 10, 11, 12, 13, 14, 15];
@@ -20,6 +20,19 @@ const CARRIED: [u8; 32] = [
     0xD2, 0xCE, 0x6E, 0x19, 0x4F, 0x62, 0x4F, 0x7E, 0x1C, 0xFB, 0x4F, 0xFA, 0xFA, 0xF5, 0x58, 0xA5,
 ];
 
+// The MACs of the two blobs with records.
+const WITH_A_BIT: [u8; 32] = [
+    0xE2, 0xFB, 0xDC, 0x46, 0x21, 0xCF, 0x96, 0x49, 0x24, 0x41, 0x46, 0x27, 0x3F, 0xB6, 0x44, 0x5B,
+    0x54, 0x93, 0x96, 0xCD, 0xF5, 0x7E, 0x59, 0x98, 0x33, 0x57, 0x43, 0x97, 0x04, 0x32, 0x32, 0x1F,
+];
+
+const WITH_A_VIOLATION: [u8; 32] = [
+    0xA0, 0x76, 0x65, 0x19, 0x11, 0xDC, 0xBB, 0x3A, 0x19, 0x1E, 0x32, 0x0F, 0x80, 0xC4, 0xE3, 0x4E,
+    0x0F, 0x0D, 0x2D, 0x33, 0x92, 0x12, 0x08, 0x4E, 0x75, 0x25, 0xAD, 0xF1, 0xCF, 0x11, 0x6E, 0x22,
+];
+
+const KEY: [u8; 20] = [0x0B; 20];
+
 fn blob_without_records() -> [u8; 128] {
     let mut bytes = [0; 128];
     bytes[..5].copy_from_slice(b"OATB\x01");
@@ -31,35 +44,102 @@ fn blob_without_records() -> [u8; 128] {
     bytes
 }
 
-#[test]
-fn reads_a_blob_without_records(rt: HostRuntime) -> Result<(), Fail> {
-    let bytes = blob_without_records();
-    let blob = decode_plain(&bytes).ok_or("a blob")?;
-    let head = BodyHead {
+fn head_with(violation: Option<Violation>) -> BodyHead {
+    BodyHead {
         op: 1,
         nonce: NONCE,
         digest: DIGEST,
         hash: HASH,
-        violation: None,
-    };
-    assert_eq!(rt; blob.head(), head);
-    assert_eq!(rt; blob.covered(), &bytes[..96]);
-    assert_eq!(rt; blob.mac(), CARRIED);
-    assert_eq!(rt; (blob.bit_count(), blob.target_count()), (0, 0));
-    let mut mac = Mac::new(&[0x0B; 20]);
-    mac.update(blob.covered());
-    assert_eq!(rt; mac.finish(), CARRIED);
-    Ok(())
+        violation,
+    }
 }
 
 #[test]
-fn other_bytes_are_no_plain_blob(rt: HostRuntime) {
+fn reads_a_blob_without_records(rt: HostRuntime) -> Result<(), Fail> {
     let bytes = blob_without_records();
-    let front = bytes.as_slice().split_last().map(|(_, front)| front);
-    assert!(rt; front.is_some_and(|front| decode_plain(front).is_none()));
-    for (at, byte) in [(0, 0x4E), (4, 2), (87, 1), (91, 1), (95, 1)] {
-        let mut other = bytes;
-        other[at] = byte;
-        assert!(rt; decode_plain(&other).is_none(), "byte {at}");
+    let blob = decode(&bytes)?;
+    assert_eq!(rt; blob.head(), head_with(None));
+    assert_eq!(rt; blob.covered(), &bytes[..96]);
+    assert_eq!(rt; blob.mac(), CARRIED);
+    assert_eq!(rt; (blob.bit_count(), blob.target_count()), (0, 0));
+    Ok(())
+}
+
+fn first(bytes: &[u8], count: usize) -> &[u8] {
+    match bytes.split_at_checked(count) {
+        Some((first, _)) => first,
+        None => bytes,
     }
+}
+
+fn fault_of(bytes: &[u8]) -> Option<usize> {
+    decode(bytes).err().map(|fault| fault.offset)
+}
+
+#[test]
+fn tells_where_bytes_stop_being_a_blob(rt: HostRuntime) {
+    let bytes = blob_without_records();
+    assert_eq!(rt; fault_of(&[]), Some(0));
+    assert_eq!(rt; fault_of(first(&bytes, 127)), Some(127));
+    let mut longer = [0; 129];
+    longer[..128].copy_from_slice(&bytes);
+    assert_eq!(rt; fault_of(&longer), Some(128));
+    // a version, a flag, nine bits with a filling bit of one, and counts that the bytes can't meet
+    for (at, field, offset) in [
+        (4, [2, 0, 1, 0, 1, 2], 4),
+        (87, [2, 0, 0, 0, 0, 0], 87),
+        (91, [9, 0x80, 1, 0, 0, 0], 93),
+        (88, [0xFF, 0xFF, 0xFF, 0xFF, 0, 0], 128),
+        (92, [0, 0xFF, 0xFF, 0xFF, 0, 0], 128),
+    ] {
+        let mut other = bytes;
+        other[at..at + 6].copy_from_slice(&field);
+        assert_eq!(rt; fault_of(&other), Some(offset));
+    }
+}
+
+#[test]
+fn seals_blobs_with_records(rt: HostRuntime) -> Result<(), Fail> {
+    let violation = Violation {
+        cell: 3,
+        expected: 50,
+        found: u64::MAX,
+    };
+    let front = blob_without_records();
+    for (violation, packed, count, targets, behind, code) in [
+        (
+            None,
+            &[0x80][..],
+            1,
+            &[0x1009C][..],
+            &b"\x00\x00\x00\x00\x01\x80\x00\x00\x00\x01\x00\x00\x00\x00\x00\x01\x00\x9C"[..],
+            WITH_A_BIT,
+        ),
+        (
+            Some(violation),
+            &[0xBB, 0x80][..],
+            11,
+            &[0x1009C, 0x0102_0304_0506_0708][..],
+            &b"\x01\x00\x00\x00\x03\x00\x00\x00\x00\x00\x00\x00\x32\xFF\xFF\xFF\xFF\xFF\xFF\xFF\xFF\x00\x00\x00\x0B\xBB\x80\x00\x00\x00\x02\x00\x00\x00\x00\x00\x01\x00\x9C\x01\x02\x03\x04\x05\x06\x07\x08"[..],
+            WITH_A_VIOLATION,
+        ),
+    ] {
+        let bits = PackedBits::from_packed(rt.alloc(), packed, count)?;
+        let bytes = encode(rt.alloc(), &head_with(violation), &bits, targets, &KEY)?;
+        let (start, rest) = bytes.as_slice().split_at_checked(87).ok_or("a head")?;
+        let (records, mac) = rest.split_at_checked(behind.len()).ok_or("records")?;
+        assert_eq!(rt; start, first(&front, 87));
+        assert_eq!(rt; records, behind);
+        assert_eq!(rt; mac, &code[..]);
+        let blob = decode(&bytes)?;
+        assert_eq!(rt; blob.head(), head_with(violation));
+        assert_eq!(rt; blob.mac(), code);
+        assert_eq!(rt; blob.bit_count(), count);
+        assert_eq!(rt; blob.target_count() as usize, targets.len());
+        if blob.bit_count() > 0 && blob.target_count() > 0 {
+            assert!(rt; blob.bit(0));
+            assert_eq!(rt; blob.target(0), 0x1009C);
+        }
+    }
+    Ok(())
 }

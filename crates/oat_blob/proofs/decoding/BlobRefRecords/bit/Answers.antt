@@ -1,6 +1,6 @@
 use Rattle.std.proofs.Common.{◌∙◌, ◌<◌, ap, arith, length, sym}
 use Rattle.std.specs.Prelude.{slice_get}
-use Rattle.oat_blob.proofs.Reading.{length-bits_in, slice_get-bits_in}
+use Rattle.oat_bits.proofs.PackedForm.{length-bits_in, slice_get-bits_in}
 use Rattle.oat_blob.proofs.decoding.BlobRefRecords.bit.Goals as goal
 
 pub bounds-self-inside-i : goal.bounds-self-inside-i

@@ -1,5 +1,5 @@
 use Rattle.std.proofs.Common.{◌∙◌, ap, length, sym}
-use Rattle.oat_blob.proofs.Reading.{length-bits_in}
+use Rattle.oat_bits.proofs.PackedForm.{length-bits_in}
 use Rattle.oat_blob.proofs.decoding.BlobRefRecords.bit_count.Goals as goal
 
 pub returns : goal.returns

@@ -1,0 +1,228 @@
+-- Where a blob stops, part by part, and the offset that this is.
+use Rattle.std.proofs.Common.{◌≡◌, ℕ, zero, suc, ◌+◌, ◌-◌, ◌<◌, ◌≤◌, ◌^◌, Bool, true, false, List, [], ◌++◌, Option, None, length, take, drop, refl, ap, sym, subst, ◌∙◌, arith, append_assoc, length-append, length-drop}
+use Rattle.std.proofs.lemmas.List.{append-nil, nil_from_length, length-take-le, take-append-drop, take-append-le, take-take, take_at}
+use Rattle.std.proofs.lemmas.List.Elements.{All-nil}
+use Rattle.std.proofs.lemmas.Bool.{eqb-true, false≢true}
+use Rattle.std.specs.Prelude.{◌==◌}
+use Rattle.std.specs.Int.{w16, to_be_bytes}
+use Rattle.oat_blob.specs.declared.body.BodyHead.{BodyHead}
+use Rattle.oat_blob.specs.declared.body.Violation.{Violation}
+use Rattle.oat_blob.specs.Body.{AreBytes, Body}
+use Rattle.oat_blob.specs.Layout.{IsBlob, bits_part, covered_of, opening, targets_part, violation_part}
+use Rattle.oat_blob.specs.Faults.{BeginsBlob, IsFormOffset}
+use Rattle.oat_blob.specs.Parts.{AreFewBits, AreFewTargets, IfViolation, IsBelow, IsFront, IsHead, IsOpening, Stops, head_part, plain_part}
+use Rattle.oat_blob.specs.Shown.{IsWhole, Shown, blob_part}
+use Rattle.oat_blob.proofs.Parts.{bytes_part, number_part_16}
+use Rattle.oat_blob.proofs.Fixed.{filled, filled_bytes}
+use Rattle.oat_blob.proofs.Joined.{joined_front, recoded_front, recoded_stops, stops_first, stops_second}
+use Rattle.oat_blob.proofs.OneLayout.{DigestFits, EndFits, FieldsFit, HashFits, NonceFits, OpFits, PiecesFit, RecordsFit, bits_one, blob_pieces, digest_part, end_part, fields_of, fields_part, hash_part, head_fields, head_of, head_one, nonce_part, no_proper_prefix, op_part, opening_one, pieces_of, pieces_part, records_part, shown_of, targets_one}
+
+zeros : (n : ℕ) → AreBytes (suc n) (filled (suc n) [])
+zeros n = filled_bytes (suc n) [] (All-nil (λ byte. byte < 256)) (omega arith)
+
+-- ---- a head
+
+some_violation : (x : List ℕ) → AreBytes 32 x → (v : Option Violation) × IfViolation v
+some_violation x fits = (None, tt)
+
+some_hash : (x : List ℕ) → AreBytes 32 x → (p : List ℕ × Option Violation) × HashFits p
+some_hash x fits = ((filled 32 [], None), (zeros 31, tt))
+
+some_digest : (x : List ℕ) → AreBytes 16 x → (p : List ℕ × (List ℕ × Option Violation)) × DigestFits p
+some_digest x fits = ((filled 32 [], (filled 32 [], None)), (zeros 31, (zeros 31, tt)))
+
+some_nonce : (x : ℕ) → IsBelow 16 x → (p : List ℕ × (List ℕ × (List ℕ × Option Violation))) × NonceFits p
+some_nonce x fits = ((filled 16 [], (filled 32 [], (filled 32 [], None))), (zeros 15, (zeros 31, (zeros 31, tt))))
+
+some_op : (x : List ℕ) → IsOpening x → (p : ℕ × (List ℕ × (List ℕ × (List ℕ × Option Violation)))) × OpFits p
+some_op x fits = ((0, (filled 16 [], (filled 32 [], (filled 32 [], None)))), (omega arith, (zeros 15, (zeros 31, (zeros 31, tt)))))
+
+of_fields : (bytes : List ℕ) (left : ℕ) → Stops fields_part FieldsFit bytes left → Stops head_part IsHead bytes left
+of_fields bytes left = recoded_stops fields_part FieldsFit head_part IsHead head_of fields_of bytes left head_fields
+
+pub at_opening : (bytes : List ℕ) (left : ℕ) → Stops plain_part IsOpening bytes left → Stops head_part IsHead bytes left
+at_opening bytes left stops = of_fields bytes left (stops_first plain_part op_part IsOpening (λ _. OpFits) bytes left some_op stops)
+
+pub behind_opening : (bytes rest : List ℕ) (left : ℕ) → IsFront plain_part IsOpening bytes opening rest → Stops op_part OpFits rest left → Stops head_part IsHead bytes left
+behind_opening bytes rest left front stops = of_fields bytes left (stops_second plain_part op_part IsOpening (λ _. OpFits) bytes rest opening left opening_one front stops)
+
+pub at_op : (bytes : List ℕ) (left : ℕ) → Stops (to_be_bytes w16) (IsBelow 16) bytes left → Stops op_part OpFits bytes left
+at_op bytes left = stops_first (to_be_bytes w16) nonce_part (IsBelow 16) (λ _. NonceFits) bytes left some_nonce
+
+pub behind_op : (bytes rest : List ℕ) (op left : ℕ) → IsFront (to_be_bytes w16) (IsBelow 16) bytes op rest → Stops nonce_part NonceFits rest left → Stops op_part OpFits bytes left
+behind_op bytes rest op left = stops_second (to_be_bytes w16) nonce_part (IsBelow 16) (λ _. NonceFits) bytes rest op left number_part_16
+
+pub at_nonce : (bytes : List ℕ) (left : ℕ) → Stops plain_part (AreBytes 16) bytes left → Stops nonce_part NonceFits bytes left
+at_nonce bytes left = stops_first plain_part digest_part (AreBytes 16) (λ _. DigestFits) bytes left some_digest
+
+pub behind_nonce : (bytes nonce rest : List ℕ) (left : ℕ) → IsFront plain_part (AreBytes 16) bytes nonce rest → Stops digest_part DigestFits rest left → Stops nonce_part NonceFits bytes left
+behind_nonce bytes nonce rest left = stops_second plain_part digest_part (AreBytes 16) (λ _. DigestFits) bytes rest nonce left (bytes_part 16)
+
+pub at_digest : (bytes : List ℕ) (left : ℕ) → Stops plain_part (AreBytes 32) bytes left → Stops digest_part DigestFits bytes left
+at_digest bytes left = stops_first plain_part hash_part (AreBytes 32) (λ _. HashFits) bytes left some_hash
+
+pub behind_digest : (bytes digest rest : List ℕ) (left : ℕ) → IsFront plain_part (AreBytes 32) bytes digest rest → Stops hash_part HashFits rest left → Stops digest_part DigestFits bytes left
+behind_digest bytes digest rest left = stops_second plain_part hash_part (AreBytes 32) (λ _. HashFits) bytes rest digest left (bytes_part 32)
+
+pub at_hash : (bytes : List ℕ) (left : ℕ) → Stops plain_part (AreBytes 32) bytes left → Stops hash_part HashFits bytes left
+at_hash bytes left = stops_first plain_part violation_part (AreBytes 32) (λ _. IfViolation) bytes left some_violation
+
+pub behind_hash : (bytes hash rest : List ℕ) (left : ℕ) → IsFront plain_part (AreBytes 32) bytes hash rest → Stops violation_part IfViolation rest left → Stops hash_part HashFits bytes left
+behind_hash bytes hash rest left = stops_second plain_part violation_part (AreBytes 32) (λ _. IfViolation) bytes rest hash left (bytes_part 32)
+
+pub head_front : (bytes r0 r1 r2 r3 r4 rest : List ℕ) (op : ℕ) (nonce digest hash : List ℕ) (violation : Option Violation) → IsFront plain_part IsOpening bytes opening r0 → IsFront (to_be_bytes w16) (IsBelow 16) r0 op r1
+    → IsFront plain_part (AreBytes 16) r1 nonce r2 → IsFront plain_part (AreBytes 32) r2 digest r3 → IsFront plain_part (AreBytes 32) r3 hash r4 → IsFront violation_part IfViolation r4 violation rest
+    → IsFront head_part IsHead bytes (record { op = op; nonce = nonce; digest = digest; hash = hash; violation = violation }) rest
+head_front bytes r0 r1 r2 r3 r4 rest op nonce digest hash violation a b c d e f =
+    recoded_front fields_part FieldsFit head_part IsHead head_of fields_of bytes rest (opening, (op, (nonce, (digest, (hash, violation))))) head_fields
+    (joined_front plain_part op_part IsOpening (λ _. OpFits) bytes r0 rest opening (op, (nonce, (digest, (hash, violation)))) a
+    (joined_front (to_be_bytes w16) nonce_part (IsBelow 16) (λ _. NonceFits) r0 r1 rest op (nonce, (digest, (hash, violation))) b
+    (joined_front plain_part digest_part (AreBytes 16) (λ _. DigestFits) r1 r2 rest nonce (digest, (hash, violation)) c
+    (joined_front plain_part hash_part (AreBytes 32) (λ _. HashFits) r2 r3 rest digest (hash, violation) d
+    (joined_front plain_part violation_part (AreBytes 32) (λ _. IfViolation) r3 r4 rest hash violation e f)))))
+
+-- ---- a blob
+
+few_targets : AreFewTargets []
+few_targets = record { few = omega arith; addresses = All-nil (λ target. target < 2 ^ 64) }
+
+some_mac : (x : List ℕ) → AreFewTargets x → (mac : List ℕ) × AreBytes 32 mac
+some_mac x fits = (filled 32 [], zeros 31)
+
+some_end : (x : List Bool) → AreFewBits x → (p : List ℕ × List ℕ) × EndFits p
+some_end x fits = (([], filled 32 []), (few_targets, zeros 31))
+
+some_records : (x : BodyHead) → IsHead x → (p : List Bool × (List ℕ × List ℕ)) × RecordsFit p
+some_records x fits = (([], ([], filled 32 [])), (omega arith, (few_targets, zeros 31)))
+
+of_pieces : (bytes : List ℕ) (left : ℕ) → Stops pieces_part PiecesFit bytes left → Stops blob_part IsWhole bytes left
+of_pieces bytes left = recoded_stops pieces_part PiecesFit blob_part IsWhole shown_of pieces_of bytes left blob_pieces
+
+pub at_head : (bytes : List ℕ) (left : ℕ) → Stops head_part IsHead bytes left → Stops blob_part IsWhole bytes left
+at_head bytes left stops = of_pieces bytes left (stops_first head_part records_part IsHead (λ _. RecordsFit) bytes left some_records stops)
+
+pub behind_head : (bytes rest : List ℕ) (head : BodyHead) (left : ℕ) → IsFront head_part IsHead bytes head rest → Stops records_part RecordsFit rest left → Stops blob_part IsWhole bytes left
+behind_head bytes rest head left front stops = of_pieces bytes left (stops_second head_part records_part IsHead (λ _. RecordsFit) bytes rest head left head_one front stops)
+
+pub at_bits : (bytes : List ℕ) (left : ℕ) → Stops bits_part AreFewBits bytes left → Stops records_part RecordsFit bytes left
+at_bits bytes left = stops_first bits_part end_part AreFewBits (λ _. EndFits) bytes left some_end
+
+pub behind_bits : (bytes rest : List ℕ) (bits : List Bool) (left : ℕ) → IsFront bits_part AreFewBits bytes bits rest → Stops end_part EndFits rest left → Stops records_part RecordsFit bytes left
+behind_bits bytes rest bits left = stops_second bits_part end_part AreFewBits (λ _. EndFits) bytes rest bits left bits_one
+
+pub at_targets : (bytes : List ℕ) (left : ℕ) → Stops targets_part AreFewTargets bytes left → Stops end_part EndFits bytes left
+at_targets bytes left = stops_first targets_part plain_part AreFewTargets (λ _. AreBytes 32) bytes left some_mac
+
+pub behind_targets : (bytes rest targets : List ℕ) (left : ℕ) → IsFront targets_part AreFewTargets bytes targets rest → Stops plain_part (AreBytes 32) rest left → Stops end_part EndFits bytes left
+behind_targets bytes rest targets left = stops_second targets_part plain_part AreFewTargets (λ _. AreBytes 32) bytes rest targets left targets_one
+
+pub blob_front : (bytes r0 r1 r2 rest : List ℕ) (head : BodyHead) (bits : List Bool) (targets mac : List ℕ) → IsFront head_part IsHead bytes head r0 → IsFront bits_part AreFewBits r0 bits r1
+    → IsFront targets_part AreFewTargets r1 targets r2 → IsFront plain_part (AreBytes 32) r2 mac rest
+    → IsFront blob_part IsWhole bytes (record { body = record { head = head; bits = bits; targets = targets }; mac = mac }) rest
+blob_front bytes r0 r1 r2 rest head bits targets mac a b c d =
+    recoded_front pieces_part PiecesFit blob_part IsWhole shown_of pieces_of bytes rest (head, (bits, (targets, mac))) blob_pieces
+    (joined_front head_part records_part IsHead (λ _. RecordsFit) bytes r0 rest head (bits, (targets, mac)) a
+    (joined_front bits_part end_part AreFewBits (λ _. EndFits) r0 r1 rest bits (targets, mac) b
+    (joined_front targets_part plain_part AreFewTargets (λ _. AreBytes 32) r1 r2 rest targets mac c d)))
+
+-- ---- the offset
+
+pub not_empty : (n : ℕ) → false ≡ (n == 0) → 0 < n
+not_empty zero same = absurd (false≢true same)
+not_empty (suc n) same = omega arith
+
+pub empty : (n : ℕ) → true ≡ (n == 0) → n ≡ 0
+empty n same = eqb-true n 0 (sym same)
+
+pub as_blob : (bytes rest : List ℕ) (shown : Shown) → IsFront blob_part IsWhole bytes shown rest → length rest ≡ 0 → IsBlob bytes shown.body shown.mac
+as_blob bytes rest shown front none = record {
+  body_fits = front.fitting.body;
+  mac_fits = front.fitting.mac;
+  layout = front.spelled ∙ (ap (λ xs. blob_part shown ++ xs) (nil_from_length rest none) ∙ append-nil (blob_part shown));
+}
+
+as_whole : (bytes mac : List ℕ) (body : Body) → IsBlob bytes body mac → IsWhole (record { body = body; mac = mac })
+as_whole bytes mac body blob = record { body = blob.body_fits; mac = blob.mac_fits }
+
+-- a longer front begins as the bytes do
+longer : (bytes text rest : List ℕ) (n more : ℕ) → n ≤ more → more ≤ length bytes → take more bytes ++ rest ≡ text → bytes ≡ take n text ++ drop n bytes
+longer bytes text rest n more below within same =
+    let long : length (take more bytes) ≡ more = length-take-le more bytes within in
+    let front : take n text ≡ take n bytes =
+    sym (ap (take n) same) ∙ (take-append-le n (take more bytes) rest (omega arith) ∙ take-take n more bytes below) in
+    sym (take-append-drop n bytes) ∙ ap (λ xs. xs ++ drop n bytes) (sym front)
+
+pub offset_at : (bytes : List ℕ) (left : ℕ) → Stops blob_part IsWhole bytes left → (left ≤ length bytes) × IsFormOffset bytes (length bytes - left)
+offset_at bytes left stops =
+    let sum : length bytes ≡ length stops.front + left = ap length stops.parted ∙ (length-append stops.front stops.behind ∙ ap (λ n. length stops.front + n) stops.counted) in
+    let at : length stops.front ≡ length bytes - left = omega arith in
+    let front : take (length stops.front) bytes ≡ stops.front = ap (take (length stops.front)) stops.parted ∙ take_at stops.front stops.behind (length stops.front) refl in (
+      omega arith,
+      subst (λ (n : ℕ). IsFormOffset bytes n) at (record {
+        within = omega arith;
+        begins = subst (λ (xs : List ℕ). BeginsBlob xs) (sym front) (
+          stops.value.body,
+          stops.value.mac,
+          stops.more,
+          record {
+            body_fits = stops.fitting.body;
+            mac_fits = stops.fitting.mac;
+            layout = stops.begins;
+          },
+        );
+        longest = λ more above within begins.
+            let blob = begins.3 in
+            stops.halts (record { body = begins.0; mac = begins.1 }) (drop (suc (length stops.front)) bytes) (as_whole (take more bytes ++ begins.2) begins.1 begins.0 blob)
+            (longer bytes (covered_of begins.0 ++ begins.1) begins.2 (suc (length stops.front)) more (omega arith) within blob.layout);
+        no_blob = λ body mac blob.
+            stops.halts (record { body = body; mac = mac }) (drop (suc (length stops.front)) (covered_of body ++ mac)) (as_whole bytes mac body blob)
+            (blob.layout ∙ sym (take-append-drop (suc (length stops.front)) (covered_of body ++ mac)));
+      }),
+    )
+
+-- bytes behind a blob stop it where they begin
+pub offset_behind : (bytes rest : List ℕ) (shown : Shown) → IsFront blob_part IsWhole bytes shown rest → 0 < length rest → (length rest ≤ length bytes) × IsFormOffset bytes (length bytes - length rest)
+offset_behind bytes rest shown front some =
+    let text : List ℕ = blob_part shown in
+    let sum : length bytes ≡ length text + length rest = ap length front.spelled ∙ length-append text rest in
+    let at : length text ≡ length bytes - length rest = omega arith in
+    let whole : take (length text) bytes ≡ text = ap (take (length text)) front.spelled ∙ take_at text rest (length text) refl in
+    let blob : IsBlob text shown.body shown.mac = record { body_fits = front.fitting.body; mac_fits = front.fitting.mac; layout = refl } in (
+      omega arith,
+      subst (λ (n : ℕ). IsFormOffset bytes n) at (record {
+        within = omega arith;
+        begins = subst (λ (xs : List ℕ). BeginsBlob xs) (sym whole) (
+          shown.body,
+          shown.mac,
+          [],
+          record {
+            body_fits = front.fitting.body;
+            mac_fits = front.fitting.mac;
+            layout = append-nil text;
+          },
+        );
+        longest = λ more above within begins.
+            let goes_on : text ++ (drop (length text) (take more bytes) ++ begins.2) ≡ take more bytes ++ begins.2 =
+            sym (append_assoc text (drop (length text) (take more bytes)) begins.2)
+            ∙ ap (λ xs. xs ++ begins.2) (ap (λ xs. xs ++ drop (length text) (take more bytes)) (sym (take-take (length text) more bytes (omega arith) ∙ whole)) ∙ take-append-drop (length text) (take more bytes)) in
+            let none = no_proper_prefix text (drop (length text) (take more bytes) ++ begins.2) shown.body begins.0 shown.mac begins.1 blob (subst (λ (xs : List ℕ). IsBlob xs begins.0 begins.1) (sym goes_on) begins.3) in
+            let behind = length-append (drop (length text) (take more bytes)) begins.2 in
+            let dropped = length-drop (length text) (take more bytes) in
+            let taken = length-take-le more bytes within in
+            let empty : length (drop (length text) (take more bytes) ++ begins.2) ≡ 0 = ap length none in
+            absurd (omega arith);
+        no_blob = λ body mac other.
+            let none : rest ≡ [] = no_proper_prefix text rest shown.body body shown.mac mac blob (subst (λ (xs : List ℕ). IsBlob xs body mac) front.spelled other) in
+            let empty : length rest ≡ 0 = ap length none in
+            absurd (omega arith);
+      }),
+    )
+
+-- all before the MAC
+pub covered_read : (bytes end rest mac covered : List ℕ) (body : Body) (n : ℕ) → bytes ≡ (covered_of body ++ mac) ++ rest → end ≡ mac ++ rest → n ≡ length bytes - length end → covered ≡ take n bytes → covered ≡ covered_of body
+covered_read bytes end rest mac covered body n whole tail at taken =
+    let text : List ℕ = covered_of body in
+    let parted : bytes ≡ text ++ (mac ++ rest) = whole ∙ append_assoc text mac rest in
+    let sum : length bytes ≡ length text + length (mac ++ rest) = ap length parted ∙ length-append text (mac ++ rest) in
+    let end_length : length end ≡ length (mac ++ rest) = ap length tail in
+    taken ∙ (ap (take n) parted ∙ take_at text (mac ++ rest) n (omega arith))

@@ -1,0 +1,94 @@
+ghost use Rattle.std.specs.Prelude.{◌≡◌, ◌<◌, ◌^◌, ◌++◌, Option, length, IfOk, OnOk};
+ghost use Rattle.std.specs.Int.{w64, to_be_bytes};
+ghost use Rattle.std.specs.List.{All, flat_map};
+ghost use Rattle.oat_blob.specs.Body.{IsViolation};
+ghost use Rattle.oat_blob.specs.Layout.{IsBlobOf, bits_part, targets_part, violation_part};
+ghost use Rattle.oat_blob.specs.Parts.{IfViolation, IsHead, head_part, violation_fields};
+
+use crate::body::{BodyHead, Violation};
+use crate::reader::OPENING;
+use oat_bits::PackedBits;
+use oat_hmac::Mac;
+use std::alloc::{AllocError, Global};
+
+fn put_bytes(out: &mut Vec<u8>, bytes: &[u8]) -> Result<(), AllocError>
+    ensures put { OnOk result (out.new.items ≡ out.old.items ++ bytes.now) }
+    ensures fits { All (λ byte. byte < 256) bytes.now }
+{
+    out.extend_from_slice(bytes)
+}
+
+fn put_head(out: &mut Vec<u8>, head: &BodyHead) -> Result<(), AllocError>
+    ensures put { OnOk result (out.new.items ≡ out.old.items ++ head_part head.now) }
+    ensures fits { OnOk result (IsHead head.now) }
+{
+    put_bytes(out, &OPENING)?;
+    put_bytes(out, &head.op.to_be_bytes())?;
+    put_bytes(out, &head.nonce)?;
+    put_bytes(out, &head.digest)?;
+    put_bytes(out, &head.hash)?;
+    put_violation(out, &head.violation)
+}
+
+fn put_violation(out: &mut Vec<u8>, violation: &Option<Violation>) -> Result<(), AllocError>
+    ensures put { OnOk result (out.new.items ≡ out.old.items ++ violation_part violation.now) }
+    ensures fits { OnOk result (IfViolation violation.now) }
+{
+    match violation {
+        Some(violation) => {
+            out.extend_from_slice(&[1])?;
+            put_violation_fields(out, violation)
+        }
+        None => out.extend_from_slice(&[0]),
+    }
+}
+
+fn put_violation_fields(out: &mut Vec<u8>, violation: &Violation) -> Result<(), AllocError>
+    ensures put { OnOk result (out.new.items ≡ out.old.items ++ violation_fields violation.now) }
+    ensures fits { OnOk result (IsViolation violation.now) }
+{
+    out.extend_from_slice(&violation.cell.to_be_bytes())?;
+    out.extend_from_slice(&violation.expected.to_be_bytes())?;
+    out.extend_from_slice(&violation.found.to_be_bytes())
+}
+
+fn put_bits(out: &mut Vec<u8>, bits: &PackedBits) -> Result<(), AllocError>
+    requires { length bits.now.bits < 2 ^ 32 }
+    ensures { OnOk result (out.new.items ≡ out.old.items ++ bits_part bits.now.bits) }
+{
+    out.extend_from_slice(&(bits.len() as u32).to_be_bytes())?;
+    out.extend_from_slice(bits.bytes())
+}
+
+fn put_targets(out: &mut Vec<u8>, targets: &[u64]) -> Result<(), AllocError>
+    requires { length targets.now < 2 ^ 32 }
+    ensures { OnOk result (out.new.items ≡ out.old.items ++ targets_part targets.now) }
+{
+    out.extend_from_slice(&(targets.len() as u32).to_be_bytes())?;
+    for target in targets {
+        out.extend_from_slice(&target.to_be_bytes())?;
+    }
+    Ok(())
+}
+
+/// The blob of the body, sealed under the key.
+pub fn encode(
+    alloc: Global,
+    head: &BodyHead,
+    bits: &PackedBits,
+    targets: &[u64],
+    key: &[u8],
+) -> Result<Vec<u8>, AllocError>
+    requires bits { length bits.now.bits < 2 ^ 32 }
+    requires targets { length targets.now < 2 ^ 32 }
+    ensures { IfOk result (λ bytes. IsBlobOf (record { head = head.now; bits = bits.now.bits; targets = targets.now }) key.now bytes.items) }
+{
+    let mut out = Vec::new(alloc);
+    put_head(&mut out, head)?;
+    put_bits(&mut out, bits)?;
+    put_targets(&mut out, targets)?;
+    let mut mac = Mac::new(key);
+    mac.update(&out);
+    put_bytes(&mut out, &mac.finish())?;
+    Ok(out)
+}

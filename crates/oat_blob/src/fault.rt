@@ -1,0 +1,7 @@
+/// Bytes that are no blob.
+#[derive(Clone, Copy, Debug, PartialEq, Eq)]
+pub struct FormFault {
+    /// The place of the first byte that no blob with the bytes before it can have, or the length
+    /// where bytes are wanting.
+    pub offset: usize,
+}
