@@ -1,2 +1,4 @@
 pub mod Lengths
+pub mod Messages
+mod Comparing
 mod Writing

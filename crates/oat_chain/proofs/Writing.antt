@@ -1,5 +1,6 @@
 -- A message that is written part by part, from its front on.
-use Rattle.std.proofs.Common.{◌≡◌, ℕ, ◌+◌, List, [], ◌++◌, length, take, drop, refl, ap, sym, ◌∙◌, arith, length-append, append_assoc}
+use borrow.Rule.Slice.PartMut.{put_mid}
+use Rattle.std.proofs.Common.{◌≡◌, ℕ, ◌+◌, List, [], ◌++◌, length, take, drop, refl, ap, sym, ◌∙◌, arith, length-append, length-drop, append_assoc}
 use Rattle.std.proofs.lemmas.List.{drop-drop, drop_at, take_at, append-nil, nil_from_length}
 
 -- the parts so far are the front, and the rest is to be written
@@ -22,3 +23,12 @@ written_whole message front rest whole same =
     let both = length-append front rest in
     let count : length rest ≡ 0 = omega (arith, ap length whole.is) in
     whole.is ∙ (rw (nil_from_length rest count) (append-nil front))
+
+-- a part that fills what is left
+pub put_behind : (front zeros part : List ℕ) (n k : ℕ) → length front ≡ n → length zeros ≡ k → put_mid n k (front ++ zeros) part ≡ front ++ part
+put_behind front zeros part n k here left =
+    let gone : drop k zeros ≡ [] = nil_from_length (drop k zeros) (omega (arith, length-drop k zeros)) in
+    ap (λ (xs : List ℕ). xs ++ (part ++ drop k (drop n (front ++ zeros)))) (take_at front zeros n here)
+    ∙ ap (λ (xs : List ℕ). front ++ (part ++ drop k xs)) (drop_at front zeros n here)
+    ∙ ap (λ (xs : List ℕ). front ++ (part ++ xs)) gone
+    ∙ ap (λ (xs : List ℕ). front ++ xs) (append-nil part)

@@ -1,3 +1,4 @@
 pub mod Chain
+pub mod Clash
 pub mod Standing
 pub mod Laws

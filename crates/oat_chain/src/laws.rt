@@ -1,6 +1,6 @@
 //! Facts about digests, for proofs that rest on them: each function's contract is the fact.
 
-ghost use Rattle.oat_chain.specs.Laws.{BeginLength, ChainLength, DigestLength};
+ghost use Rattle.oat_chain.specs.Laws.{BeginLength, ChainLength, ClashExists, DigestLength};
 
 /// A digest has 32 bytes.
 pub fn digest_length()
@@ -15,4 +15,9 @@ pub fn chain_length()
 /// A begin record has 50 bytes, and so isn't a link, which has 40.
 pub fn begin_length()
     ensures { BeginLength }
+{}
+
+/// Different lists of returns with one chain exhibit two different messages with one SHA-256 digest.
+pub fn clash_exists()
+    ensures { ClashExists }
 {}

@@ -7,9 +7,13 @@ ghost use Rattle.oat_chain.specs.Standing.{StandsFor};
 
 use sha2::{Digest, Sha256};
 
+mod comparison;
 mod laws;
+mod message;
 
-pub use laws::{begin_length, chain_length, digest_length};
+pub use comparison::clash;
+pub use laws::{begin_length, chain_length, clash_exists, digest_length};
+pub use message::{Clash, Message};
 
 // Writes `part` over the bytes of `message` from `at` on.
 fn put(message: &mut [u8; 50], at: usize, part: &[u8])

@@ -30,3 +30,19 @@ fn chain_of_two_returns(rt: HostRuntime) {
     ];
     assert_eq!(rt; chain.digest(), expected);
 }
+
+// Lists with one chain that differ can't be shown, as nobody knows a collision.
+#[test]
+fn equal_returns_have_no_clash(rt: HostRuntime) {
+    let head = begin_record(&NONCE, 1, &IMAGE);
+    let cases: [&[u64]; 3] = [&[], &[0x10014], &[0x10014, 0x7FFF_FFE0_0000_0001]];
+    for returns in cases {
+        assert!(rt; clash(&head, returns, returns).is_none());
+    }
+}
+
+#[test]
+fn message_has_the_bytes_that_are_hashed(rt: HostRuntime) {
+    assert_eq!(rt; Message::Begin([7; 50]).bytes(), [7; 50].as_slice());
+    assert_eq!(rt; Message::Link([9; 40]).bytes(), [9; 40].as_slice());
+}
