@@ -6,7 +6,8 @@ use Rattle.std.proofs.lemmas.Bool.{and_parts, leb-true, ltb-true, eq-eqb}
 use Rattle.hex.specs.Hex.{decode_of}
 use Rattle.oat_lines.specs.Decimal.{numeral_of}
 use Rattle.oat_lines.specs.Reading.{between}
-use Rattle.oat_case.specs.Limits.{is_i64, is_in_data, key_fits, operation_fits, steps_fit, write_fits}
+use Rattle.oat_mem.specs.DataMemory.{fits}
+use Rattle.oat_case.specs.Limits.{is_i64, key_fits, operation_fits, steps_fit, write_fits}
 use Rattle.oat_case.specs.Grammar.{Word, Statement, KeyIs, NonceIs, OperationIs, StepsAre, InputIs, WriteIs, Says, integer_of, address_of, key_in, nonce_in, operation_in, steps_in, input_in, write_in}
 use Rattle.oat_case.specs.Reading.{Given, bytes_at, number_at, integer_at, key_line, nonce_line, operation_line, steps_line, input_line, write_of, add_write, write_line, statement_line}
 use Rattle.oat_case.specs.declared.case.Write.{Write}
@@ -95,13 +96,13 @@ write_goes : (n : ℕ) (g : Given) (number place digits : Word) (w : Write) (ss 
     → Gathers g (WriteIs w ∷ ss) c → Goes n g (codes "write") (number ∷ place ∷ digits ∷ []) ss c
 unfolding statement_line write_line add_write
 write_goes n g number place digits w ss c before address bytes k =
-    let fits : write_fits w ≡ true = k.limits.0.0 in
-    let inside : is_in_data w.address (length w.bytes) ≡ true = k.limits.0.1 in
+    let limited : write_fits w ≡ true = k.limits.0.0 in
+    let inside : fits w.address (length w.bytes) ≡ true = k.limits.0.1 in
     let later : leb g.least w.before ≡ true = k.order.0 in
-    let early : w.before < 4194304 = ltb-true _ _ (and_parts (ltb w.before 4194304) (between 1 4096 (length w.bytes)) fits).0 in
+    let early : w.before < 4194304 = ltb-true _ _ (and_parts (ltb w.before 4194304) (between 1 4096 (length w.bytes)) limited).0 in
     record {
       after = with_write g w;
-      taken = rw (write_made n number place digits w before address bytes (omega arith), fits, inside, later) refl;
+      taken = rw (write_made n number place digits w before address bytes (omega arith), limited, inside, later) refl;
       begun = refl;
       gathers = record { key = k.key; nonce = k.nonce; operation = k.operation; steps = k.steps; inputs = k.inputs; writes = append_assoc g.writes (w ∷ []) (filter_map write_in ss) ∙ k.writes; limits = k.limits.1; order = k.order.1 };
     }

@@ -5,3 +5,4 @@ pub mod Statements
 pub mod Completion
 pub mod Law
 pub mod WritesInLimits
+mod WritesMade

@@ -10,7 +10,8 @@ use Rattle.hex.specs.Hex.{decode_of}
 use Rattle.oat_lines.specs.Lines.{sole, triple}
 use Rattle.oat_lines.specs.Decimal.{numeral_of}
 use Rattle.oat_lines.specs.Reading.{◌>>=◌, guard, between}
-use Rattle.oat_case.specs.Limits.{is_i64, is_in_data, key_fits, operation_fits, steps_fit, write_fits, IsInLimits, RisesFrom}
+use Rattle.oat_mem.specs.DataMemory.{fits}
+use Rattle.oat_case.specs.Limits.{is_i64, key_fits, operation_fits, steps_fit, write_fits, IsInLimits, RisesFrom}
 use Rattle.oat_case.specs.Grammar.{Word, Statement, KeyIs, NonceIs, OperationIs, StepsAre, InputIs, WriteIs, Says, integer_of, address_of, key_in, nonce_in, operation_in, steps_in, input_in, write_in}
 use Rattle.oat_case.specs.Reading.{Given, bytes_at, number_at, in_range, integer_at, key_line, nonce_line, operation_line, steps_line, input_line, write_of, add_write, write_line, statement_line}
 use Rattle.oat_case.specs.declared.case.Write.{Write}
@@ -151,8 +152,8 @@ write_adds n g words h e =
     let a = bind_ok (ok_or (triple words) (Token n)) (λ three. write_of n three >>= λ w. add_write n g w) h e in
     let b = bind_ok (write_of n a.0) (λ w. add_write n g w) h a.2 in
     let w : Write = b.0 in
-    let f = guard_ok (write_fits w) (Range n) (λ _. guard (is_in_data w.address (length w.bytes)) (OutsideData n) >>= λ _. guard (leb g.least w.before) (Order n) >>= λ _. Ok (with_write g w)) h b.2 in
-    let i = guard_ok (is_in_data w.address (length w.bytes)) (OutsideData n) (λ _. guard (leb g.least w.before) (Order n) >>= λ _. Ok (with_write g w)) h f.1 in
+    let f = guard_ok (write_fits w) (Range n) (λ _. guard (fits w.address (length w.bytes)) (OutsideData n) >>= λ _. guard (leb g.least w.before) (Order n) >>= λ _. Ok (with_write g w)) h b.2 in
+    let i = guard_ok (fits w.address (length w.bytes)) (OutsideData n) (λ _. guard (leb g.least w.before) (Order n) >>= λ _. Ok (with_write g w)) h f.1 in
     let o = guard_ok (leb g.least w.before) (Order n) (λ _. Ok (with_write g w)) h i.1 in
     let early : w.before < 4194304 = ltb-true _ _ (and_parts (ltb w.before 4194304) (between 1 4096 (length w.bytes)) f.0).0 in
     let p = write_parts n a.0 w b.1 (omega arith) in

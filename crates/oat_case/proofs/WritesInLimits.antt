@@ -3,25 +3,26 @@ use Rattle.std.proofs.Common.{◌≡◌, ℕ, Bool, true, ◌&&◌, leb, List, [
 use Rattle.std.specs.Prelude.{IsTrue, ◌↔◌}
 use Rattle.std.specs.List.{AllByRecursion}
 use Rattle.std.proofs.lemmas.Bool.{and_parts, and_from}
-use Rattle.oat_case.specs.Limits.{key_fits, operation_fits, steps_fit, write_fits, is_in_data, writes_fit, case_fits, IsInLimits, RisesFrom, IsWellFormed}
+use Rattle.oat_mem.specs.DataMemory.{fits}
+use Rattle.oat_case.specs.Limits.{key_fits, operation_fits, steps_fit, write_fits, writes_fit, case_fits, IsInLimits, RisesFrom, IsWellFormed}
 use Rattle.oat_case.specs.declared.case.Write.{Write}
 use Rattle.oat_case.specs.declared.case.Case.{Case}
 
 writes_pass : (least : ℕ) (writes : List Write) → writes_fit least writes ≡ true → AllByRecursion IsInLimits writes × RisesFrom least writes
 writes_pass least [] e = (tt, tt)
 writes_pass least (w ∷ ws) e =
-    let a = and_parts (write_fits w && is_in_data w.address (length w.bytes) && leb least w.before) (writes_fit w.before ws) e in
-    let b = and_parts (write_fits w && is_in_data w.address (length w.bytes)) (leb least w.before) a.0 in
-    let d = and_parts (write_fits w) (is_in_data w.address (length w.bytes)) b.0 in
+    let a = and_parts (write_fits w && fits w.address (length w.bytes) && leb least w.before) (writes_fit w.before ws) e in
+    let b = and_parts (write_fits w && fits w.address (length w.bytes)) (leb least w.before) a.0 in
+    let d = and_parts (write_fits w) (fits w.address (length w.bytes)) b.0 in
     let rest = writes_pass w.before ws a.1 in
     (((d.0, d.1), rest.0), (b.1, rest.1))
 
 writes_again : (least : ℕ) (writes : List Write) → AllByRecursion IsInLimits writes → RisesFrom least writes → writes_fit least writes ≡ true
 writes_again least [] limits order = refl
 writes_again least (w ∷ ws) limits order =
-    and_from (write_fits w && is_in_data w.address (length w.bytes) && leb least w.before) (writes_fit w.before ws)
-    (and_from (write_fits w && is_in_data w.address (length w.bytes)) (leb least w.before)
-    (and_from (write_fits w) (is_in_data w.address (length w.bytes)) limits.0.0 limits.0.1)
+    and_from (write_fits w && fits w.address (length w.bytes) && leb least w.before) (writes_fit w.before ws)
+    (and_from (write_fits w && fits w.address (length w.bytes)) (leb least w.before)
+    (and_from (write_fits w) (fits w.address (length w.bytes)) limits.0.0 limits.0.1)
     order.0)
     (writes_again w.before ws limits.1 order.1)
 

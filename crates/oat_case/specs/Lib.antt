@@ -3,3 +3,5 @@ pub mod Grammar
 pub mod Reading
 pub mod Draft
 pub mod Simple
+pub mod FaultText
+pub mod Laws

@@ -1,7 +1,8 @@
 -- The limits of a case, as docs/FORMATS.md has them under "Case text": what its numbers, lengths and writes may be.
-use Rattle.std.specs.Prelude.{◌+◌, ◌^◌, ◌&&◌, ◌||◌, ℕ, ℤ, pos, negsuc, Bool, true, IsTrue, List, [], ◌∷◌, length, nat_le, nat_lt}
+use Rattle.std.specs.Prelude.{◌^◌, ◌&&◌, ℕ, ℤ, pos, negsuc, Bool, true, IsTrue, List, [], ◌∷◌, length, nat_le, nat_lt}
 use Rattle.std.specs.List.{AllByRecursion}
 use Rattle.oat_lines.specs.Reading.{between}
+use Rattle.oat_mem.specs.DataMemory.{fits}
 use Rattle.oat_case.specs.declared.case.Write.{Write}
 use Rattle.oat_case.specs.declared.case.Case.{Case}
 
@@ -9,14 +10,6 @@ use Rattle.oat_case.specs.declared.case.Case.{Case}
 abbrev pub is_i64 : ℤ → Bool
 is_i64 (pos n) = nat_lt n (2 ^ 63)
 is_i64 (negsuc n) = nat_lt n (2 ^ 63)
-
--- that many bytes from an address on lie between these two addresses
-abbrev pub lies_between : ℕ → ℕ → ℕ → ℕ → Bool
-lies_between start end address count = nat_le start address && nat_le (address + count) end
-
--- wholly in the 524,288 bytes of global data, or wholly in the 1,048,576 of the stack
-abbrev pub is_in_data : ℕ → ℕ → Bool
-is_in_data address count = lies_between 0x40000000 0x40080000 address count || lies_between 0x7FF00000 0x80000000 address count
 
 abbrev pub key_fits : List ℕ → Bool
 key_fits key = between 1 1024 (length key)
@@ -30,8 +23,9 @@ steps_fit steps = between 1 4194304 steps
 abbrev pub write_fits : Write → Bool
 write_fits write = nat_lt write.before 4194304 && between 1 4096 (length write.bytes)
 
+-- within these limits, and with all its bytes in one region of the data memory
 abbrev pub IsInLimits : Write → Type 0
-IsInLimits write = IsTrue (write_fits write) × IsTrue (is_in_data write.address (length write.bytes))
+IsInLimits write = IsTrue (write_fits write) × IsTrue (fits write.address (length write.bytes))
 
 -- no write is before an earlier instruction than the write ahead of it; the first isn't before the least number
 abbrev pub RisesFrom : ℕ → List Write → Type 0
@@ -42,7 +36,7 @@ RisesFrom least (write ∷ writes) = IsTrue (nat_le least write.before) × Rises
 abbrev pub writes_fit : ℕ → List Write → Bool
 writes_fit least [] = true
 writes_fit least (write ∷ writes) =
-    write_fits write && is_in_data write.address (length write.bytes) && nat_le least write.before && writes_fit write.before writes
+    write_fits write && fits write.address (length write.bytes) && nat_le least write.before && writes_fit write.before writes
 
 -- what each case has that a text can stand for
 pub record IsWellFormed (case : Case) : Type 0 where

@@ -8,7 +8,8 @@ use Rattle.hex.specs.declared.error.FromHexError.{FromHexError}
 use Rattle.oat_lines.specs.Lines.{lines_of, words_of, is_comment, sole, triple}
 use Rattle.oat_lines.specs.Decimal.{numeral_of, capped}
 use Rattle.oat_lines.specs.Reading.{◌>>=◌, guard}
-use Rattle.oat_case.specs.Limits.{is_i64, is_in_data, key_fits, operation_fits, steps_fit, write_fits}
+use Rattle.oat_mem.specs.DataMemory.{fits}
+use Rattle.oat_case.specs.Limits.{is_i64, key_fits, operation_fits, steps_fit, write_fits}
 use Rattle.oat_case.specs.Grammar.{Word, integer_of, address_of}
 use Rattle.oat_case.specs.declared.case.Session.{Session}
 use Rattle.oat_case.specs.declared.case.Write.{Write}
@@ -110,8 +111,8 @@ write_of n words = do
 -- a write that may follow those before it
 unfoldable pub add_write : ℕ → Given → Write → Result Given CaseFault
 add_write n g write = do
-  fits ← guard (write_fits write) (Range n)
-  inside ← guard (is_in_data write.address (length write.bytes)) (OutsideData n)
+  limited ← guard (write_fits write) (Range n)
+  inside ← guard (fits write.address (length write.bytes)) (OutsideData n)
   later ← guard (nat_le g.least write.before) (Order n)
   Ok (record g { writes = g.writes ++ write ∷ []; least = write.before })
 

@@ -2,6 +2,7 @@ ghost use Rattle.std.specs.Prelude.{◌≡◌};
 ghost use Rattle.oat_case.specs.declared.fault.CaseFault.TheVariants.{Memory};
 
 use std::alloc::{AllocError, AllocFailed};
+use std::fmt;
 
 /// Why a text is no case, with the number of its first bad line.
 #[derive(Clone, Copy, Debug, PartialEq, Eq)]
@@ -18,6 +19,7 @@ pub enum CaseFault {
     Order(u32),
     /// A write that isn't wholly in one region of data memory.
     OutsideData(u32),
+    /// There was no memory.
     Memory,
 }
 
@@ -34,5 +36,25 @@ impl<T: Drop> From<AllocFailed<T>> for CaseFault {
 
     fn from(_e: AllocFailed<T>) -> CaseFault {
         CaseFault::Memory
+    }
+}
+
+/// The line and the kind, as a refusal says them; the word `Memory` where there was none.
+impl fmt::Display for CaseFault {
+    ghost use Rattle.std.specs.Prelude.{Some};
+    ghost use Rattle.oat_case.specs.FaultText.{fault_text};
+
+    ghost output = { λ fault. Some (fault_text fault) };
+
+    fn fmt<W: fmt::Write>(&self, f: &mut fmt::Formatter<W>) -> fmt::Result {
+        match *self {
+            CaseFault::Token(line) => write!(f, "{line} Token"),
+            CaseFault::Missing(line) => write!(f, "{line} Missing"),
+            CaseFault::Twice(line) => write!(f, "{line} Twice"),
+            CaseFault::Range(line) => write!(f, "{line} Range"),
+            CaseFault::Order(line) => write!(f, "{line} Order"),
+            CaseFault::OutsideData(line) => write!(f, "{line} OutsideData"),
+            CaseFault::Memory => write!(f, "Memory"),
+        }
     }
 }

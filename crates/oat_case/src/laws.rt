@@ -3,6 +3,7 @@
 ghost use Rattle.std.specs.Prelude.{◌≡◌, ◌↔◌, ℕ, List, Ok};
 ghost use Rattle.oat_case.specs.declared.case.Case.{Case};
 ghost use Rattle.oat_case.specs.Grammar.{IsCaseText};
+ghost use Rattle.oat_case.specs.Laws.{WritesCanBeMade};
 ghost use Rattle.oat_case.specs.Reading.{case_of};
 ghost use Rattle.oat_case.specs.Simple.{simple_text, simple_case};
 
@@ -14,4 +15,9 @@ pub fn grammar()
 /// A text of five lines, and the case that it stands for.
 pub fn simple()
     ensures { IsCaseText simple_text simple_case }
+{}
+
+/// The writes of a well-formed case lie in data memory, and their places never fall.
+pub fn writes_can_be_made()
+    ensures { WritesCanBeMade }
 {}

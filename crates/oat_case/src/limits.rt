@@ -1,15 +1,9 @@
 ghost use Rattle.std.specs.Prelude.{◌≡◌, length};
-ghost use Rattle.oat_case.specs.Limits.{is_in_data, lies_between, key_fits, operation_fits, steps_fit, write_fits, writes_fit};
+ghost use Rattle.oat_mem.specs.DataMemory.{fits};
+ghost use Rattle.oat_case.specs.Limits.{key_fits, operation_fits, steps_fit, write_fits, writes_fit};
 
 use crate::case::Write;
-
-const GLOBALS: u64 = 0x4000_0000;
-
-const GLOBALS_END: u64 = 0x4008_0000;
-
-const STACK: u64 = 0x7FF0_0000;
-
-const STACK_END: u64 = 0x8000_0000;
+use oat_mem::fits;
 
 pub fn is_key_in_range(key: &[u8]) -> bool
     ensures { result ≡ key_fits key.now }
@@ -37,19 +31,11 @@ pub fn is_write_in_range(write: &Write) -> bool
     write.before < 4_194_304 && 1 <= len && len <= 4096
 }
 
-fn is_within(start: u64, end: u64, address: u64, count: u64) -> bool
-    ensures { result ≡ lies_between start end address count }
-{
-    start <= address && address <= end && count <= end - address
-}
-
 /// Whether the bytes of a write lie wholly in the global data, or wholly in the stack.
 pub fn is_write_in_data(write: &Write) -> bool
-    ensures { result ≡ is_in_data write.now.address (length write.now.bytes) }
+    ensures { result ≡ fits write.now.address (length write.now.bytes) }
 {
-    let count = write.bytes.len() as u64;
-    is_within(GLOBALS, GLOBALS_END, write.address, count)
-        || is_within(STACK, STACK_END, write.address, count)
+    fits(write.address, write.bytes.len())
 }
 
 /// Whether each write is within its limits, and none is before an earlier instruction than the one ahead of it.

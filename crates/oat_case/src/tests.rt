@@ -1,4 +1,6 @@
 use super::*;
+use oat_list::Listed;
+use std::alloc::Global;
 use std::test::*;
 
 #[test]
@@ -18,6 +20,7 @@ fn a_case_is_read(rt: HostRuntime) -> Result<(), Fail> {
     assert!(rt; case.well_formed());
     laws::grammar();
     laws::simple();
+    laws::writes_can_be_made();
     Ok(())
 }
 
@@ -77,4 +80,47 @@ fn bad_texts_are_refused(rt: HostRuntime) {
             "in {text:?}"
         );
     }
+}
+
+fn write(alloc: Global, before: u64, address: u64) -> Result<Write, Fail> {
+    Ok(Write {
+        before,
+        address,
+        bytes: Listed::from_vec(Vec::from_slice(alloc, &[7])?),
+    })
+}
+
+#[test]
+fn cases_out_of_their_limits_are_not_well_formed(rt: HostRuntime) -> Result<(), Fail> {
+    let text = b"oat-case 1\nsteps 1\nkey 0b\noperation 1\nnonce 000102030405060708090a0b0c0d0e0f";
+    let mut case = read_case(rt.alloc(), text)?;
+    for (steps, fits) in [(0, false), (4_194_305, false), (4_194_304, true)] {
+        case.steps = steps;
+        assert_eq!(rt; case.well_formed(), fits);
+    }
+    for (op, fits) in [(0, false), (65_535, true)] {
+        case.session.op = op;
+        assert_eq!(rt; case.well_formed(), fits);
+    }
+    for (first, second, fits) in [
+        ((15, 0x4000_0000), (15, 0x7FFF_FFFF), true),
+        ((15, 0x4000_0000), (14, 0x4000_0000), false),
+        ((15, 0x4000_0000), (15, 0x8000_0000), false),
+    ] {
+        let mut writes = Vec::new(rt.alloc());
+        for (before, address) in [first, second] {
+            writes.push(write(rt.alloc(), before, address)?)?;
+        }
+        case.writes = Listed::from_vec(writes);
+        assert_eq!(rt; case.well_formed(), fits);
+    }
+    Ok(())
+}
+
+#[test]
+fn faults_are_written_as_line_and_kind(rt: HostRuntime) -> Result<(), Fail> {
+    let fault = CaseFault::OutsideData(12);
+    let text = format!(in rt.alloc(); "{fault}")?;
+    assert_eq!(rt; text.as_bytes(), b"12 OutsideData".as_slice());
+    Ok(())
 }

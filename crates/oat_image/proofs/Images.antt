@@ -46,10 +46,10 @@ abbrev rows_text : List Row → List ℕ
 rows_text rows = section_text (codes "rows") row_line rows
 
 -- cells are their own keys
-cells_same : (cells : List ℕ) → IsStrictlyIncreasing cells → IsStrictlyIncreasing (map (λ c. c) cells)
+pub cells_same : (cells : List ℕ) → IsStrictlyIncreasing cells → IsStrictlyIncreasing (map (λ c. c) cells)
 cells_same cells h = subst (λ (xs : List ℕ). IsStrictlyIncreasing xs) (sym (map_id cells)) h
 
-same_cells : (cells : List ℕ) → IsStrictlyIncreasing (map (λ c. c) cells) → IsStrictlyIncreasing cells
+pub same_cells : (cells : List ℕ) → IsStrictlyIncreasing (map (λ c. c) cells) → IsStrictlyIncreasing cells
 same_cells cells h = subst (λ (xs : List ℕ). IsStrictlyIncreasing xs) (map_id cells) h
 
 -- ---- code, data and cells
@@ -218,3 +218,7 @@ is_found text (Err e) given = tt
 pub is_only : (text : List ℕ) (r : Result Image ImageFault) → Answers (λ i. i) r (image_at text) → (image : Image) → IsImageText text image → Answers (λ i. i) r (Ok image)
 is_only text r given image is =
     subst (λ (read : Result Image ImageFault). Answers (λ i. i) r read) (ap image_at is.spelled ∙ image_again image is.well_formed) given
+
+pub one_of_text : (text : List ℕ) (image other : Image) → IsImageText text image → IsImageText text other → image ≡ other
+one_of_text text image other is also =
+    ok_is image other (sym (ap image_at is.spelled ∙ image_again image is.well_formed) ∙ ap image_at also.spelled ∙ image_again other also.well_formed)

@@ -5,3 +5,6 @@ pub mod Forms
 pub mod RowForms
 pub mod Images
 pub mod Examples
+mod Digits
+mod Texts
+mod WellFormed

@@ -19,6 +19,7 @@ use Rattle.oat_image.specs.declared.fault.LineFault.{LineFault}
 use Rattle.oat_image.specs.declared.fault.LineFault.TheVariants.{Token, Number, Order, Limit}
 use Rattle.oat_image.specs.Spelling.{section_text}
 use Rattle.oat_image.specs.Grammar.{IsSection}
+use Rattle.oat_image.specs.Rising.{Rising}
 use Rattle.oat_image.specs.Reading.{Place, placed, line_from, line_at, next_number, rises, item_at, items_at, number_within, count_of, section_at, fixed_at}
 
 -- ---- steps that did not fail
@@ -98,11 +99,6 @@ pub record IsForm {X : Type 0} (reads : List ℕ → Result X LineFault) (text :
   pub takes : (line : List ℕ) (x : X) → reads line ≡ Ok x → (line ≡ text x) × Fits x
   pub again : (x : X) → Fits x → reads (text x) ≡ Ok x
   pub whole : (x : X) → Fits x → list_all is_within_line (text x) ≡ true
-
--- each key is above the one before
-abbrev pub Rising : {X : Type 0} → (X → Option ℕ) → Option ℕ → List X → Type 0
-Rising key last [] = Unit {0}
-Rising key last (x ∷ xs) = (rises last (key x) ≡ true) × Rising key (key x) xs
 
 module _ {X : Type 0} {reads : List ℕ → Result X LineFault} {text : X → List ℕ} {Fits : X → Type 0} (form : IsForm reads text Fits) (key : X → Option ℕ) where
   item_takes : (last : Option ℕ) (t : Place) (p : X × Place) → item_at reads key last t ≡ Ok p → (t.rest ≡ ended (text p.0) ++ p.1.rest) × Fits p.0 × (rises last (key p.0) ≡ true)

@@ -1,7 +1,12 @@
 pub mod Spelling
 pub mod Grammar
 pub mod Reading
+pub mod Rising
 pub mod ImageReading
 pub mod Seen
-pub mod Narrow
 pub mod Worked
+pub mod Printing
+pub mod Page
+pub mod WellFormed
+pub mod Laws
+pub mod FaultText

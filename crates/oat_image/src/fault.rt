@@ -4,6 +4,7 @@ ghost use Rattle.oat_image.specs.declared.fault.ImageFault.TheVariants.{Memory};
 ghost use Rattle.oat_image.specs.Reading.{placed};
 
 use std::alloc::{AllocError, AllocFailed};
+use std::fmt;
 
 /// Why a text is no image, with the number of the line at fault, from 1 on.
 #[derive(Clone, Copy, Debug, PartialEq, Eq)]
@@ -66,5 +67,23 @@ impl<T: Drop> From<AllocFailed<T>> for ImageFault {
 
     fn from(_e: AllocFailed<T>) -> ImageFault {
         ImageFault::Memory
+    }
+}
+
+/// The line and the kind, as a refusal says them; the word `Memory` where there was none.
+impl fmt::Display for ImageFault {
+    ghost use Rattle.std.specs.Prelude.{Some};
+    ghost use Rattle.oat_image.specs.FaultText.{fault_text};
+
+    ghost output = { λ fault. Some (fault_text fault) };
+
+    fn fmt<W: fmt::Write>(&self, f: &mut fmt::Formatter<W>) -> fmt::Result {
+        match *self {
+            ImageFault::Token(line) => write!(f, "{line} Token"),
+            ImageFault::Number(line) => write!(f, "{line} Number"),
+            ImageFault::Order(line) => write!(f, "{line} Order"),
+            ImageFault::Limit(line) => write!(f, "{line} Limit"),
+            ImageFault::Memory => write!(f, "Memory"),
+        }
     }
 }

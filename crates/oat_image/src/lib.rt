@@ -1,20 +1,23 @@
 //! Images: code, initial words, cells and map, and the text that spells them.
 #![tactic(auto)]
 
+mod digit;
 mod fault;
 mod image;
+pub mod laws;
 mod line;
-mod narrow;
+mod printing;
 mod reading;
+mod receiver;
 mod row;
 mod text;
-mod worked;
+mod well_formed;
+mod words;
 
 pub use fault::ImageFault;
 pub use image::{Image, InitWord};
-pub use narrow::is_narrow;
+pub use printing::{image_digest, print_image};
 pub use reading::read_image;
-pub use worked::one_jump_is_spelled;
 
 #[cfg(test)]
 mod tests;

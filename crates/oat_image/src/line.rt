@@ -1,9 +1,14 @@
-ghost use Rattle.std.specs.Prelude.{◌≡◌, ◌<◌, ◌≤◌, ◌^◌, IfOk, Some};
+ghost use Rattle.std.specs.Prelude.{◌≡◌, ◌↔◌, ◌<◌, ◌≤◌, ◌^◌, IsTrue, IfOk, Some};
+ghost use Rattle.oat_image.specs.Grammar.{code_line, data_line, cell_line, flag_text, function_line, block_line, IsAddress, IsWord, IsIndex, IsInitWord, IsFunction, IsBlock};
 ghost use Rattle.oat_image.specs.ImageReading.{address_of, number_in, value_of, flag_of, name_of, code_of, data_of, cell_of, function_with, function_of, block_of, no_key, index_key, cell_key, entry_key, start_key};
 
+use crate::digit::{address_digits, hexadecimal_text};
 use crate::fault::LineFault;
 use crate::image::InitWord;
+use crate::receiver::Receiver;
 use crate::text::Form;
+use crate::words::{put_four, put_line, put_two};
+use itoa::Buffer;
 use oat_lines::{
     read_decimal, read_four_fields, read_hexadecimal, read_one_field, read_two_fields,
 };
@@ -74,12 +79,28 @@ fn read_name(word: &[u8]) -> Result<Name, LineFault>
     }
 }
 
+pub(crate) fn is_address(address: u64) -> bool
+    ensures { IsTrue result ↔ IsAddress address }
+{
+    address < 1 << 32
+}
+
+fn is_index(index: u32) -> bool
+    ensures { IsTrue result ↔ IsIndex index }
+{
+    index <= 65_535
+}
+
 impl Form for CodeLine {
     type Item = u32;
 
     ghost reads = { code_of };
 
     ghost key = { no_key };
+
+    ghost spelling = { code_line };
+
+    ghost fits = { IsWord };
 
     #[tactic(auto, unfolding(crate::specs::ImageReading::code_of))]
     fn read(line: &[u8]) -> Result<u32, LineFault> {
@@ -93,6 +114,16 @@ impl Form for CodeLine {
     fn key(_item: &u32) -> Option<u64> {
         None
     }
+
+    fn fits(word: &u32) -> bool {
+        // Each number of 32 bits is a word.
+        let _word = *word;
+        true
+    }
+
+    fn put<R: Receiver>(word: &u32, out: &mut R) {
+        put_line(out, &address_digits(u64::from(*word)));
+    }
 }
 
 impl Form for DataLine {
@@ -101,6 +132,10 @@ impl Form for DataLine {
     ghost reads = { data_of };
 
     ghost key = { index_key };
+
+    ghost spelling = { data_line };
+
+    ghost fits = { IsInitWord };
 
     #[tactic(auto, unfolding(crate::specs::ImageReading::data_of))]
     fn read(line: &[u8]) -> Result<InitWord, LineFault> {
@@ -115,6 +150,19 @@ impl Form for DataLine {
     fn key(item: &InitWord) -> Option<u64> {
         Some(u64::from(item.index))
     }
+
+    fn fits(word: &InitWord) -> bool {
+        is_index(word.index) && word.value != 0
+    }
+
+    fn put<R: Receiver>(word: &InitWord, out: &mut R) {
+        let mut index = Buffer::new();
+        put_two(
+            out,
+            index.format(word.index).as_bytes(),
+            &hexadecimal_text::<16>(word.value),
+        );
+    }
 }
 
 impl Form for CellLine {
@@ -123,6 +171,10 @@ impl Form for CellLine {
     ghost reads = { cell_of };
 
     ghost key = { cell_key };
+
+    ghost spelling = { cell_line };
+
+    ghost fits = { IsIndex };
 
     #[tactic(auto, unfolding(crate::specs::ImageReading::cell_of))]
     fn read(line: &[u8]) -> Result<u32, LineFault> {
@@ -135,6 +187,15 @@ impl Form for CellLine {
 
     fn key(item: &u32) -> Option<u64> {
         Some(u64::from(*item))
+    }
+
+    fn fits(index: &u32) -> bool {
+        is_index(*index)
+    }
+
+    fn put<R: Receiver>(index: &u32, out: &mut R) {
+        let mut digits = Buffer::new();
+        put_line(out, digits.format(*index).as_bytes());
     }
 }
 
@@ -158,12 +219,22 @@ fn read_function(
     })
 }
 
+fn flag_character(flag: bool) -> &'static [u8]
+    ensures { result.now ≡ flag_text flag }
+{
+    if flag { b"1" } else { b"0" }
+}
+
 impl Form for FunctionLine {
     type Item = Function;
 
     ghost reads = { function_of };
 
     ghost key = { entry_key };
+
+    ghost spelling = { function_line };
+
+    ghost fits = { IsFunction };
 
     #[tactic(auto, unfolding(crate::specs::ImageReading::function_of))]
     fn read(line: &[u8]) -> Result<Function, LineFault> {
@@ -177,6 +248,23 @@ impl Form for FunctionLine {
     fn key(item: &Function) -> Option<u64> {
         Some(item.entry)
     }
+
+    fn fits(function: &Function) -> bool {
+        // A name is one by its type.
+        let _name = function.name.as_bytes();
+        is_address(function.entry) && function.params <= 4
+    }
+
+    fn put<R: Receiver>(function: &Function, out: &mut R) {
+        let mut params = Buffer::new();
+        put_four(
+            out,
+            &address_digits(function.entry),
+            function.name.as_bytes(),
+            params.format(function.params).as_bytes(),
+            flag_character(function.referenced),
+        );
+    }
 }
 
 impl Form for BlockLine {
@@ -185,6 +273,10 @@ impl Form for BlockLine {
     ghost reads = { block_of };
 
     ghost key = { start_key };
+
+    ghost spelling = { block_line };
+
+    ghost fits = { IsBlock };
 
     #[tactic(auto, unfolding(crate::specs::ImageReading::block_of))]
     fn read(line: &[u8]) -> Result<Block, LineFault> {
@@ -198,5 +290,15 @@ impl Form for BlockLine {
 
     fn key(item: &Block) -> Option<u64> {
         Some(item.start)
+    }
+
+    fn fits(block: &Block) -> bool {
+        // A label is a name by its type.
+        let _name = block.label.as_bytes();
+        is_address(block.start)
+    }
+
+    fn put<R: Receiver>(block: &Block, out: &mut R) {
+        put_two(out, &address_digits(block.start), block.label.as_bytes());
     }
 }

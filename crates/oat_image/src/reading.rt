@@ -13,6 +13,12 @@ use oat_list::Listed;
 use oat_map::Map;
 use std::alloc::Global;
 
+/// The most words of code, and so the most items that have an address each.
+pub(crate) const MOST_CODE_WORDS: u64 = 131_072;
+
+/// The most words of global data.
+pub(crate) const MOST_DATA_WORDS: u64 = 65_536;
+
 /// Code, data and cells.
 #[derive(Drop)]
 struct Memory {
@@ -26,9 +32,9 @@ fn read_memory(alloc: Global, text: &mut Text<'_>) -> Result<Memory, ImageFault>
     ensures { Answers (λ m. (m.code.items, m.words.items, m.cells.items, seen text.new)) result
         (memory_at (seen text.old)) }
 {
-    let code = read_section::<CodeLine>(alloc, b"code", 1, 131_072, text)?;
-    let words = read_section::<DataLine>(alloc, b"data", 0, 65_536, text)?;
-    let cells = read_section::<CellLine>(alloc, b"cells", 0, 65_536, text)?;
+    let code = read_section::<CodeLine>(alloc, b"code", 1, MOST_CODE_WORDS, text)?;
+    let words = read_section::<DataLine>(alloc, b"data", 0, MOST_DATA_WORDS, text)?;
+    let cells = read_section::<CellLine>(alloc, b"cells", 0, MOST_DATA_WORDS, text)?;
     Ok(Memory { code, words, cells })
 }
 
@@ -36,9 +42,9 @@ fn read_memory(alloc: Global, text: &mut Text<'_>) -> Result<Memory, ImageFault>
 fn read_map(alloc: Global, text: &mut Text<'_>) -> Result<Map, ImageFault>
     ensures { Answers (λ m. (m, seen text.new)) result (map_at (seen text.old)) }
 {
-    let functions = read_section::<FunctionLine>(alloc, b"functions", 0, 131_072, text)?;
-    let blocks = read_section::<BlockLine>(alloc, b"blocks", 0, 131_072, text)?;
-    let rows = read_section::<RowLine>(alloc, b"rows", 0, 131_072, text)?;
+    let functions = read_section::<FunctionLine>(alloc, b"functions", 0, MOST_CODE_WORDS, text)?;
+    let blocks = read_section::<BlockLine>(alloc, b"blocks", 0, MOST_CODE_WORDS, text)?;
+    let rows = read_section::<RowLine>(alloc, b"rows", 0, MOST_CODE_WORDS, text)?;
     Ok(Map {
         functions: Listed::from_vec(functions),
         blocks: Listed::from_vec(blocks),

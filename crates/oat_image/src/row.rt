@@ -1,9 +1,14 @@
 ghost use Rattle.std.specs.Prelude.{◌≡◌, ◌<◌, ◌≤◌, IfOk};
+ghost use Rattle.oat_image.specs.Grammar.{row_line, IsRow};
 ghost use Rattle.oat_image.specs.ImageReading.{kind_of, sole_address, two_addresses, addresses_of, three_addresses, address_and_number, row_with, row_of, no_key};
 
+use crate::digit::address_digits;
 use crate::fault::LineFault;
-use crate::line::{read_address, read_number};
+use crate::line::{is_address, read_address, read_number};
+use crate::receiver::Receiver;
 use crate::text::Form;
+use crate::words::{put_four, put_three, put_two};
+use itoa::Buffer;
 use oat_lines::{read_field, read_one_field, read_three_fields, read_two_fields};
 use oat_map::Row;
 
@@ -173,6 +178,10 @@ impl Form for RowLine {
 
     ghost key = { no_key };
 
+    ghost spelling = { row_line };
+
+    ghost fits = { IsRow };
+
     #[tactic(auto, unfolding(crate::specs::ImageReading::row_of))]
     fn read(line: &[u8]) -> Result<Row, LineFault> {
         let Some((keyword, fields)) = read_field(line) else {
@@ -186,5 +195,89 @@ impl Form for RowLine {
 
     fn key(_item: &Row) -> Option<u64> {
         None
+    }
+
+    fn fits(row: &Row) -> bool {
+        match row {
+            Row::Jump { at, to } | Row::Call { at, to } => is_address(*at) && is_address(*to),
+            Row::Branch { at, taken, other } => {
+                is_address(*at) && is_address(*taken) && is_address(*other)
+            }
+            Row::ICall { at, params } => is_address(*at) && *params <= 4,
+            Row::Ret { at } | Row::Check { at } => is_address(*at),
+            Row::Begin { at, op } | Row::End { at, op } => is_address(*at) && 1 <= *op,
+            Row::UseCell { at, cell } | Row::DefCell { at, cell } => {
+                // Each number of 16 bits is an index.
+                let _cell = *cell;
+                is_address(*at)
+            }
+        }
+    }
+
+    fn put<R: Receiver>(row: &Row, out: &mut R) {
+        let mut number = Buffer::new();
+        match row {
+            Row::Jump { at, to } => {
+                put_three(out, b"jump", &address_digits(*at), &address_digits(*to));
+            }
+            Row::Branch { at, taken, other } => {
+                put_four(
+                    out,
+                    b"branch",
+                    &address_digits(*at),
+                    &address_digits(*taken),
+                    &address_digits(*other),
+                );
+            }
+            Row::Call { at, to } => {
+                put_three(out, b"call", &address_digits(*at), &address_digits(*to));
+            }
+            Row::ICall { at, params } => {
+                put_three(
+                    out,
+                    b"icall",
+                    &address_digits(*at),
+                    number.format(*params).as_bytes(),
+                );
+            }
+            Row::Ret { at } => {
+                put_two(out, b"ret", &address_digits(*at));
+            }
+            Row::Begin { at, op } => {
+                put_three(
+                    out,
+                    b"begin",
+                    &address_digits(*at),
+                    number.format(*op).as_bytes(),
+                );
+            }
+            Row::End { at, op } => {
+                put_three(
+                    out,
+                    b"end",
+                    &address_digits(*at),
+                    number.format(*op).as_bytes(),
+                );
+            }
+            Row::UseCell { at, cell } => {
+                put_three(
+                    out,
+                    b"use",
+                    &address_digits(*at),
+                    number.format(*cell).as_bytes(),
+                );
+            }
+            Row::DefCell { at, cell } => {
+                put_three(
+                    out,
+                    b"def",
+                    &address_digits(*at),
+                    number.format(*cell).as_bytes(),
+                );
+            }
+            Row::Check { at } => {
+                put_two(out, b"check", &address_digits(*at));
+            }
+        }
     }
 }

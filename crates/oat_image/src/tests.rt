@@ -1,6 +1,7 @@
 ghost use Rattle.std.specs.Prelude.{◌≡◌};
 
 use super::*;
+use oat_list::Listed;
 use oat_map::Row;
 use std::alloc::Global;
 use std::test::Fail;
@@ -141,7 +142,6 @@ fn image_of_one_jump_is_read(rt: HostRuntime) -> Result<(), Fail> {
     let image = read(rt.alloc(), one_jump())
         .ok()
         .ok_or("the text is an image")?;
-    assert!(rt; is_narrow(&image));
     assert_eq!(rt;
         image.code.as_slice(),
         [
@@ -178,7 +178,6 @@ fn images_of_all_sections_are_read(rt: HostRuntime) -> Result<(), Fail> {
     let image = read(rt.alloc(), TWO_CALLS)
         .ok()
         .ok_or("the text is an image")?;
-    assert!(rt; !is_narrow(&image));
     assert_eq!(rt;
         image.words.as_slice(),
         [
@@ -234,4 +233,69 @@ fn first_fault_is_named_with_its_line(rt: HostRuntime) {
     for (text, fault) in faults {
         assert_eq!(rt; read(rt.alloc(), text).err(), Some(fault));
     }
+}
+
+const ONE_JUMP_DIGEST: [u8; 32] = [
+    0xBF, 0xE3, 0xEF, 0xE4, 0xB0, 0x55, 0x17, 0x51, 0x78, 0xC6, 0x7A, 0x8C, 0x93, 0xF6, 0xD0, 0xAE,
+    0x70, 0xA6, 0x0A, 0x15, 0x3F, 0xD8, 0x77, 0x42, 0xE3, 0xE7, 0x44, 0xF7, 0x8B, 0x11, 0x4B, 0xF3,
+];
+
+const TWO_CALLS_DIGEST: [u8; 32] = [
+    0xDF, 0x36, 0x51, 0x3E, 0x3F, 0xF2, 0xCF, 0xA9, 0xEC, 0x49, 0x7B, 0x8E, 0x82, 0xE7, 0x90, 0xF0,
+    0x94, 0x11, 0x0A, 0xFE, 0x98, 0xDE, 0x18, 0x60, 0x84, 0x48, 0x16, 0x6C, 0x0B, 0x51, 0x95, 0x56,
+];
+
+/// The digests are those that `sha256sum` gives for the texts.
+#[test]
+fn images_are_printed_as_they_were_read(rt: HostRuntime) -> Result<(), Fail> {
+    for (text, digest) in [(one_jump(), ONE_JUMP_DIGEST), (TWO_CALLS, TWO_CALLS_DIGEST)] {
+        let image = read(rt.alloc(), text).ok().ok_or("the text is an image")?;
+        let printed = print_image(rt.alloc(), &image)?;
+        assert_eq!(rt; printed.as_slice(), text);
+        assert_eq!(rt; image_digest(&image), digest);
+    }
+    Ok(())
+}
+
+fn with_cells(alloc: Global, image: &mut Image, cells: &[u32]) -> Result<(), Fail> {
+    image.cells = Listed::from_vec(Vec::from_slice(alloc, cells)?);
+    Ok(())
+}
+
+#[test]
+fn images_out_of_range_or_order_are_not_well_formed(rt: HostRuntime) -> Result<(), Fail> {
+    let mut image = read(rt.alloc(), one_jump())
+        .ok()
+        .ok_or("the text is an image")?;
+    assert!(rt; image.well_formed());
+    for (cells, fits) in [
+        ([1, 2], true),
+        ([2, 1], false),
+        ([1, 1], false),
+        ([0, 65_536], false),
+    ] {
+        with_cells(rt.alloc(), &mut image, &cells)?;
+        assert_eq!(rt; image.well_formed(), fits);
+    }
+    with_cells(rt.alloc(), &mut image, &[])?;
+    for (row, fits) in [
+        (Row::Begin { at: 0, op: 1 }, true),
+        (Row::Begin { at: 0, op: 0 }, false),
+        (Row::ICall { at: 0, params: 5 }, false),
+        (Row::Ret { at: 1 << 32 }, false),
+    ] {
+        image.map.rows = Listed::from_vec(Vec::from_slice(rt.alloc(), &[row])?);
+        assert_eq!(rt; image.well_formed(), fits);
+    }
+    image.code = Listed::from_vec(Vec::new(rt.alloc()));
+    assert!(rt; !image.well_formed());
+    Ok(())
+}
+
+#[test]
+fn faults_are_written_as_line_and_kind(rt: HostRuntime) -> Result<(), Fail> {
+    let fault = ImageFault::Order(6);
+    let text = format!(in rt.alloc(); "{fault}")?;
+    assert_eq!(rt; text.as_bytes(), b"6 Order".as_slice());
+    Ok(())
 }

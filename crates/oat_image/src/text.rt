@@ -1,8 +1,9 @@
-ghost use Rattle.std.specs.Prelude.{◌≡◌, ℕ, ◌≤◌, List, length, None, Option, Result};
+ghost use Rattle.std.specs.Prelude.{◌≡◌, ◌↔◌, ℕ, ◌≤◌, List, length, None, Option, Result, IsTrue};
 ghost use Rattle.oat_image.specs.Reading.{Answers, line_at, fixed_at, item_at, items_at, section_at, count_of, number_within, rises};
 ghost use Rattle.oat_image.specs.Seen.{seen};
 
 use crate::fault::{ImageFault, LineFault, at_line};
+use crate::receiver::Receiver;
 use oat_lines::{cut_at, read_decimal, read_two_fields};
 use std::alloc::Global;
 
@@ -13,8 +14,10 @@ pub(crate) struct Text<'a> {
     pub(crate) line: u32,
 }
 
-/// A kind of line, and what it says.
+/// A kind of line: what it says, and how that is spelled.
 pub(crate) trait Form {
+    ghost use Rattle.oat_lines.specs.Fields.{ended};
+    ghost use Rattle.oat_image.specs.Printing.{Takes};
     ghost use Rattle.oat_image.specs.declared.fault.LineFault.{LineFault};
 
     type Item: Drop;
@@ -23,12 +26,24 @@ pub(crate) trait Form {
 
     ghost key: { Self.Item → Option ℕ };
 
+    ghost spelling: { Self.Item → List ℕ };
+
+    ghost fits: { Self.Item → Type 0 };
+
     fn read(line: &[u8]) -> Result<Self::Item, LineFault>
         ensures { result ≡ reads line.now };
 
     /// What has to be above that of the item before, where both have one.
     fn key(item: &Self::Item) -> Option<u64>
         ensures { result ≡ key item.now };
+
+    /// Whether the item is in its ranges.
+    fn fits(item: &Self::Item) -> bool
+        ensures { IsTrue result ↔ fits item.now };
+
+    /// The line with its end.
+    fn put<R: Receiver>(item: &Self::Item, out: &mut R)
+        ensures { Takes R.holds (ended (spelling item.now)) out.old out.new };
 }
 
 /// The first line without its end.
@@ -57,7 +72,7 @@ pub(crate) fn read_fixed(text: &mut Text<'_>, line: &[u8]) -> Result<(), ImageFa
     Ok(())
 }
 
-fn is_above(last: Option<u64>, next: Option<u64>) -> bool
+pub(crate) fn is_above(last: Option<u64>, next: Option<u64>) -> bool
     ensures { result ≡ rises last next }
 {
     match (last, next) {
