@@ -1,2 +1,5 @@
 pub mod Monitor
 pub mod Measurement
+pub mod Monitored
+pub mod Running
+pub mod Transitions
