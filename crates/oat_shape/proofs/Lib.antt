@@ -1,4 +1,7 @@
 pub mod Loops
+pub mod Scans
+pub mod LastGroups
+pub mod GroupLemmas
 pub mod Searches
 pub mod RowRules
 pub mod NameRules
@@ -6,5 +9,8 @@ pub mod Turns
 pub mod Linkage
 pub mod Bounds
 pub mod WorkedShapesRules
+pub mod PlaceRules
+pub mod Refusals
+pub mod Operations
 pub mod WorkedShapes
 pub mod WorkedShapesCalls

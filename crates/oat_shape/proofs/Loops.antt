@@ -1,66 +1,18 @@
--- What a loop over a list has seen: each item so far is good, no two of them clash, and a set has their keys.
-use Rattle.std.proofs.Common.{◌≡◌, ℕ, ◌+◌, ◌<◌, ◌≤◌, Bool, true, false, List, [], length, get_or, take, Some, refl, sym, ◌∙◌, ap, subst, inl, inr, arith, cond, Ordering}
-use Rattle.std.specs.Prelude.{◌||◌}
+-- What a loop over a list has seen: a set has the keys of the items so far.
+use Rattle.std.proofs.Common.{◌≡◌, ℕ, ◌+◌, ◌<◌, ◌≤◌, Bool, true, false, List, [], length, get_or, take, Some, refl, sym, ◌∙◌, ap, inl, inr, arith, cond, Ordering}
+use Rattle.std.specs.Prelude.{◌||◌, IsTrue, ◌↔◌, not}
 use Rattle.std.specs.List.{slice_get, list_any}
 use Rattle.std.specs.BTreeMap.{is_at}
 use Rattle.std.specs.BTreeSet.{BTreeSet, contains, Updates}
-use Rattle.std.proofs.lemmas.Bool.{cases_lt, both_ways}
+use Rattle.std.proofs.lemmas.Bool.{cases_Bool, both_ways, not-true}
 use Rattle.std.proofs.lemmas.List.{length-take-le, get_or-take}
 use Rattle.std.proofs.lemmas.List.Folds.{Any-from_list_any, list_any_at, list_any_more}
 use Rattle.std.proofs.lemmas.Option.{slice_get_within, slice_get_read, get_or_from_slice_get}
-use Rattle.oat_shape.specs.Parts.{AllDiffer}
 
 pub same_item : {X : Type 0} (xs : List X) (i k : ℕ) (x y : X) → i ≡ k → slice_get xs i ≡ Some x → slice_get xs k ≡ Some y → x ≡ y
 same_item xs i k x y here one other =
     let both : Some x ≡ Some y = sym one ∙ ap (slice_get xs) here ∙ other in
     cc
-
--- ---- each item is good
-
-abbrev pub GoodBelow : {X : Type 0} → (X → Type 0) → List X → ℕ → Type 0
-GoodBelow {X} Good xs i = (k : ℕ) (x : X) → k < i → slice_get xs k ≡ Some x → Good x
-
-pub GoodBelow-none : {X : Type 0} (Good : X → Type 0) (xs : List X) → GoodBelow Good xs 0
-GoodBelow-none Good xs k x below found = absurd (omega arith)
-
-pub GoodBelow-more : {X : Type 0} (Good : X → Type 0) (xs : List X) (i : ℕ) (x : X) → slice_get xs i ≡ Some x
-    → Good x → GoodBelow Good xs i → GoodBelow Good xs (i + 1)
-GoodBelow-more Good xs i x here good before k y below found =
-    elim (cases_lt k i) [
-      | inl less ↦ before k y less found
-      | inr past ↦ let last : i ≡ k = omega arith in subst Good (same_item xs i k x y last here found) good
-    ]
-
-pub GoodBelow-all : {X : Type 0} (Good : X → Type 0) (xs : List X) (i : ℕ) → length xs ≤ i → GoodBelow Good xs i
-    → (k : ℕ) (x : X) → slice_get xs k ≡ Some x → Good x
-GoodBelow-all Good xs i past good k x found =
-    let within : k < length xs = slice_get_within xs k x found in
-    good k x (omega arith) found
-
--- ---- no two items clash
-
-abbrev pub DifferBelow : {X : Type 0} → (X → X → Type 0) → List X → ℕ → Type 0
-DifferBelow {X} Clash xs i = (j k : ℕ) (x y : X) → j < k → k < i → slice_get xs j ≡ Some x → slice_get xs k ≡ Some y → Clash x y → ⊥
-
-pub DifferBelow-none : {X : Type 0} (Clash : X → X → Type 0) (xs : List X) → DifferBelow Clash xs 0
-DifferBelow-none Clash xs j k x y before below at_j at_k clash = omega arith
-
-pub DifferBelow-more : {X : Type 0} (Clash : X → X → Type 0) (xs : List X) (i : ℕ) (y : X) → slice_get xs i ≡ Some y
-    → ((j : ℕ) (x : X) → j < i → slice_get xs j ≡ Some x → Clash x y → ⊥)
-    → DifferBelow Clash xs i → DifferBelow Clash xs (i + 1)
-DifferBelow-more Clash xs i y here new before j k x z earlier below at_j at_k clash =
-    elim (cases_lt k i) [
-      | inl less ↦ before j k x z earlier less at_j at_k clash
-      | inr past ↦
-          let last : k ≡ i = omega arith in
-          new j x (omega arith) at_j (subst (Clash x) (same_item xs k i z y last at_k here) clash)
-    ]
-
-pub DifferBelow-all : {X : Type 0} (Clash : X → X → Type 0) (xs : List X) (i : ℕ) → length xs ≤ i
-    → DifferBelow Clash xs i → AllDiffer Clash xs
-DifferBelow-all Clash xs i past differ j k x y before at_j at_k clash =
-    let within : k < length xs = slice_get_within xs k y at_k in
-    differ j k x y before (omega arith) at_j at_k clash
 
 -- ---- a set has the keys of the items; `test q x` says that q compares as equal to the key of x
 
@@ -112,3 +64,20 @@ Seen-fresh cmp test xs i s k many seen absent j x below found passes =
     let read : get_or (take i xs) j x ≡ x = get_or-take i xs j x below ∙ get_or_from_slice_get xs j x x found in
     let any = list_any_at (test k) (take i xs) j x within (ap (test k) read ∙ passes) in
     both_ways (contains cmp s k) absent (seen k ∙ any)
+
+-- a key is new just where no item so far clashes
+pub fresh_iff : {K X : Type 0} (cmp : K → K → Ordering) (test : K → X → Bool) (xs : List X) (i : ℕ) (s : BTreeSet K) (k : K) (fresh : Bool)
+    (Clash : X → Type 0) → i ≤ length xs → Seen cmp test xs i s → fresh ≡ not (contains cmp s k)
+    → ((x : X) → test k x ≡ true → Clash x) → ((x : X) → Clash x → test k x ≡ true)
+    → IsTrue fresh ↔ ((j : ℕ) (x : X) → j < i → slice_get xs j ≡ Some x → Clash x → ⊥)
+fresh_iff cmp test xs i s k fresh Clash many seen said clashes passes = (
+  λ yes j x below found clash.
+      Seen-fresh cmp test xs i s k many seen (not-true _ (sym said ∙ yes)) j x below found (passes x clash),
+  λ none.
+      elim (cases_Bool (contains cmp s k)) as (λ _. IsTrue fresh) [
+        | inl there ↦
+            let first = Seen-found cmp test xs i s k many seen there in
+            absurd (none first.0 first.1 first.2 first.3 (clashes first.1 first.4))
+        | inr absent ↦ said ∙ ap not absent
+      ],
+)

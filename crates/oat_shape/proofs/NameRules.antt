@@ -1,5 +1,5 @@
 -- Shape rule S8: keys of names and labels, the function of a place, and the rule from its three parts.
-use Rattle.std.proofs.Common.{◌≡◌, ℕ, ◌+◌, ◌-◌, ◌<◌, ◌≤◌, Bool, true, List, length, get_or, Some, refl, sym, ◌∙◌, ap, subst, inl, inr, arith, Bor, Ordering}
+use Rattle.std.proofs.Common.{◌≡◌, ℕ, ◌+◌, ◌-◌, ◌<◌, ◌≤◌, Bool, true, List, length, get_or, Option, Some, refl, sym, ◌∙◌, ap, subst, inl, inr, arith, Bor, Ordering}
 use Rattle.std.specs.Prelude.{Contains, nat_le}
 use Rattle.std.specs.List.{slice_get}
 use Rattle.std.specs.List.Sorted.{IsStrictlyIncreasing}
@@ -16,8 +16,10 @@ use Rattle.oat_map.specs.declared.map.Map.{Map}
 use Rattle.oat_map.specs.declared.map.Function.{Function}
 use Rattle.oat_map.specs.declared.map.Block.{Block}
 use Rattle.oat_map.specs.Rows.{entries_of}
-use Rattle.oat_shape.specs.MapRules.{S8, IsFunctionOf}
-use Rattle.oat_shape.specs.Parts.{AllDiffer, HaveOneName, HaveOneLabel, LiesInFunction, count_below}
+use Rattle.oat_shape.specs.MapRules.{S8, IsFunctionOf, IsPlaced}
+use Rattle.oat_shape.specs.Parts.{HaveOneName, HaveOneLabel, IsFirst, LiesInFunction, count_below}
+use Rattle.oat_shape.specs.Lowest.{Lowest, EachAt, lower}
+use Rattle.oat_shape.proofs.Scans.{lowest_same, lowest_both}
 use Rattle.oat_shape.proofs.Searches.{rises_zero, before_count, is_counted, some_counted, count_within}
 
 -- ---- keys
@@ -160,46 +162,43 @@ one_function m place other rises above same =
 
 -- ---- the rule
 
-pub names_from : (m : Map) → ((a : ℕ) → S8 m a) → AllDiffer HaveOneName m.functions
-names_from m rule j k x y before at_j at_k one =
-    let here = rule y.entry in
-    here.functions k y at_k refl j x before at_j one
+-- the parts of the rule for a block
+pub placed_from : (m : Map) (k : ℕ) (b : Block) → IsStrictlyIncreasing (entries_of m.functions)
+    → LiesInFunction (entries_of m.functions) b.start × IsFirst (HaveOneLabel (entries_of m.functions)) m.blocks k b → IsPlaced m k b
+placed_from m k b rises (lies, first) = record {
+  above = lies.above;
+  apart = lies.apart;
+  label = λ j c f before there one in_c in_b.
+      first j c before there (record { function = one_number m c.start b.start f rises in_c in_b; label = one });
+}
 
-pub name_all : (m : Map) (entries : List ℕ) → entries ≡ entries_of m.functions → IsStrictlyIncreasing entries
-    → AllDiffer HaveOneName m.functions
-    → ((k : ℕ) (b : Block) → slice_get m.blocks k ≡ Some b → LiesInFunction entries b.start)
-    → AllDiffer (HaveOneLabel entries) m.blocks → (a : ℕ) → S8 m a
-name_all m entries same rises names lies labels a =
-    let rise : IsStrictlyIncreasing (entries_of m.functions) = subst IsStrictlyIncreasing same rises in
-    record {
-      functions = λ k f found at j g before there one. names j k g f before there found one;
-      blocks = λ k b found at.
-          let lie : LiesInFunction (entries_of m.functions) b.start = subst (λ (es : List ℕ). LiesInFunction es b.start) same (lies k b found) in
-          record {
-            above = lie.above;
-            apart = lie.apart;
-            label = λ j c f before there one in_c in_b.
-                let number : count_below entries c.start ≡ count_below entries b.start =
-                subst (λ (es : List ℕ). count_below es c.start ≡ count_below es b.start) (sym same) (one_number m c.start b.start f rise in_c in_b) in
-                labels j k c b before there found (record { function = number; label = one });
-          };
-    }
+pub placed_to : (m : Map) (k : ℕ) (b : Block) → IsStrictlyIncreasing (entries_of m.functions)
+    → IsPlaced m k b → LiesInFunction (entries_of m.functions) b.start × IsFirst (HaveOneLabel (entries_of m.functions)) m.blocks k b
+placed_to m k b rises placed = (
+  record { above = placed.above; apart = placed.apart },
+  λ j c before there one.
+      let both = one_function m b.start c.start rises placed.above one.function in
+      placed.label j c both.0 before there one.label both.1 both.2,
+)
 
-pub lies_from : (m : Map) (entries : List ℕ) → entries ≡ entries_of m.functions → ((a : ℕ) → S8 m a)
-    → (k : ℕ) (b : Block) → slice_get m.blocks k ≡ Some b → LiesInFunction entries b.start
-lies_from m entries same rule k b found =
-    let here = rule b.start in
-    let placed = here.blocks k b found refl in
-    let lie : LiesInFunction (entries_of m.functions) b.start = record { above = placed.above; apart = placed.apart } in
-    subst (λ (es : List ℕ). LiesInFunction es b.start) (sym same) lie
-
-pub labels_from : (m : Map) (entries : List ℕ) → entries ≡ entries_of m.functions → IsStrictlyIncreasing entries
-    → ((a : ℕ) → S8 m a) → AllDiffer (HaveOneLabel entries) m.blocks
-labels_from m entries same rises rule j k x y before at_j at_k one =
-    let rise : IsStrictlyIncreasing (entries_of m.functions) = subst IsStrictlyIncreasing same rises in
-    let here = rule y.start in
-    let placed = here.blocks k y at_k refl in
-    let number : count_below (entries_of m.functions) x.start ≡ count_below (entries_of m.functions) y.start =
-    subst (λ (es : List ℕ). count_below es x.start ≡ count_below es y.start) same one.function in
-    let both = one_function m y.start x.start rise placed.above number in
-    placed.label j x both.0 before at_j one.label both.1 both.2
+-- S8 by its two halves
+pub s8_from : (m : Map) (functions : List Function) (blocks : List Block) (entries : List ℕ) (first second : Option ℕ)
+    → functions ≡ m.functions → blocks ≡ m.blocks → entries ≡ entries_of m.functions → IsStrictlyIncreasing entries
+    → Lowest (EachAt functions (λ k f. f.entry) (λ k f. IsFirst HaveOneName functions k f)) first
+    → Lowest (EachAt blocks (λ k b. b.start) (λ k b. LiesInFunction entries b.start × IsFirst (HaveOneLabel entries) blocks k b)) second
+    → Lowest (S8 m) (lower first second)
+s8_from m functions blocks entries first second same_functions same_blocks same_entries rises one two =
+    let rise : IsStrictlyIncreasing (entries_of m.functions) = subst IsStrictlyIncreasing same_entries rises in
+    let Names = λ (fs : List Function). EachAt fs (λ k f. f.entry) (λ k f. IsFirst HaveOneName fs k f) in
+    let Labels = λ (es : List ℕ) (bs : List Block). EachAt bs (λ k b. b.start) (λ k b. LiesInFunction es b.start × IsFirst (HaveOneLabel es) bs k b) in
+    let names : Lowest (Names m.functions) first = subst (λ (fs : List Function). Lowest (Names fs) first) same_functions one in
+    let labels : Lowest (Labels (entries_of m.functions) m.blocks) second =
+    subst (λ (es : List ℕ). Lowest (Labels es m.blocks) second) same_entries
+    (subst (λ (bs : List Block). Lowest (Labels entries bs) second) same_blocks two) in
+    lowest_same (λ a. Names m.functions a × Labels (entries_of m.functions) m.blocks a) (S8 m) (lower first second)
+    (λ a both. record {
+      functions = both.0;
+      blocks = λ k b found at. placed_from m k b rise (both.1 k b found at);
+    })
+    (λ a rule. (rule.functions, λ k b found at. placed_to m k b rise (rule.blocks k b found at)))
+    (lowest_both (Names m.functions) (Labels (entries_of m.functions) m.blocks) first second names labels)

@@ -1,187 +1,162 @@
 -- Shape rules S2, S4 and S7, from what the loops over the rows saw.
-use Rattle.std.proofs.Common.{◌≡◌, ℕ, ◌+◌, ◌-◌, ◌<◌, ◌≤◌, Bool, true, List, length, get_or, Some, refl, sym, ◌∙◌, ap, subst, inl, inr, arith}
-use Rattle.std.specs.Prelude.{IsTrue, ◌↔◌, Contains}
+use Rattle.std.proofs.Common.{◌≡◌, ℕ, ◌+◌, ◌-◌, ◌<◌, ◌≤◌, Bool, true, false, leb, List, length, get_or, Option, Some, refl, sym, ◌∙◌, ap, subst, inl, inr, arith}
+use Rattle.std.specs.Prelude.{IsTrue, ◌↔◌}
 use Rattle.std.specs.List.{slice_get, list_any}
 use Rattle.std.specs.BTreeSet.{BTreeSet, contains}
 use Rattle.std.specs.Ordering.{nat_cmp}
-use Rattle.std.proofs.lemmas.Bool.{cases_lt, cases_Bool, false≢true, eqb-true, eq-eqb}
+use Rattle.std.proofs.lemmas.Bool.{cases_lt, cases_Bool, false≢true, eqb-true, eq-eqb, leb-true, le-leb}
 use Rattle.std.proofs.lemmas.List.Folds.{Any-from_list_any, list_any_at}
-use Rattle.std.proofs.lemmas.Option.{slice_get_within, slice_get-get_or, slice_get_read, get_or_from_slice_get}
+use Rattle.std.proofs.lemmas.Option.{slice_get-get_or, slice_get_read}
 use Rattle.oat_map.specs.declared.map.Map.{Map}
 use Rattle.oat_map.specs.declared.row.Row.{Row}
-use Rattle.oat_map.specs.declared.row.Row.TheVariants.{Jump, Branch, Call, ICall, Ret, Begin, End, UseCell, DefCell, Check}
+use Rattle.oat_map.specs.declared.row.Row.TheVariants.{Jump, Begin, End}
 use Rattle.oat_map.specs.Rows.{address_of, after, begins, entries_of, starts_of}
+use Rattle.oat_shape.specs.Lowest.{Lowest, EachAt}
 use Rattle.oat_shape.specs.MapRules.{S2, S4, S7, LeadsToPlaces, IsPaired}
-use Rattle.oat_shape.specs.Parts.{AllDiffer, BeginAlike, EndsAreBegun, EndIsIn, IsFresh}
-use Rattle.oat_shape.proofs.Loops.{GoodBelow, GoodBelow-all, Seen, Seen-found, Seen-fresh}
+use Rattle.oat_shape.specs.Parts.{IsBehind, BeginsFirst, EndIsBegun, EndIsIn, IsFresh}
+use Rattle.oat_shape.proofs.Loops.{Seen, Seen-found, Seen-fresh, same_item}
+use Rattle.oat_shape.proofs.Scans.{lowest_same, at_contains, contains_at}
 
 -- ---- S2
 
--- rows up to number i stand apart; the default of a read is any row
-abbrev pub ApartBelow : List Row → ℕ → Type 0
-ApartBelow rows i = (k : ℕ) → k + 1 < i → after (get_or rows k (Jump 0 0)) ≤ address_of (get_or rows (k + 1) (Jump 0 0))
+-- the end of the row before the i-th, or 0
+pub record EndsBefore (rows : List Row) (i end : ℕ) : Type 0 where
+  pub first : i ≡ 0 → end ≡ 0
+  pub later : (j : ℕ) (before : Row) → j + 1 ≡ i → slice_get rows j ≡ Some before → after before ≡ end
 
-pub ApartBelow-more : (rows : List Row) (i : ℕ) → 1 ≤ i
-    → after (get_or rows (i - 1) (Jump 0 0)) ≤ address_of (get_or rows i (Jump 0 0)) → ApartBelow rows i → ApartBelow rows (i + 1)
-ApartBelow-more rows i behind apart before k below =
-    elim (cases_lt (k + 1) i) [
-      | inl less ↦ before k less
-      | inr last ↦
-          let here : k ≡ i - 1 = omega arith in
-          let there : k + 1 ≡ i = omega arith in
-          rw (there, here) apart
-    ]
+pub ends_at_first : (rows : List Row) → EndsBefore rows 0 0
+ends_at_first rows = record { first = λ _. refl; later = λ j before there found. absurd (omega arith) }
 
-pub rise_all : (m : Map) (rows : List Row) (i : ℕ) → rows ≡ m.rows → length rows ≤ i → ApartBelow rows i → (a : ℕ) → S2 m a
-rise_all m rows i same past apart a k before row found next at =
-    let first : slice_get rows k ≡ Some before = ap (λ rs. slice_get rs k) same ∙ found in
-    let second : slice_get rows (k + 1) ≡ Some row = ap (λ rs. slice_get rs (k + 1)) same ∙ next in
-    let within : k + 1 < length rows = slice_get_within rows (k + 1) row second in
-    let one : get_or rows k (Jump 0 0) ≡ before = get_or_from_slice_get rows k before (Jump 0 0) first in
-    let two : get_or rows (k + 1) (Jump 0 0) ≡ row = get_or_from_slice_get rows (k + 1) row (Jump 0 0) second in
-    let stands : after (get_or rows k (Jump 0 0)) ≤ address_of (get_or rows (k + 1) (Jump 0 0)) = apart k (omega arith) in
-    subst (λ (n : ℕ). after before ≤ n) at
-    (subst (λ (r : Row). after before ≤ address_of r) two
-    (subst (λ (r : Row). after r ≤ address_of (get_or rows (k + 1) (Jump 0 0))) one stands))
+pub ends_at_next : (rows : List Row) (i : ℕ) (row : Row) (end : ℕ) → slice_get rows i ≡ Some row → end ≡ after row → EndsBefore rows (i + 1) end
+ends_at_next rows i row end here is = record {
+  first = λ none. absurd (omega arith);
+  later = λ j before there found.
+      let last : i ≡ j = omega arith in
+      ap after (sym (same_item rows i j row before last here found)) ∙ sym is;
+}
 
-pub rise_not : (m : Map) (rows : List Row) (i : ℕ) → rows ≡ m.rows → 1 ≤ i → i < length rows
-    → address_of (get_or rows i (Jump 0 0)) < after (get_or rows (i - 1) (Jump 0 0)) → ((a : ℕ) → S2 m a) → ⊥
-rise_not m rows i same behind within low rule =
-    let there : i - 1 + 1 ≡ i = omega arith in
-    let first : slice_get m.rows (i - 1) ≡ Some (get_or rows (i - 1) (Jump 0 0)) =
-    ap (λ rs. slice_get rs (i - 1)) (sym same) ∙ slice_get-get_or rows (i - 1) (Jump 0 0) (omega arith) in
-    let second : slice_get m.rows (i - 1 + 1) ≡ Some (get_or rows i (Jump 0 0)) =
-    ap (slice_get m.rows) there ∙ ap (λ rs. slice_get rs i) (sym same) ∙ slice_get-get_or rows i (Jump 0 0) within in
-    let stands : after (get_or rows (i - 1) (Jump 0 0)) ≤ address_of (get_or rows i (Jump 0 0)) =
-    rule (address_of (get_or rows i (Jump 0 0))) (i - 1) (get_or rows (i - 1) (Jump 0 0)) (get_or rows i (Jump 0 0)) first second refl in
-    omega arith
+pub behind_iff : (rows : List Row) (i : ℕ) (row : Row) (end at : ℕ) → i < length rows → at ≡ address_of row → EndsBefore rows i end
+    → IsTrue (leb end at) ↔ IsBehind rows i row
+behind_iff rows i row end at within there ends = (
+  λ yes j before next found.
+      let low : end ≤ at = leb-true end at yes in
+      let last : after before ≡ end = ends.later j before next found in
+      omega arith,
+  λ behind.
+      elim (cases_lt 0 i) as (λ _. leb end at ≡ true) [
+        | inl some ↦
+            let next : i - 1 + 1 ≡ i = omega arith in
+            let found = slice_get-get_or rows (i - 1) (Jump 0 0) (omega arith) in
+            let low : after (get_or rows (i - 1) (Jump 0 0)) ≤ address_of row = behind (i - 1) (get_or rows (i - 1) (Jump 0 0)) next found in
+            let last : after (get_or rows (i - 1) (Jump 0 0)) ≡ end = ends.later (i - 1) (get_or rows (i - 1) (Jump 0 0)) next found in
+            le-leb end at (omega arith)
+        | inr none ↦ let zero_end : end ≡ 0 = ends.first (omega arith) in le-leb end at (omega arith)
+      ],
+)
+
+pub s2_from : (m : Map) (rows : List Row) (lowest : Option ℕ) → rows ≡ m.rows
+    → Lowest (EachAt rows (λ k row. address_of row) (IsBehind rows)) lowest → Lowest (S2 m) lowest
+s2_from m rows lowest same h =
+    lowest_same (EachAt m.rows (λ k row. address_of row) (IsBehind m.rows)) (S2 m) lowest
+    (λ a each k before row found next at.
+    subst (λ (n : ℕ). after before ≤ n) at (each (k + 1) row next at k before refl found))
+    (λ a rule k row found at j before next there.
+    let here : slice_get m.rows (j + 1) ≡ Some row = ap (slice_get m.rows) next ∙ found in
+    subst (λ (n : ℕ). after before ≤ n) (sym at) (rule j before row there here at))
+    (subst (λ (rs : List Row). Lowest (EachAt rs (λ k row. address_of row) (IsBehind rs)) lowest) same h)
 
 -- ---- S4
 
-pub lead_all : (m : Map) (entries starts : List ℕ) (rows : List Row) (i : ℕ)
-    → entries ≡ entries_of m.functions → starts ≡ starts_of m.blocks → rows ≡ m.rows → length rows ≤ i
-    → GoodBelow (LeadsToPlaces entries starts) rows i → (a : ℕ) → S4 m a
-lead_all m entries starts rows i same_entries same_starts same past good a row has at =
-    let within : has.0 < length rows = subst (λ (rs : List Row). has.0 < length rs) (sym same) has.1 in
-    let read : row ≡ get_or rows has.0 row = sym has.2 ∙ ap (λ rs. get_or rs has.0 row) (sym same) in
-    let found : slice_get rows has.0 ≡ Some row = slice_get_read rows (length rows) has.0 row refl within read in
-    let leads : LeadsToPlaces entries starts row = GoodBelow-all (LeadsToPlaces entries starts) rows i past good has.0 row found in
-    subst (λ (es : List ℕ). LeadsToPlaces es (starts_of m.blocks) row) same_entries
-    (subst (λ (ss : List ℕ). LeadsToPlaces entries ss row) same_starts leads)
-
-pub lead_not : (m : Map) (entries starts : List ℕ) (rows : List Row) (i : ℕ) (row : Row)
-    → entries ≡ entries_of m.functions → starts ≡ starts_of m.blocks → rows ≡ m.rows → slice_get rows i ≡ Some row
-    → (LeadsToPlaces entries starts row → ⊥) → ((a : ℕ) → S4 m a) → ⊥
-lead_not m entries starts rows i row same_entries same_starts same found bad rule =
-    let there : slice_get m.rows i ≡ Some row = ap (λ rs. slice_get rs i) (sym same) ∙ found in
-    let has : Contains m.rows row = (i, slice_get_within m.rows i row there, get_or_from_slice_get m.rows i row row there) in
-    let leads : LeadsToPlaces (entries_of m.functions) (starts_of m.blocks) row = rule (address_of row) row has refl in
-    bad (subst (λ (es : List ℕ). LeadsToPlaces es starts row) (sym same_entries)
-    (subst (λ (ss : List ℕ). LeadsToPlaces (entries_of m.functions) ss row) (sym same_starts) leads))
+pub s4_from : (m : Map) (rows : List Row) (entries starts : List ℕ) (lowest : Option ℕ) → rows ≡ m.rows
+    → entries ≡ entries_of m.functions → starts ≡ starts_of m.blocks
+    → Lowest (EachAt rows (λ k row. address_of row) (λ k row. LeadsToPlaces entries starts row)) lowest → Lowest (S4 m) lowest
+s4_from m rows entries starts lowest same same_entries same_starts h =
+    let Leads = λ (es ss : List ℕ) (rs : List Row). EachAt rs (λ k row. address_of row) (λ k row. LeadsToPlaces es ss row) in
+    let in_rows : Lowest (Leads entries starts m.rows) lowest = subst (λ (rs : List Row). Lowest (Leads entries starts rs) lowest) same h in
+    let by_entries : Lowest (Leads (entries_of m.functions) starts m.rows) lowest =
+    subst (λ (es : List ℕ). Lowest (Leads es starts m.rows) lowest) same_entries in_rows in
+    let by_starts : Lowest (Leads (entries_of m.functions) (starts_of m.blocks) m.rows) lowest =
+    subst (λ (ss : List ℕ). Lowest (Leads (entries_of m.functions) ss m.rows) lowest) same_starts by_entries in
+    lowest_same (Leads (entries_of m.functions) (starts_of m.blocks) m.rows) (S4 m) lowest
+    (λ a each row has at. let found = at_contains m.rows row has in each found.0 row found.1 at)
+    (λ a rule k row found at. rule row (contains_at m.rows k row found) at)
+    by_starts
 
 -- ---- S7
 
-begins-true : (op : ℕ) (row : Row) → begins op row ≡ true → (at : ℕ) × (row ≡ Begin at op)
+pub begins-true : (op : ℕ) (row : Row) → begins op row ≡ true → (at : ℕ) × (row ≡ Begin at op)
 begins-true op (Begin at begun) h = (at, ap (Begin at) (eqb-true begun op h))
-begins-true op (Jump at to) h = absurd (false≢true h)
-begins-true op (Branch at taken other) h = absurd (false≢true h)
-begins-true op (Call at to) h = absurd (false≢true h)
-begins-true op (ICall at params) h = absurd (false≢true h)
-begins-true op (Ret at) h = absurd (false≢true h)
-begins-true op (End at ended) h = absurd (false≢true h)
-begins-true op (UseCell at cell) h = absurd (false≢true h)
-begins-true op (DefCell at cell) h = absurd (false≢true h)
-begins-true op (Check at) h = absurd (false≢true h)
+begins-true op _ h = absurd (false≢true h)
 
-begins-itself : (op at : ℕ) (row : Row) → row ≡ Begin at op → begins op row ≡ true
+pub begins-itself : (op at : ℕ) (row : Row) → row ≡ Begin at op → begins op row ≡ true
 begins-itself op at row is = ap (begins op) is ∙ eq-eqb op op refl
 
--- a fresh row begins no operation of the rows before
-pub fresh_differs : (rows : List Row) (i : ℕ) (row : Row) (begun : BTreeSet ℕ) → i ≤ length rows
-    → Seen nat_cmp begins rows i begun → IsFresh begun row
-    → (j : ℕ) (x : Row) → j < i → slice_get rows j ≡ Some x → BeginAlike x row → ⊥
-fresh_differs rows i row begun many seen fresh j x below found alike =
+-- a row is fresh just where it begins no operation of the rows before
+fresh_first : (rows : List Row) (i : ℕ) (row : Row) (begun : BTreeSet ℕ) → i ≤ length rows
+    → Seen nat_cmp begins rows i begun → IsFresh begun row → BeginsFirst rows i row
+fresh_first rows i row begun many seen fresh j x below found alike =
     let absent : IsFresh begun (Begin alike.other alike.op) = subst (IsFresh begun) alike.again fresh in
     Seen-fresh nat_cmp begins rows i begun alike.op many seen absent j x below found (begins-itself alike.op alike.at x alike.one)
 
--- a row that isn't fresh begins one of them
-pub stale_clashes : (rows : List Row) (i : ℕ) (row : Row) (begun : BTreeSet ℕ) → i ≤ length rows → slice_get rows i ≡ Some row
-    → Seen nat_cmp begins rows i begun → (IsFresh begun row → ⊥) → AllDiffer BeginAlike rows → ⊥
-stale_clashes rows i (Begin at op) begun many here seen stale differ =
-    elim (cases_Bool (contains nat_cmp begun op)) [
+first_fresh : (rows : List Row) (i : ℕ) (row : Row) (begun : BTreeSet ℕ) → i ≤ length rows
+    → Seen nat_cmp begins rows i begun → BeginsFirst rows i row → IsFresh begun row
+first_fresh rows i (Begin at op) begun many seen none =
+    elim (cases_Bool (contains nat_cmp begun op)) as (λ _. contains nat_cmp begun op ≡ false) [
       | inl there ↦
           let first = Seen-found nat_cmp begins rows i begun op many seen there in
           let begin = begins-true op first.1 first.4 in
-          differ first.0 i first.1 (Begin at op) first.2 first.3 here
-          (record { at = begin.0; other = at; op = op; one = begin.1; again = refl })
-      | inr absent ↦ stale absent
+          absurd (none first.0 first.1 first.2 first.3
+          (record { at = begin.0; other = at; op = op; one = begin.1; again = refl }))
+      | inr absent ↦ absent
     ]
-stale_clashes rows i (Jump at to) begun many here seen stale differ = stale tt
-stale_clashes rows i (Branch at taken other) begun many here seen stale differ = stale tt
-stale_clashes rows i (Call at to) begun many here seen stale differ = stale tt
-stale_clashes rows i (ICall at params) begun many here seen stale differ = stale tt
-stale_clashes rows i (Ret at) begun many here seen stale differ = stale tt
-stale_clashes rows i (End at op) begun many here seen stale differ = stale tt
-stale_clashes rows i (UseCell at cell) begun many here seen stale differ = stale tt
-stale_clashes rows i (DefCell at cell) begun many here seen stale differ = stale tt
-stale_clashes rows i (Check at) begun many here seen stale differ = stale tt
+first_fresh rows i _ begun many seen none = tt
 
-pub ends_all : (rows : List Row) (i : ℕ) (begun : BTreeSet ℕ) → ((op : ℕ) → contains nat_cmp begun op ≡ list_any (begins op) rows)
-    → length rows ≤ i → GoodBelow (EndIsIn begun) rows i → EndsAreBegun rows
-ends_all rows i begun all past good k at op found =
-    let there : contains nat_cmp begun op ≡ true = GoodBelow-all (EndIsIn begun) rows i past good k (End at op) found in
+pub first_iff : (rows : List Row) (i : ℕ) (row : Row) (begun : BTreeSet ℕ) (fresh : Bool) → i ≤ length rows
+    → Seen nat_cmp begins rows i begun → (IsTrue fresh ↔ IsFresh begun row) → IsTrue fresh ↔ BeginsFirst rows i row
+first_iff rows i row begun fresh many seen tells =
+    (λ yes. fresh_first rows i row begun many seen (tells.0 yes), λ none. tells.1 (first_fresh rows i row begun many seen none))
+
+end_begun : (rows : List Row) (row : Row) (begun : BTreeSet ℕ) → ((op : ℕ) → contains nat_cmp begun op ≡ list_any (begins op) rows)
+    → EndIsIn begun row → EndIsBegun rows row
+end_begun rows row begun all is_in at op is =
+    let there : contains nat_cmp begun op ≡ true = subst (EndIsIn begun) is is_in in
     let any = Any-from_list_any (begins op) rows (sym (all op) ∙ there) in
     let begin = begins-true op any.1 any.4 in
     let reads : slice_get rows any.0 ≡ Some any.1 = slice_get_read rows (length rows) any.0 any.1 refl any.2 (sym any.3) in
-    (begin.0, (any.0, any.2, get_or_from_slice_get rows any.0 any.1 (Begin begin.0 op) reads ∙ begin.1))
+    (begin.0, contains_at rows any.0 (Begin begin.0 op) (reads ∙ ap Some begin.1))
 
-pub ends_not : (rows : List Row) (i : ℕ) (row : Row) (begun : BTreeSet ℕ) → ((op : ℕ) → contains nat_cmp begun op ≡ list_any (begins op) rows)
-    → slice_get rows i ≡ Some row → (EndIsIn begun row → ⊥) → EndsAreBegun rows → ⊥
-ends_not rows i (End at op) begun all here bad ends =
-    let begin = ends i at op here in
+begun_end : (rows : List Row) (row : Row) (begun : BTreeSet ℕ) → ((op : ℕ) → contains nat_cmp begun op ≡ list_any (begins op) rows)
+    → EndIsBegun rows row → EndIsIn begun row
+begun_end rows (End at op) begun all ends =
+    let begin = ends at op refl in
     let passes : begins op (get_or rows begin.1.0 (Begin begin.0 op)) ≡ true = begins-itself op begin.0 _ begin.1.2 in
-    bad (all op ∙ list_any_at (begins op) rows begin.1.0 (Begin begin.0 op) begin.1.1 passes)
-ends_not rows i (Jump at to) begun all here bad ends = bad tt
-ends_not rows i (Branch at taken other) begun all here bad ends = bad tt
-ends_not rows i (Call at to) begun all here bad ends = bad tt
-ends_not rows i (ICall at params) begun all here bad ends = bad tt
-ends_not rows i (Ret at) begun all here bad ends = bad tt
-ends_not rows i (Begin at op) begun all here bad ends = bad tt
-ends_not rows i (UseCell at cell) begun all here bad ends = bad tt
-ends_not rows i (DefCell at cell) begun all here bad ends = bad tt
-ends_not rows i (Check at) begun all here bad ends = bad tt
+    all op ∙ list_any_at (begins op) rows begin.1.0 (Begin begin.0 op) begin.1.1 passes
+begun_end rows _ begun all ends = tt
 
-pairs : (rows : List Row) → AllDiffer BeginAlike rows → EndsAreBegun rows
-    → (k : ℕ) (row : Row) → slice_get rows k ≡ Some row → IsPaired rows k row
-pairs rows differ ends k (Begin at op) found = λ j b before there.
-    differ j k (Begin b op) (Begin at op) before there found (record { at = b; other = at; op = op; one = refl; again = refl })
-pairs rows differ ends k (End at op) found = ends k at op found
-pairs rows differ ends k (Jump at to) found = tt
-pairs rows differ ends k (Branch at taken other) found = tt
-pairs rows differ ends k (Call at to) found = tt
-pairs rows differ ends k (ICall at params) found = tt
-pairs rows differ ends k (Ret at) found = tt
-pairs rows differ ends k (UseCell at cell) found = tt
-pairs rows differ ends k (DefCell at cell) found = tt
-pairs rows differ ends k (Check at) found = tt
+pub end_iff : (rows : List Row) (row : Row) (begun : BTreeSet ℕ) (kept : Bool) → ((op : ℕ) → contains nat_cmp begun op ≡ list_any (begins op) rows)
+    → (IsTrue kept ↔ EndIsIn begun row) → IsTrue kept ↔ EndIsBegun rows row
+end_iff rows row begun kept all tells =
+    (λ yes. end_begun rows row begun all (tells.0 yes), λ ends. tells.1 (begun_end rows row begun all ends))
 
-differ_from : (m : Map) → ((a : ℕ) → S7 m a) → AllDiffer BeginAlike m.rows
-differ_from m rule j k x y before at_j at_k alike =
-    let first : slice_get m.rows j ≡ Some (Begin alike.at alike.op) = at_j ∙ ap Some alike.one in
-    let second : slice_get m.rows k ≡ Some (Begin alike.other alike.op) = at_k ∙ ap Some alike.again in
-    rule alike.other k (Begin alike.other alike.op) second refl j alike.at before first
+pairs : (rows : List Row) (k : ℕ) (row : Row) → BeginsFirst rows k row × EndIsBegun rows row → IsPaired rows k row
+pairs rows k (Begin at op) h = λ j b before there.
+    h.0 j (Begin b op) before there (record { at = b; other = at; op = op; one = refl; again = refl })
+pairs rows k (End at op) h = h.1 at op refl
+pairs rows k _ h = tt
 
-ends_from : (m : Map) → ((a : ℕ) → S7 m a) → EndsAreBegun m.rows
-ends_from m rule k at op found = rule at k (End at op) found refl
-
-pub pair_iff : (m : Map) (rows : List Row) (kept : Bool) → rows ≡ m.rows → AllDiffer BeginAlike rows
-    → (IsTrue kept ↔ EndsAreBegun rows) → IsTrue kept ↔ ((a : ℕ) → S7 m a)
-pair_iff m rows kept same differ ends = (
-  λ yes a k row found at.
-      pairs m.rows (subst (λ (rs : List Row). AllDiffer BeginAlike rs) same differ)
-      (subst EndsAreBegun same (ends.0 yes)) k row found,
-  λ rule. ends.1 (subst EndsAreBegun (sym same) (ends_from m rule)),
+of_pairs : (rows : List Row) (k : ℕ) (row : Row) → IsPaired rows k row → BeginsFirst rows k row × EndIsBegun rows row
+of_pairs rows k row paired = (
+  λ j before below found alike.
+      let begins : IsPaired rows k (Begin alike.other alike.op) = subst (IsPaired rows k) alike.again paired in
+      begins j alike.at below (found ∙ ap Some alike.one),
+  λ at op is. subst (IsPaired rows k) is paired,
 )
 
-pub pair_not : (m : Map) (rows : List Row) → rows ≡ m.rows → (AllDiffer BeginAlike rows → ⊥) → ((a : ℕ) → S7 m a) → ⊥
-pair_not m rows same clash rule = clash (subst (λ (rs : List Row). AllDiffer BeginAlike rs) (sym same) (differ_from m rule))
+pub s7_from : (m : Map) (rows : List Row) (lowest : Option ℕ) → rows ≡ m.rows
+    → Lowest (EachAt rows (λ k row. address_of row) (λ k row. BeginsFirst rows k row × EndIsBegun rows row)) lowest → Lowest (S7 m) lowest
+s7_from m rows lowest same h =
+    let Pairs = λ (rs : List Row). EachAt rs (λ k row. address_of row) (λ k row. BeginsFirst rs k row × EndIsBegun rs row) in
+    lowest_same (Pairs m.rows) (S7 m) lowest
+    (λ a each k row found at. pairs m.rows k row (each k row found at))
+    (λ a rule k row found at. of_pairs m.rows k row (rule k row found at))
+    (subst (λ (rs : List Row). Lowest (Pairs rs) lowest) same h)

@@ -2,6 +2,8 @@ pub mod MapRules
 pub mod Parts
 pub mod Groups
 pub mod Shape
+pub mod Lowest
+pub mod Refusal
 pub mod Run
 pub mod Journal
 pub mod Window

@@ -61,10 +61,3 @@ pub record IsPlaced (m : Map) (k : ℕ) (b : Block) : Type 0 where
 pub record S8 (m : Map) (a : ℕ) : Type 0 where
   pub functions : (k : ℕ) (f : Function) → slice_get m.functions k ≡ Some f → f.entry ≡ a → HasOwnName m k f
   pub blocks : (k : ℕ) (b : Block) → slice_get m.blocks k ≡ Some b → b.start ≡ a → IsPlaced m k b
-
--- The rules of the map alone hold at every address.
-pub record KeepsMapRules (m : Map) : Type 0 where
-  pub rises : (a : ℕ) → S2 m a
-  pub leads : (a : ℕ) → S4 m a
-  pub paired : (a : ℕ) → S7 m a
-  pub named : (a : ℕ) → S8 m a

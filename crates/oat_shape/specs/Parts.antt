@@ -1,17 +1,66 @@
--- What each test of the map's shape rules looks at (docs/FORMATS.md, "Shape"): items that differ two by two,
--- operations that begin and end, and blocks that lie in functions. Together they say what the rules say.
-use Rattle.std.specs.Prelude.{◌≡◌, ◌<◌, ℕ, true, false, List, slice_get, Some, Contains, nat_le}
+-- What each test of the shape rules looks at (docs/FORMATS.md, "Shape"): groups that lie one behind the other, operations
+-- that begin and end, and blocks that lie in functions. Together they say what the rules say.
+use Rattle.std.specs.Prelude.{◌≡◌, ◌+◌, ◌^◌, ◌<◌, ◌≤◌, ◌⊎◌, ◌||◌, ℕ, true, false, List, slice_get, Some, IsTrue, Contains, nat_le}
 use Rattle.std.specs.List.{position_or_len}
 use Rattle.std.specs.BTreeSet.{BTreeSet, contains}
 use Rattle.std.specs.Ordering.{nat_cmp}
+use Rattle.oat_a64.specs.declared.inst.Inst.{Inst}
+use Rattle.oat_a64.specs.declared.inst.Inst.TheVariants.{Movz, Ldr, Str, Svc}
+use Rattle.oat_a64.specs.Fetch.{inst_of}
 use Rattle.oat_map.specs.declared.map.Function.{Function}
 use Rattle.oat_map.specs.declared.map.Block.{Block}
 use Rattle.oat_map.specs.declared.row.Row.{Row}
 use Rattle.oat_map.specs.declared.row.Row.TheVariants.{Begin, End}
+use Rattle.oat_map.specs.Rows.{address_of, after}
+use Rattle.oat_image.specs.declared.image.Image.{Image}
+use Rattle.oat_shape.specs.Groups.{Stands, MovesAddress, global_address}
+use Rattle.oat_shape.specs.MapRules.{S7, S8}
+use Rattle.oat_shape.specs.Shape.{Covers, LiesInside, Holds, S5, S6, Tests, is_measured, is_transfer}
 
--- no item clashes with one before it
-abbrev pub AllDiffer : {X : Type 0} → (X → X → Type 0) → List X → Type 0
-AllDiffer {X} Clash xs = (j k : ℕ) (x y : X) → j < k → slice_get xs j ≡ Some x → slice_get xs k ≡ Some y → Clash x y → ⊥
+-- ---- rows and their groups
+
+-- the k-th row stands at or behind the end of the group of the row before it
+abbrev pub IsBehind : List Row → ℕ → Row → Type 0
+IsBehind rows k row = (j : ℕ) (before : Row) → j + 1 ≡ k → slice_get rows j ≡ Some before → after before ≤ address_of row
+
+-- groups lie one behind the other
+abbrev pub AreApart : List Row → Type 0
+AreApart rows = (k : ℕ) (row : Row) → slice_get rows k ≡ Some row → IsBehind rows k row
+
+-- addresses have 32 bits
+abbrev pub AreWithin : List Row → Type 0
+AreWithin rows = (row : Row) → Contains rows row → address_of row < 2 ^ 32
+
+-- the end of the last group that begins below a place, or 0
+pub record EndsBelow (rows : List Row) (place end : ℕ) : Type 0 where
+  pub bounds : (row : Row) → Contains rows row → address_of row < place → after row ≤ end
+  pub reached : (end ≡ 0) ⊎ ((row : Row) × Contains rows row × (address_of row < place) × (after row ≡ end))
+
+abbrev pub IsClear : List Row → ℕ → Type 0
+IsClear rows place = (row : Row) → Contains rows row → ¬ LiesInside row place
+
+abbrev pub IsCovered : List Row → ℕ → Type 0
+IsCovered rows place = (row : Row) × Contains rows row × Covers row place
+
+-- a word's instruction at a place needs no group, or stands in one
+abbrev pub StandsInGroup : List Row → ℕ → ℕ → Type 0
+StandsInGroup rows place word =
+    (inst : Inst) → inst_of word ≡ Some inst → IsTrue (is_transfer inst || is_measured inst) → IsCovered rows place
+
+-- ---- the groups of cells
+
+abbrev pub IsUseGroup : List ℕ → ℕ → ℕ → ℕ → Type 0
+IsUseGroup code at cell index =
+    MovesAddress code at (global_address index) × Stands code (at + 8) (Ldr 10 11 0) × Stands code (at + 12) (Movz 9 0 cell) × Stands code (at + 16) (Svc 7)
+
+abbrev pub IsDefineGroup : List ℕ → ℕ → ℕ → ℕ → Type 0
+IsDefineGroup code at cell index =
+    MovesAddress code at (global_address index) × Stands code (at + 8) (Movz 9 0 cell) × Stands code (at + 12) (Str 10 11 0) × Stands code (at + 16) (Svc 6)
+
+abbrev pub AreIndices : List ℕ → Type 0
+AreIndices cells = (index : ℕ) → Contains cells index → index ≤ 65535
+
+-- ---- operations
 
 -- two rows begin one operation
 pub record BeginAlike (first second : Row) : Type 0 where
@@ -21,9 +70,13 @@ pub record BeginAlike (first second : Row) : Type 0 where
   pub one : first ≡ Begin at op
   pub again : second ≡ Begin other op
 
--- each operation that a row ends is begun by one
-abbrev pub EndsAreBegun : List Row → Type 0
-EndsAreBegun rows = (k at op : ℕ) → slice_get rows k ≡ Some (End at op) → (b : ℕ) × Contains rows (Begin b op)
+-- the k-th row begins no operation that a row before it begins
+abbrev pub BeginsFirst : List Row → ℕ → Row → Type 0
+BeginsFirst rows k row = (j : ℕ) (before : Row) → j < k → slice_get rows j ≡ Some before → BeginAlike before row → ⊥
+
+-- if a row ends an operation, some row begins it
+abbrev pub EndIsBegun : List Row → Row → Type 0
+EndIsBegun rows row = (at op : ℕ) → row ≡ End at op → (b : ℕ) × Contains rows (Begin b op)
 
 -- a row doesn't begin one of these operations
 abbrev pub IsFresh : BTreeSet ℕ → Row → Type 0
@@ -34,6 +87,8 @@ IsFresh operations _ = Unit {0}
 abbrev pub EndIsIn : BTreeSet ℕ → Row → Type 0
 EndIsIn operations (End at op) = contains nat_cmp operations op ≡ true
 EndIsIn operations _ = Unit {0}
+
+-- ---- names
 
 -- two functions have one name
 abbrev pub HaveOneName : Function → Function → Type 0
@@ -48,7 +103,25 @@ pub record HaveOneLabel (entries : List ℕ) (b c : Block) : Type 0 where
   pub function : count_below entries b.start ≡ count_below entries c.start
   pub label : b.label ≡ c.label
 
+-- the k-th item clashes with none before it
+abbrev pub IsFirst : {X : Type 0} → (X → X → Type 0) → List X → ℕ → X → Type 0
+IsFirst {X} Clash items k x = (j : ℕ) (before : X) → j < k → slice_get items j ≡ Some before → Clash before x → ⊥
+
 -- a place lies above an entry and at none
 pub record LiesInFunction (entries : List ℕ) (place : ℕ) : Type 0 where
   pub above : (entry : ℕ) × Contains entries entry × (entry < place)
   pub apart : Contains entries place → ⊥
+
+-- ---- the later rules
+
+-- the rules from S5 on hold
+pub record KeepsLaterRules (i : Image) : Type 0 where
+  pub apart : Holds (S5 i)
+  pub coded : Holds (S6 i)
+  pub paired : Holds (S7 i.map)
+  pub named : Holds (S8 i.map)
+
+-- the first of them that fails
+abbrev pub BreaksLaterRule : Image → ℕ → ℕ → Type 0
+BreaksLaterRule i broken at =
+    Tests (S5 i) 5 (Tests (S6 i) 6 (Tests (S7 i.map) 7 (Tests (S8 i.map) 8 ⊥ broken at) broken at) broken at) broken at

@@ -1,7 +1,7 @@
--- The window of an operation in a run's journal, and what the run shows there: its path and its returns (docs/DEFINITIONS.md, "Window").
-use Rattle.std.specs.Prelude.{◌+◌, ℕ, Bool, true, false, ◌&&◌, nat_eq, nat_le, nat_lt, if◌then◌else◌, List, [], ◌∷◌, find, Option, Some, None, ◌*◌}
+-- The window of an operation in a run's journal, and what the run shows there: its path, its returns, its branch bits and its indirect targets (docs/DEFINITIONS.md, "Window").
+use Rattle.std.specs.Prelude.{◌+◌, ℕ, Bool, true, false, not, ◌&&◌, nat_eq, nat_le, nat_lt, if◌then◌else◌, List, [], ◌∷◌, find, Option, Some, None, ◌*◌}
 use Rattle.std.specs.List.{filter_map, list_any}
-use Rattle.oat_measure.specs.Monitor.{Call, returns, call_of, opens, seals}
+use Rattle.oat_measure.specs.Monitor.{Call, bit, target, returns, call_of, opens, seals}
 use Rattle.oat_map.specs.declared.map.Map.{Map}
 use Rattle.oat_map.specs.declared.map.Function.{Function}
 use Rattle.oat_map.specs.declared.row.Row.{Row}
@@ -84,3 +84,21 @@ returned _ = None
 -- where the window's returns went, by what X30 held at each call of the monitor
 abbrev pub returns_of_run : List Entry → List ℕ
 returns_of_run window = filter_map (λ e. returned (made_call e)) window
+
+-- ---- the branch bits and the indirect targets
+
+abbrev pub recorded_bit : Option Call → Option Bool
+recorded_bit (Some (bit value)) = Some (not (nat_eq value 0))
+recorded_bit _ = None
+
+-- whether each branch of the window was taken, by what X9 held at each call of the monitor
+abbrev pub bits_of_run : List Entry → List Bool
+bits_of_run window = filter_map (λ e. recorded_bit (made_call e)) window
+
+abbrev pub recorded_target : Option Call → Option ℕ
+recorded_target (Some (target address)) = Some address
+recorded_target _ = None
+
+-- where the window's indirect calls went, by what X9 held at each call of the monitor
+abbrev pub targets_of_run : List Entry → List ℕ
+targets_of_run window = filter_map (λ e. recorded_target (made_call e)) window

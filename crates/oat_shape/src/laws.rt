@@ -1,5 +1,11 @@
-//! Laws of journals, each the contract of a function that does nothing.
+//! Laws of shapes and journals, each the contract of a function that does nothing.
 ghost use Rattle.oat_shape.specs.Journal.{JournalIsBounded, JournalIsLinked, JournalIsMade};
+ghost use Rattle.oat_shape.specs.Refusal.{ShapeIsDecided};
+
+/// An image has the shape, or breaks one rule first, at one lowest address, and never both.
+pub fn shape_is_decided()
+    ensures { ShapeIsDecided }
+{}
 
 /// Each entry of a journal is an instruction of the code, and left what the machine step leaves.
 pub fn journal_is_made()

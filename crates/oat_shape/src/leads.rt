@@ -1,25 +1,24 @@
-ghost use Rattle.std.specs.Prelude.{ℕ, ◌≡◌, ◌↔◌, IsTrue};
+ghost use Rattle.std.specs.Prelude.{◌↔◌, IsTrue};
 ghost use Rattle.std.specs.List.Sorted.{IsStrictlyIncreasing};
-ghost use Rattle.oat_map.specs.Rows.{entries_of, starts_of};
-ghost use Rattle.oat_shape.specs.MapRules.{S4, LeadsToPlaces};
+ghost use Rattle.oat_map.specs.Rows.{address_of};
+ghost use Rattle.oat_shape.specs.Lowest.{Lowest, EachAt};
+ghost use Rattle.oat_shape.specs.MapRules.{LeadsToPlaces};
 
+use crate::lowest::note;
 use crate::places::is_one_of;
-use oat_map::{Map, Row};
+use oat_map::Row;
 
-/// Shape rule S4: whether each row leads to places of the right kind.
-pub(crate) fn rows_lead(map: &Map, entries: &[u64], starts: &[u64]) -> bool
-    requires entries { entries.now ≡ entries_of map.now.functions }
-    requires starts { starts.now ≡ starts_of map.now.blocks }
+/// Shape rule S4: the lowest row that doesn't lead to places of the right kind.
+pub(crate) fn lowest_misled(rows: &[Row], entries: &[u64], starts: &[u64]) -> Option<u64>
     requires entries_rise { IsStrictlyIncreasing entries.now }
     requires starts_rise { IsStrictlyIncreasing starts.now }
-    ensures { IsTrue result ↔ ((a : ℕ) → S4 map.now a) }
+    ensures { Lowest (EachAt rows.now (λ k row. address_of row) (λ k row. LeadsToPlaces entries.now starts.now row)) result }
 {
-    for row in map.rows.as_slice() {
-        if !leads_to_places(entries, starts, row) {
-            return false;
-        }
+    let mut lowest = None;
+    for row in rows {
+        lowest = note(lowest, leads_to_places(entries, starts, row), row.address());
     }
-    true
+    lowest
 }
 
 fn leads_to_places(entries: &[u64], starts: &[u64], row: &Row) -> bool

@@ -1,17 +1,29 @@
 //! The shape of images, and what a run on one is.
 #![tactic(auto)]
 
+mod apart;
+mod branches;
+mod cells;
+mod code;
+mod covers;
+mod decoding;
 mod end;
+mod fault;
+mod groups;
 pub mod laws;
 mod leads;
-mod map_rules;
+mod lowest;
 mod named;
 mod paired;
 mod places;
 mod rises;
+mod rules;
+mod shaped;
 #[cfg(test)]
 mod tests;
+mod transfers;
 pub mod worked;
 
 pub use end::{DeviceEnd, StopKind};
-pub use map_rules::keeps_map_rules;
+pub use fault::{ShapeFault, ShapeRefusal};
+pub use shaped::{Shaped, check_shape};

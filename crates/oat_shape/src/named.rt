@@ -1,73 +1,49 @@
-ghost use Rattle.std.specs.Prelude.{ℕ, ◌≡◌, ◌↔◌, IsTrue, IfOk, slice_get};
+ghost use Rattle.std.specs.Prelude.{ℕ, ◌≡◌, ◌↔◌, IsTrue, IfOk};
 ghost use Rattle.std.specs.List.Sorted.{IsStrictlyIncreasing};
-ghost use Rattle.oat_map.specs.Rows.{entries_of};
-ghost use Rattle.oat_map.specs.declared.map.Block.{Block};
-ghost use Rattle.oat_shape.specs.MapRules.{S8};
-ghost use Rattle.oat_shape.specs.Parts.{AllDiffer, HaveOneName, HaveOneLabel, LiesInFunction};
+ghost use Rattle.oat_shape.specs.Lowest.{Lowest, EachAt};
+ghost use Rattle.oat_shape.specs.Parts.{HaveOneName, HaveOneLabel, IsFirst, LiesInFunction};
 
+use crate::lowest::note;
 use crate::places::{is_one_of, number_below};
-use oat_map::{Block, Function, Map};
+use oat_map::{Block, Function};
 use std::alloc::{AllocError, Global};
 use std::collections::BTreeSet;
 
-/// Shape rule S8: whether functions and the blocks of a function have names of their own, and
-/// blocks lie in functions.
-pub(crate) fn places_are_named(
+/// Shape rule S8, of functions: the lowest one that has the name of one before it.
+pub(crate) fn lowest_renamed(
     alloc: Global,
-    map: &Map,
-    entries: &[u64],
-) -> Result<bool, AllocError>
-    requires entries { entries.now ≡ entries_of map.now.functions }
-    requires rise { IsStrictlyIncreasing entries.now }
-    ensures { IfOk result (λ kept. IsTrue kept ↔ ((a : ℕ) → S8 map.now a)) }
-{
-    let functions = map.functions.as_slice();
-    let blocks = map.blocks.as_slice();
-    if !names_differ(alloc, functions)? {
-        return Ok(false);
-    }
-    if !blocks_lie(entries, blocks) {
-        return Ok(false);
-    }
-    Ok(labels_differ(alloc, entries, blocks)?)
-}
-
-fn names_differ(alloc: Global, functions: &[Function]) -> Result<bool, AllocError>
-    ensures { IfOk result (λ differ. IsTrue differ ↔ AllDiffer HaveOneName functions.now) }
+    functions: &[Function],
+) -> Result<Option<u64>, AllocError>
+    ensures { IfOk result (λ lowest. Lowest (EachAt functions.now (λ k f. f.entry) (λ k f. IsFirst HaveOneName functions.now k f)) lowest) }
 {
     let mut names = BTreeSet::new(alloc);
+    let mut lowest = None;
     for function in functions {
-        if !names.insert(function.name.as_bytes())? {
-            return Ok(false);
-        }
+        let fresh = names.insert(function.name.as_bytes())?;
+        lowest = note(lowest, fresh, function.entry);
     }
-    Ok(true)
+    Ok(lowest)
 }
 
-fn labels_differ(alloc: Global, entries: &[u64], blocks: &[Block]) -> Result<bool, AllocError>
+/// Shape rule S8, of blocks: the lowest one that lies in no function, or has the label of one
+/// before it in its function.
+pub(crate) fn lowest_misplaced(
+    alloc: Global,
+    entries: &[u64],
+    blocks: &[Block],
+) -> Result<Option<u64>, AllocError>
     requires { IsStrictlyIncreasing entries.now }
-    ensures { IfOk result (λ differ. IsTrue differ ↔ AllDiffer (HaveOneLabel entries.now) blocks.now) }
+    ensures { IfOk result (λ lowest. Lowest (EachAt blocks.now (λ k b. b.start) (λ k b. LiesInFunction entries.now b.start × IsFirst (HaveOneLabel entries.now) blocks.now k b)) lowest) }
 {
     let mut labels = BTreeSet::new(alloc);
+    let mut lowest = None;
     for block in blocks {
+        lowest = note(lowest, lies_in_function(entries, block.start), block.start);
         let function = number_below(entries, block.start);
-        if !labels.insert((function, block.label.as_bytes()))? {
-            return Ok(false);
-        }
+        let fresh = labels.insert((function, block.label.as_bytes()))?;
+        lowest = note(lowest, fresh, block.start);
     }
-    Ok(true)
-}
-
-fn blocks_lie(entries: &[u64], blocks: &[Block]) -> bool
-    requires { IsStrictlyIncreasing entries.now }
-    ensures { IsTrue result ↔ ((k : ℕ) (b : Block) → slice_get blocks.now k ≡ Some b → LiesInFunction entries.now b.start) }
-{
-    for block in blocks {
-        if !lies_in_function(entries, block.start) {
-            return false;
-        }
-    }
-    true
+    Ok(lowest)
 }
 
 fn lies_in_function(entries: &[u64], place: u64) -> bool

@@ -1,38 +1,42 @@
-ghost use Rattle.std.specs.Prelude.{ℕ, ◌≡◌, ◌↔◌, ◌||◌, IsTrue, IfOk, MatchOption};
+ghost use Rattle.std.specs.Prelude.{ℕ, ◌≡◌, ◌↔◌, ◌||◌, IsTrue, IfOk};
 ghost use Rattle.std.specs.List.{list_any};
 ghost use Rattle.std.specs.Result.{OnOk};
 ghost use Rattle.std.specs.BTreeSet.{contains};
 ghost use Rattle.std.specs.Ordering.{nat_cmp};
-ghost use Rattle.oat_map.specs.Rows.{begins};
-ghost use Rattle.oat_shape.specs.MapRules.{S7};
-ghost use Rattle.oat_shape.specs.Parts.{AllDiffer, BeginAlike, EndsAreBegun, EndIsIn, IsFresh};
+ghost use Rattle.oat_map.specs.Rows.{address_of, begins};
+ghost use Rattle.oat_shape.specs.Lowest.{Lowest, EachAt};
+ghost use Rattle.oat_shape.specs.Parts.{BeginsFirst, EndIsBegun, EndIsIn, IsFresh};
 
-use oat_map::{Map, Row};
+use crate::lowest::note;
+use oat_map::Row;
 use std::alloc::{AllocError, Global};
 use std::collections::BTreeSet;
 
-/// Shape rule S7: whether no operation begins twice, and each that ends begins.
-pub(crate) fn operations_pair(alloc: Global, map: &Map) -> Result<bool, AllocError>
-    ensures { IfOk result (λ kept. IsTrue kept ↔ ((a : ℕ) → S7 map.now a)) }
+/// Shape rule S7: the lowest row that begins an operation again, or ends one that no row begins.
+pub(crate) fn lowest_unpaired(alloc: Global, rows: &[Row]) -> Result<Option<u64>, AllocError>
+    ensures { IfOk result (λ lowest. Lowest (EachAt rows.now (λ k row. address_of row) (λ k row. BeginsFirst rows.now k row × EndIsBegun rows.now row)) lowest) }
 {
-    match begun_once(alloc, map.rows.as_slice())? {
-        Some(begun) => Ok(ends_are_begun(&begun, map.rows.as_slice())),
-        None => Ok(false),
+    let begun = operations(alloc, rows)?;
+    let mut seen = BTreeSet::new(alloc);
+    let mut lowest = None;
+    for row in rows {
+        let at = row.address();
+        let fresh = add_begun(&mut seen, row)?;
+        lowest = note(lowest, fresh, at);
+        lowest = note(lowest, end_is_in(&begun, row), at);
     }
+    Ok(lowest)
 }
 
-/// The operations that rows begin; None where two rows begin one.
-fn begun_once(alloc: Global, rows: &[Row]) -> Result<Option<BTreeSet<u16>>, AllocError>
-    ensures once { IfOk result (λ begun. MatchOption begun (AllDiffer BeginAlike rows.now → ⊥) (λ _. AllDiffer BeginAlike rows.now)) }
-    ensures all { IfOk result (λ begun. MatchOption begun (Unit {0}) (λ set. (op : ℕ) → contains nat_cmp set op ≡ list_any (begins op) rows.now)) }
+/// The operations that rows begin.
+fn operations(alloc: Global, rows: &[Row]) -> Result<BTreeSet<u16>, AllocError>
+    ensures { IfOk result (λ begun. (op : ℕ) → contains nat_cmp begun op ≡ list_any (begins op) rows.now) }
 {
     let mut begun = BTreeSet::new(alloc);
     for row in rows {
-        if !add_begun(&mut begun, row)? {
-            return Ok(None);
-        }
+        add_begun(&mut begun, row)?;
     }
-    Ok(Some(begun))
+    Ok(begun)
 }
 
 /// Adds the operation that a row begins; false where it is there.
@@ -52,18 +56,6 @@ fn add_begun(begun: &mut BTreeSet<u16>, row: &Row) -> Result<bool, AllocError>
         | Row::DefCell { .. }
         | Row::Check { .. } => Ok(true),
     }
-}
-
-fn ends_are_begun(begun: &BTreeSet<u16>, rows: &[Row]) -> bool
-    requires { (op : ℕ) → contains nat_cmp begun.now op ≡ list_any (begins op) rows.now }
-    ensures { IsTrue result ↔ EndsAreBegun rows.now }
-{
-    for row in rows {
-        if !end_is_in(begun, row) {
-            return false;
-        }
-    }
-    true
 }
 
 fn end_is_in(begun: &BTreeSet<u16>, row: &Row) -> bool

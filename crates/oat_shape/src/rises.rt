@@ -1,17 +1,20 @@
-ghost use Rattle.std.specs.Prelude.{ℕ, ◌↔◌, IsTrue};
-ghost use Rattle.oat_shape.specs.MapRules.{S2};
+ghost use Rattle.oat_map.specs.Rows.{address_of};
+ghost use Rattle.oat_shape.specs.Lowest.{Lowest, EachAt};
+ghost use Rattle.oat_shape.specs.Parts.{IsBehind};
 
-use oat_map::Map;
+use crate::lowest::note;
+use oat_map::Row;
 
-/// Shape rule S2: whether each row stands at or behind the end of the group of the row before it.
-pub(crate) fn rows_rise(map: &Map) -> bool
-    ensures { IsTrue result ↔ ((a : ℕ) → S2 map.now a) }
+/// Shape rule S2: the lowest row that doesn't stand at or behind the end of the group before it.
+pub(crate) fn lowest_overlap(rows: &[Row]) -> Option<u64>
+    ensures { Lowest (EachAt rows.now (λ k row. address_of row) (IsBehind rows.now)) result }
 {
-    let rows = map.rows.as_slice();
-    for i in 1..rows.len() {
-        if rows[i].address() < rows[i - 1].after() {
-            return false;
-        }
+    let mut lowest = None;
+    let mut end = 0;
+    for row in rows {
+        let at = row.address();
+        lowest = note(lowest, end <= at, at);
+        end = row.after();
     }
-    true
+    lowest
 }

@@ -1,0 +1,17 @@
+use Rattle.std.proofs.Common.{sym, ◌∙◌}
+use Rattle.oat_shape.proofs.GroupLemmas.{use_iff, no_use}
+use Rattle.oat_shape.proofs.Scans.{contains_at}
+use Rattle.oat_shape.proofs.cells.use_stands.Goals as goal
+
+pub use_of_word_stands-requires-clause-index : goal.use_of_word_stands-requires-clause-index
+use_of_word_stands-requires-clause-index c =
+    c.requires.indices c.in-Some.index
+    (contains_at c.args.cells.now c.args.cell c.in-Some.index (sym c.word_of_cell.ensures ∙ c.in-Some.is))
+
+pub returns-in-Some : goal.returns-in-Some
+returns-in-Some c =
+    use_iff c.args.code.now c.args.cells.now c.args.at c.args.cell c.in-Some.index c.use_of_word_stands.result (sym c.word_of_cell.ensures ∙ c.in-Some.is)
+    c.use_of_word_stands.ensures
+
+pub returns-in-None : goal.returns-in-None
+returns-in-None c = no_use c.args.code.now c.args.cells.now c.args.at c.args.cell (sym c.word_of_cell.ensures ∙ c.in-None.is)

@@ -1,0 +1,7 @@
+use Rattle.oat_map.specs.Rows.{address_of}
+use Rattle.oat_shape.specs.Lowest.{Lowest, EachBelow}
+use Rattle.oat_shape.specs.MapRules.{LeadsToPlaces}
+use Rattle.oat_shape.proofs.leads.lowest_misled.Given as goal
+
+abbrev pub invariant-loop-row : goal.invariant-loop-row
+invariant-loop-row l = Lowest (EachBelow l.rows (λ k row. address_of row) (λ k row. LeadsToPlaces l.entries l.starts row) l.row-index) l.lowest

@@ -1,0 +1,16 @@
+use oat_image::Image;
+
+/// Why an image is refused.
+#[derive(Clone, Copy, Debug, PartialEq, Eq)]
+pub enum ShapeFault {
+    /// The first shape rule that fails, from 1 for S1 to 8 for S8, and the lowest address at which it does.
+    Rule { number: u8, at: u64 },
+    Memory,
+}
+
+/// An image that is handed back, and why.
+#[derive(Debug, Drop)]
+pub struct ShapeRefusal {
+    pub image: Image,
+    pub fault: ShapeFault,
+}
