@@ -1,3 +1,10 @@
 pub mod Sealing
 pub mod Reports
 pub mod OneJump
+pub mod Traces
+pub mod Turns
+pub mod WritesDue
+pub mod Spacing
+pub mod Rooms
+pub mod Starting
+pub mod Runs

@@ -73,15 +73,15 @@ held-define words before cells cell value held j = held-at words before cells ce
 
 -- ---- one call of the fold
 
-step-ok : (o : Opening) (s : State) (call : Option Call) (next : State) (calls : Calls) → measured o s call ≡ Ok next → (measures o s (call ∷ calls)).state ≡ (measures o next calls).state
+pub step-ok : (o : Opening) (s : State) (call : Option Call) (next : State) (calls : Calls) → measured o s call ≡ Ok next → (measures o s (call ∷ calls)).state ≡ (measures o next calls).state
 unfolding measures
 step-ok o s call next calls h = ap (λ (r : Result State Stop). (joined s r (λ (n : State). measures o n calls)).state) h
 
-step-err : (o : Opening) (s : State) (call : Option Call) (stop : Stop) (calls : Calls) → measured o s call ≡ Err stop → (measures o s (call ∷ calls)).state ≡ s
+pub step-err : (o : Opening) (s : State) (call : Option Call) (stop : Stop) (calls : Calls) → measured o s call ≡ Err stop → (measures o s (call ∷ calls)).state ≡ s
 unfolding measures
 step-err o s call stop calls h = ap (λ (r : Result State Stop). (joined s r (λ (n : State). measures o n calls)).state) h
 
-no-calls : (o : Opening) (s : State) → (measures o s []).state ≡ s
+pub no-calls : (o : Opening) (s : State) → (measures o s []).state ≡ s
 unfolding measures
 no-calls o s = refl
 
@@ -97,7 +97,7 @@ staged o s call sealed is = ap (λ (stage : Stage). elim stage as (λ _. Result 
 
 -- ---- behind the window
 
-closed-stage : (s : State) (call : Call) → (closed s call).stage ≡ s.stage
+pub closed-stage : (s : State) (call : Call) → (closed s call).stage ≡ s.stage
 closed-stage s (defines cell value) = refl
 closed-stage s _ = refl
 
@@ -145,10 +145,10 @@ use-first cell value before None (Some word) later =
       | false ↦ refl
     ]
 
-not-sealed : {A : Type 0} (stage : Stage) → stage ≡ measuring → stage ≡ sealed → A
+pub not-sealed : {A : Type 0} (stage : Stage) → stage ≡ measuring → stage ≡ sealed → A
 not-sealed stage is h = absurd (let e : measuring ≡ sealed = sym is ∙ h in cc)
 
-not-open : {A : Type 0} (stage : Stage) → stage ≡ unmeasured → stage ≡ sealed → A
+pub not-open : {A : Type 0} (stage : Stage) → stage ≡ unmeasured → stage ≡ sealed → A
 not-open stage is h = absurd (let e : unmeasured ≡ sealed = sym is ∙ h in cc)
 
 abbrev Exact : Opening → State → Calls → Option Violation → Type 0
@@ -298,7 +298,7 @@ when-none : (t : Bool) (others : Option Violation) (v : Violation) → cond t ot
 when-none true others v h = refl
 when-none false others v h = absurd (cc)
 
-sound-uses : (checked : List CheckedUse) → first_unsound checked ≡ None → All IsSound checked
+pub sound-uses : (checked : List CheckedUse) → first_unsound checked ≡ None → All IsSound checked
 sound-uses [] h k d lt = absurd (omega arith)
 sound-uses (use_ ∷ others) h zero d lt =
     sym (eqb-true use_.defined use_.found (when-none (eqb use_.defined use_.found) _ _ h))

@@ -8,6 +8,7 @@ use Rattle.oat_image.specs.declared.image.Image.{Image}
 use Rattle.oat_mem.specs.DataMemory.{word_in}
 use Rattle.oat_measure.specs.declared.opening.Opening.{Opening}
 use Rattle.oat_measure.specs.Measurement.{State, Stop, nested, wrong_end, sealed, Cells, Measured, booted, measures}
+use Rattle.oat_measure.specs.Monitored.{head_of}
 use Rattle.oat_shape.specs.declared.end.DeviceEnd.{DeviceEnd}
 use Rattle.oat_shape.specs.declared.end.DeviceEnd.TheVariants.{Stopped}
 use Rattle.oat_shape.specs.declared.end.StopKind.{StopKind}
@@ -62,7 +63,7 @@ IsSealed run = run.state.stage ≡ sealed
 -- the body that a sealed run reports
 abbrev pub body_of : Opening → State → Body
 body_of o s = record {
-  head = record { op = o.op; nonce = o.nonce; digest = o.digest; hash = s.hash; violation = s.violation };
+  head = head_of o s;
   bits = s.bits;
   targets = s.targets;
 }

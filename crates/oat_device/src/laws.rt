@@ -1,5 +1,7 @@
 //! Laws of measured runs, each the contract of a function that does nothing.
 ghost use Rattle.oat_device.specs.Measured.{RunsReportExactly};
+ghost use Rattle.oat_device.specs.Turns.{TurnsAreTheRun};
+ghost use Rattle.oat_device.specs.Trace.{RunsReportTheirWindow, WindowsAreTraces};
 ghost use Rattle.oat_device.specs.Worked.{OneJumpIsMeasured};
 ghost use Rattle.oat_device.specs.Violations.{NoViolationIsSound, ViolationsAreExact};
 
@@ -18,7 +20,22 @@ pub fn runs_report_exactly()
     ensures { RunsReportExactly }
 {}
 
+/// The window of a sealed run is a trace of its code from behind the call that opened it, whatever was given and written.
+pub fn windows_are_traces()
+    ensures { WindowsAreTraces }
+{}
+
+/// A sealed run holds the chain of its window's returns, its branch bits and its indirect targets.
+pub fn runs_report_their_window()
+    ensures { RunsReportTheirWindow }
+{}
+
 /// The smallest image with a jump, run by the definitions: it seals within five instructions, shows the jump and the end, and the sixth halts it.
 pub fn one_jump_is_measured()
     ensures { OneJumpIsMeasured }
+{}
+
+/// Turn by turn a run comes to the measured run, for every number of turns.
+pub fn turns_are_the_run()
+    ensures { TurnsAreTheRun }
 {}

@@ -1,4 +1,16 @@
-//! The run of a device on an image.
+//! The device: the run of an image, with the monitor that measures it.
 #![tactic(auto)]
 
+mod bare;
+mod call;
+mod course;
+mod device;
 pub mod laws;
+mod monitor;
+mod start;
+#[cfg(test)]
+mod tests;
+mod writes;
+
+pub use call::{MonitorCall, call_numbered};
+pub use device::Device;

@@ -1,2 +1,0 @@
-pub mod WritesDue
-pub mod Whole

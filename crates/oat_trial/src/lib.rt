@@ -3,9 +3,7 @@
 //! It is slow and small. Tests of a device compare with it.
 #![tactic(auto)]
 
-mod call;
 mod due;
-pub mod laws;
 mod monitor;
 mod run;
 mod shown;
@@ -14,7 +12,6 @@ mod state;
 mod tests;
 mod trial;
 
-pub use call::MonitorCall;
 pub use due::are_in_data;
 pub use run::Run;
 pub use shown::{edge_over, is_transfer, row_over};

@@ -2,12 +2,13 @@ ghost use Rattle.std.specs.Prelude.{◌≡◌, ◌∷◌, ◌++◌, [], not, nat
 ghost use Rattle.sha2.specs.Sha256.{sha256};
 ghost use Rattle.oat_chain.specs.Chain.{begin_record, link};
 ghost use Rattle.oat_measure.specs.Measurement.{after, before, defined, inside, measured, violated};
-ghost use Rattle.oat_trial.specs.Trial.{call_of, hash_of, kept, state_of, stop_of};
+ghost use Rattle.oat_device.specs.Turns.{call_of, kept, stop_of};
+ghost use Rattle.oat_trial.specs.Trial.{hash_of, state_of};
 
-use crate::call::MonitorCall;
 use crate::state::{Monitor, Stage};
 use oat_blob::Violation;
 use oat_chain::begin_record;
+use oat_device::MonitorCall;
 use oat_measure::Opening;
 use oat_shape::StopKind;
 use sha2::{Digest, Sha256};

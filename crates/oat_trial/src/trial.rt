@@ -1,13 +1,14 @@
 ghost use Rattle.std.specs.Prelude.{◌≡◌, ◌<◌, ◌^◌, All, OnOk, None, option_map};
-ghost use Rattle.oat_trial.specs.Trial.{FitsData, call_of, call_told, next_of, progress_of};
+ghost use Rattle.oat_device.specs.Turns.{call_of, call_told, next_of};
+ghost use Rattle.oat_trial.specs.Trial.{FitsData, progress_of};
 ghost use Rattle.oat_cpu.specs.Processor.{regs_of};
 
-use crate::call::{MonitorCall, call_numbered};
 use crate::run::Run;
 use crate::state::Monitor;
 use oat_a64::Event;
 use oat_case::Write;
 use oat_cpu::Cpu;
+use oat_device::{MonitorCall, call_numbered};
 use oat_measure::Opening;
 use oat_shape::DeviceEnd;
 use std::alloc::AllocError;

@@ -3,7 +3,7 @@ use Rattle.std.proofs.lemmas.List.{at_drop_more, at_drop_all}
 use Rattle.oat_mem.specs.DataMemory.{byte_at}
 use Rattle.oat_case.specs.declared.case.Write.{Write}
 use Rattle.oat_shape.specs.Run.{poked}
-use Rattle.oat_trial.proofs.WritesDue.{poked-first}
+use Rattle.oat_device.proofs.WritesDue.{poked-first}
 use Rattle.oat_trial.proofs.due.make_due.Goals as goal
 
 pub loop-write-preserved : goal.loop-write-preserved

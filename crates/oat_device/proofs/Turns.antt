@@ -18,8 +18,7 @@ use Rattle.oat_shape.specs.Run.{Running, Entry, started, found, makes, told, cal
 use Rattle.oat_shape.specs.Window.{made_call}
 use Rattle.oat_shape.proofs.Turns.{EntryIs, entry-is, step-is}
 use Rattle.oat_device.specs.Measured.{run_until, start_cells, stop_kind}
-use Rattle.oat_trial.specs.Trial.{Progress, call_told, kept, stop_of, stopped_by, next_of}
-use Rattle.oat_trial.specs.Whole.{going_on, after_turns, progress_of_run, TurnsAreTheRun}
+use Rattle.oat_device.specs.Turns.{Progress, call_told, kept, stop_of, stopped_by, next_of, going_on, after_turns, progress_of_run, TurnsAreTheRun}
 
 -- ---- the call of an entry
 
@@ -49,7 +48,7 @@ fits-going s m (event.Svc number) i r on fits = fits
 fits-going s m (event.Brk number) i r on fits = fits
 fits-going s m (event.Fault kind) i r on fits = absurd (cc)
 
-turn-going : (code : List ℕ) (writes : List Write) (s : Running) → s.end ≡ None → turn code writes s ≡ makes s (step code (found writes s))
+pub turn-going : (code : List ℕ) (writes : List Write) (s : Running) → s.end ≡ None → turn code writes s ≡ makes s (step code (found writes s))
 unfolding turn
 turn-going code writes s going = ap (λ (e : Option DeviceEnd). turn_of e s (makes s (step code (found writes s)))) going
 
@@ -107,7 +106,7 @@ unfolding turns
 turns-stay code writes zero s ends = refl
 turns-stay code writes (suc n) s ends = ap (turns code writes n) (stays code writes s ends) ∙ turns-stay code writes n s ends
 
-progress-stays : (code : List ℕ) (writes : List Write) (o : Opening) (n : ℕ) (p : Progress) → Ends p.running → after_turns code writes o n p ≡ p
+pub progress-stays : (code : List ℕ) (writes : List Write) (o : Opening) (n : ℕ) (p : Progress) → Ends p.running → after_turns code writes o n p ≡ p
 unfolding after_turns
 progress-stays code writes o zero p ends = refl
 progress-stays code writes o (suc n) p ends =

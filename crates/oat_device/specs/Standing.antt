@@ -1,0 +1,104 @@
+-- The measured run for which a device stands while it makes it, instruction by instruction (docs/DEFINITIONS.md, "Measured run").
+use Rattle.std.specs.Prelude.{◌≡◌, ◌+◌, ◌-◌, ◌*◌, ◌≤◌, ◌⊎◌, ℕ, List, Option, Some, None, IsSome, vec_len, vec_capacity}
+use Rattle.std.specs.List.{AllByRecursion}
+use Rattle.std.specs.Option.{option_map}
+use Rattle.sha2.specs.Sha256.{sha256}
+use Rattle.oat_a64.specs.declared.inst.Inst.TheVariants.{Svc}
+use Rattle.oat_a64.specs.Step.{instruction_at, next_pc}
+use Rattle.oat_blob.specs.Body.{Body}
+use Rattle.oat_case.specs.declared.case.Case.{Case}
+use Rattle.oat_case.specs.declared.case.Session.{Session}
+use Rattle.oat_case.specs.Limits.{IsInLimits, RisesFrom}
+use Rattle.oat_image.specs.declared.image.Image.{Image}
+use Rattle.oat_image.specs.Grammar.{image_text}
+use Rattle.oat_measure.specs.declared.engine.Engine.{Engine}
+use Rattle.oat_measure.specs.declared.opening.Opening.{Opening}
+use Rattle.oat_measure.specs.Measurement.{State, booted, sealed}
+use Rattle.oat_measure.specs.Monitored.{Monitored, state_at}
+use Rattle.oat_measure.specs.Transitions.{engine_shown, engine_state}
+use Rattle.oat_shape.specs.declared.end.DeviceEnd.{DeviceEnd}
+use Rattle.oat_shape.specs.declared.end.DeviceEnd.TheVariants.{OutOfSteps}
+use Rattle.oat_shape.specs.Shape.{IsShaped, BeginsAt}
+use Rattle.oat_device.specs.declared.course.Course.{Course}
+use Rattle.oat_device.specs.Bare.{DoesFrom, running_of}
+use Rattle.oat_device.specs.Measured.{Run, dev, opening, body_of}
+use Rattle.oat_device.specs.Turns.{Progress, progress_of_run}
+
+-- What the window of a session's operation is opened for, on an image: it opens at the SVC of that operation's Begin group.
+abbrev pub IsOpening : Image → Session → Opening → Type 0
+IsOpening image session o =
+    (begin_at : ℕ) × BeginsAt image.map session.op begin_at × (o ≡ opening session (sha256 (image_text image)) begin_at)
+
+-- how a run ended; without an end it is out of steps
+abbrev pub end_of : Run → DeviceEnd
+end_of run = elim run.end [ None ↦ OutOfSteps | Some why ↦ why ]
+
+-- the body that a measurement state gives
+abbrev pub reported : Monitored → Body
+reported shown = body_of shown.opening (state_at sealed shown)
+
+-- ---- what a device's values stand for
+
+abbrev pub state_of : Option Engine → State
+state_of None = booted (λ _. None)
+state_of (Some engine) = engine_state engine
+
+abbrev pub progress_of : Course → Progress
+progress_of device = record { running = running_of device.bare; state = state_of device.engine }
+
+-- what the device's window is opened for
+abbrev pub opening_of : Option Engine → Option Opening
+opening_of engine = option_map (λ held. (engine_shown held).opening) engine
+
+-- ---- room for what is still to come
+
+-- room for the records of one kind: half of the instructions that are left, or half of all but the next one, where that makes none
+abbrev pub HasRoom : List ℕ → ℕ → ℕ → ℕ → ℕ → Type 0
+HasRoom code number left spare pc =
+    (left ≤ 2 * spare) ⊎ ((left ≤ 2 * spare + 1) × (instruction_at code pc ≡ Some (Svc number) → ⊥))
+
+abbrev pub spare_bits : Option Engine → ℕ
+spare_bits None = 0
+spare_bits (Some engine) = (engine_shown engine).spare_bits
+
+abbrev pub spare_targets : Option Engine → ℕ
+spare_targets None = 0
+spare_targets (Some engine) = (engine_shown engine).spare_targets
+
+-- no monitor call of this number directly follows another
+abbrev pub IsSpaced : List ℕ → ℕ → Type 0
+IsSpaced code number =
+    (pc : ℕ) → instruction_at code pc ≡ Some (Svc number) → instruction_at code (next_pc pc) ≡ Some (Svc number) → ⊥
+
+-- what each device keeps: the writes that are left can be made, and all that is left of the run has room
+pub record IsReady (device : Course) : Type 0 where
+  pub measured : IsSome device.engine
+  pub bits_spaced : IsSpaced device.bare.code.now 3
+  pub targets_spaced : IsSpaced device.bare.code.now 4
+  pub few : device.steps ≤ 4194304
+  pub writes_fit : AllByRecursion IsInLimits device.bare.writes.now
+  pub writes_rise : RisesFrom device.bare.made device.bare.writes.now
+  pub outputs : device.steps + vec_len device.bare.outputs ≤ device.bare.made + vec_capacity device.bare.outputs
+  pub bits : HasRoom device.bare.code.now 3 (device.steps - device.bare.made) (spare_bits device.engine) device.bare.cpu.pc
+  pub targets : HasRoom device.bare.code.now 4 (device.steps - device.bare.made) (spare_targets device.engine) device.bare.cpu.pc
+
+-- ---- standing
+
+-- The device has made the measured run of at most n instructions of this image, with this case's session, inputs and writes.
+pub record Stands (device : Course) (image : Image) (case : Case) (n : ℕ) : Type 0 where
+  pub shaped : IsShaped image
+  pub code : device.bare.code.now ≡ image.code
+  pub steps : device.steps ≡ case.steps
+  pub within : n ≤ case.steps
+  pub opening : Opening
+  pub opens : IsOpening image case.session opening
+  pub measures : opening_of device.engine ≡ Some opening
+  pub run : progress_of device ≡ progress_of_run (dev image opening case.inputs case.writes n)
+  pub going : device.bare.end ≡ None → device.bare.made ≡ n
+  pub writes : DoesFrom device.bare.made device.bare.writes.now case.writes
+
+-- What is claimed of the run for which a device stands, and of what its window is opened for.
+abbrev pub OfItsRun : Course → (Opening → Run → Type 0) → Type 0
+OfItsRun device Claim =
+    (image : Image) (case : Case) (n : ℕ) (o : Opening) → Stands device image case n → IsOpening image case.session o
+    → Claim o (dev image o case.inputs case.writes n)

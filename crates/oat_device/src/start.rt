@@ -1,0 +1,58 @@
+//! What an image gives a device at its start.
+ghost use Rattle.std.specs.Prelude.{◌≡◌, ◌≤◌, IfOk, length};
+ghost use Rattle.oat_image.specs.Grammar.{IsWellFormed};
+ghost use Rattle.oat_measure.specs.Monitored.{cells_of};
+ghost use Rattle.oat_mem.specs.DataMemory.{byte_at};
+ghost use Rattle.oat_shape.specs.Run.{start_memory};
+ghost use Rattle.oat_shape.specs.Shape.{IsOperation};
+ghost use Rattle.oat_device.specs.Measured.{start_cells};
+ghost use Rattle.oat_device.specs.Standing.{IsOpening};
+
+use oat_case::Session;
+use oat_image::Image;
+use oat_measure::Opening;
+use oat_mem::Memory;
+use oat_shape::Shaped;
+use std::alloc::{AllocError, Global};
+
+const GLOBAL_BASE: u64 = 0x4000_0000;
+
+/// Zeros, but for the words that the image gives.
+pub fn start_memory(alloc: Global, image: &Image) -> Result<Memory, AllocError>
+    requires { IsWellFormed image.now }
+    ensures { IfOk result (λ memory. byte_at memory ≡ start_memory image.now.words) }
+{
+    let mut memory = Memory::zeroed(alloc)?;
+    for word in image.words.as_slice() {
+        memory.put_word(word.index, word.value);
+    }
+    Ok(memory)
+}
+
+/// The first words of the critical cells.
+pub fn start_cells(alloc: Global, image: &Image, memory: &Memory) -> Result<Vec<u64>, AllocError>
+    requires fit { IsWellFormed image.now }
+    requires loaded { byte_at memory.now ≡ start_memory image.now.words }
+    ensures words { IfOk result (λ cells. cells_of cells.items ≡ start_cells image.now) }
+    ensures few { IfOk result (λ cells. length cells.items ≤ 65536) }
+{
+    let mut cells = Vec::with_capacity(alloc, image.cells.len())?;
+    for index in image.cells.as_slice() {
+        let word = memory.read8(GLOBAL_BASE + 8 * u64::from(*index));
+        cells.push_reserved(word.unwrap());
+    }
+    Ok(cells)
+}
+
+/// What the window of a session's operation is opened for.
+pub fn opening(shaped: &Shaped, session: &Session) -> Opening
+    requires { IsOperation shaped.now.map session.now.op }
+    ensures { IsOpening shaped.now session.now result }
+{
+    Opening {
+        nonce: session.nonce,
+        op: session.op,
+        digest: shaped.digest(),
+        begin_at: shaped.begin_at(session.op).unwrap(),
+    }
+}
