@@ -14,7 +14,7 @@ use Rattle.oat_verify.specs.declared.verdict.Cause.TheVariants as causes
 use Rattle.oat_verify.specs.declared.verdict.Verdict.{Verdict}
 use Rattle.oat_verify.specs.declared.verdict.Verdict.TheVariants.{Accept, Refuse}
 use Rattle.oat_verify.specs.Verdict.{Subject, Looks, fails, passes, Settles, Replays, stuck, walked, Judges, IsVerdict, blob, form, Accepts, AcceptanceAtOnce, OneVerdict}
-use Rattle.oat_verify.proofs.OneStuck.{one_stuck}
+use Rattle.oat_replay.proofs.OneStuck.{one_stuck}
 
 -- ---- one verdict
 

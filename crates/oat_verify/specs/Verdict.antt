@@ -1,5 +1,8 @@
 -- The verdict on a blob: what is looked at, in which order, and what each answer means (docs/DEFINITIONS.md, "Verdict").
 use Rattle.std.specs.Prelude.{◌≡◌, ◌↔◌, ℕ, List, None, MatchOption}
+use Rattle.sha2.specs.Sha256.{sha256}
+use Rattle.oat_image.specs.declared.image.Image.{Image}
+use Rattle.oat_image.specs.Grammar.{image_text}
 use Rattle.oat_map.specs.declared.map.Map.{Map}
 use Rattle.oat_map.specs.declared.edge.Edge.{Edge}
 use Rattle.oat_map.specs.Walk.{returns_of}
@@ -22,6 +25,10 @@ pub record Subject : Type 0 where
   -- SHA-256 of the image text
   pub digest : List ℕ
   pub session : Session
+
+-- a session for an operation of an image
+abbrev pub subject_of : Image → Session → Subject
+subject_of image session = record { map = image.map; digest = sha256 (image_text image); session = session }
 
 abbrev pub head_of : Subject → List ℕ
 head_of s = begin_record s.session.nonce s.session.op s.digest

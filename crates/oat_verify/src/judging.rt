@@ -1,20 +1,20 @@
-ghost use Rattle.std.specs.Prelude.{◌≡◌, ◌↔◌, ◌++◌, ◌∷◌, [], ℕ, List, IsTrue, IsSome, IfOk};
+ghost use Rattle.std.specs.Prelude.{◌≡◌, ◌↔◌, ◌++◌, ◌∷◌, [], ℕ, List, IsTrue, IfOk};
 ghost use Rattle.oat_hmac.specs.Hmac.{hmac};
-ghost use Rattle.oat_chain.specs.Chain.{begin_record, chain};
+ghost use Rattle.oat_chain.specs.Chain.{chain};
 ghost use Rattle.oat_chain.specs.Standing.{StandsFor};
-ghost use Rattle.oat_map.specs.Rows.{IsOrdered, start};
 ghost use Rattle.oat_map.specs.Walk.{returns_of};
 ghost use Rattle.oat_blob.specs.Layout.{covered_of};
-ghost use Rattle.oat_replay.specs.Plain.{IsPlain};
-ghost use Rattle.oat_verify.specs.Verdict.{Judges, Replays, Settles};
+ghost use Rattle.oat_shape.specs.Shape.{IsOperation};
+ghost use Rattle.oat_verify.specs.Verdict.{subject_of, Judges, Replays, Settles, IsVerdict};
 
 use crate::verdict::{Cause, Verdict};
-use oat_blob::BlobRef;
+use oat_blob::{BlobRef, decode};
 use oat_case::Session;
 use oat_chain::{Chain, begin_record};
 use oat_hmac::Mac;
-use oat_map::{Edge, Map, Path};
+use oat_map::{Edge, Path};
 use oat_replay::{WalkFault, walk};
+use oat_shape::Shaped;
 use std::alloc::{AllocError, Global};
 
 fn has_right_mac(session: &Session, blob: &BlobRef<'_>) -> bool
@@ -62,36 +62,30 @@ fn settle(head: &[u8; 50], blob: &BlobRef<'_>, path: Path) -> Verdict
 
 fn replay(
     alloc: Global,
-    map: &Map,
-    digest: &[u8; 32],
+    shaped: &Shaped,
     session: &Session,
     blob: &BlobRef<'_>,
 ) -> Result<Verdict, AllocError>
-    requires ordered { IsOrdered map.now.rows }
-    requires begun { IsSome (start map.now.rows session.now.op) }
-    requires plain { IsPlain map.now.rows }
-    ensures { IfOk result (Replays (record { map = map.now; digest = digest.now; session = session.now }) blob.now.body) }
+    requires { IsOperation shaped.now.map session.now.op }
+    ensures { IfOk result (Replays (subject_of shaped.now session.now) blob.now.body) }
 {
-    let head = begin_record(&session.nonce, session.op, digest);
-    match walk(alloc, map, session.op, blob) {
+    let head = begin_record(&session.nonce, session.op, &shaped.digest());
+    match walk(alloc, &shaped.image().map, session.op, blob) {
         Ok(path) => Ok(settle(&head, blob, path)),
         Err(WalkFault::Stuck { cause, turn }) => Ok(Verdict::Refuse(Cause::Replay { cause, turn })),
         Err(WalkFault::Memory) => Err(AllocError),
     }
 }
 
-/// The verdict on a blob about an image with this map and digest, in a session for one of its operations.
-pub fn judge(
+/// The verdict on bytes that are a blob.
+fn judge(
     alloc: Global,
-    map: &Map,
-    digest: &[u8; 32],
+    shaped: &Shaped,
     session: &Session,
     blob: &BlobRef<'_>,
 ) -> Result<Verdict, AllocError>
-    requires ordered { IsOrdered map.now.rows }
-    requires begun { IsSome (start map.now.rows session.now.op) }
-    requires plain { IsPlain map.now.rows }
-    ensures { IfOk result (Judges (record { map = map.now; digest = digest.now; session = session.now }) blob.now.body blob.now.mac) }
+    requires { IsOperation shaped.now.map session.now.op }
+    ensures { IfOk result (Judges (subject_of shaped.now session.now) blob.now.body blob.now.mac) }
 {
     let head = blob.head();
     if !has_right_mac(session, blob) {
@@ -103,8 +97,26 @@ pub fn judge(
     if head.op != session.op {
         return Ok(Verdict::Refuse(Cause::Operation));
     }
-    if head.digest != *digest {
+    if head.digest != shaped.digest() {
         return Ok(Verdict::Refuse(Cause::Image));
     }
-    replay(alloc, map, digest, session, blob)
+    replay(alloc, shaped, session, blob)
+}
+
+/// The verdict on a blob's bytes, in a session for one of the image's operations.
+///
+/// The error is want of memory.
+pub fn verify(
+    alloc: Global,
+    shaped: &Shaped,
+    session: &Session,
+    blob: &[u8],
+) -> Result<Verdict, AllocError>
+    requires { IsOperation shaped.now.map session.now.op }
+    ensures { IfOk result (IsVerdict (subject_of shaped.now session.now) blob.now) }
+{
+    match decode(blob) {
+        Ok(blob) => judge(alloc, shaped, session, &blob),
+        Err(fault) => Ok(Verdict::Refuse(Cause::Form(fault.offset))),
+    }
 }

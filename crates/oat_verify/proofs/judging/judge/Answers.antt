@@ -1,5 +1,7 @@
-use Rattle.std.proofs.Common.{rules, ◌≡◌}
+use Rattle.std.proofs.Common.{rules, ◌≡◌, ◌∙◌}
 use Rattle.std.proofs.lemmas.Result.{IfOk-weaker}
+use Rattle.sha2.specs.Sha256.{sha256}
+use Rattle.oat_image.specs.Grammar.{image_text}
 use Rattle.oat_hmac.specs.Hmac.{hmac}
 use Rattle.oat_blob.specs.Layout.{covered_of}
 use Rattle.oat_verify.specs.Verdict.{passes}
@@ -10,5 +12,6 @@ returns c =
     let right_mac : c.args.blob.now.mac ≡ hmac c.args.session.now.key (covered_of c.args.blob.now.body) = search rules in
     let nonce : c.args.blob.now.body.head.nonce ≡ c.args.session.now.nonce = search rules in
     let op : c.args.blob.now.body.head.op ≡ c.args.session.now.op = search rules in
-    let image : c.args.blob.now.body.head.digest ≡ c.args.digest.now = search rules in
+    let carried : c.args.blob.now.body.head.digest ≡ c.digest.result = search rules in
+    let image : c.args.blob.now.body.head.digest ≡ sha256 (image_text c.args.shaped.now) = carried ∙ c.digest.ensures in
     IfOk-weaker c.replay.result _ _ (λ v replays. passes right_mac (passes nonce (passes op (passes image replays)))) c.replay.ensures

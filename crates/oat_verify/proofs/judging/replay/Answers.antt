@@ -1,12 +1,22 @@
 use Rattle.std.proofs.Common.{refl, subst, List, ℕ}
 use Rattle.oat_verify.specs.Verdict.{stuck, walked, Settles}
+use Rattle.oat_verify.proofs.Shaped.{IsOrdered-shaped, IsSome-start}
 use Rattle.oat_verify.proofs.judging.replay.Goals as goal
+
+pub walk-requires-clause-ordered : goal.walk-requires-clause-ordered
+walk-requires-clause-ordered c =
+    rw c.image.ensures.same (IsOrdered-shaped c.args.shaped.now c.image.ensures.well_formed c.image.ensures.shaped)
+
+pub walk-requires-clause-begun : goal.walk-requires-clause-begun
+walk-requires-clause-begun c = rw c.image.ensures.same (IsSome-start c.args.shaped.now.map c.args.session.now.op c.requires)
 
 pub returns-in-Ok : goal.returns-in-Ok
 returns-in-Ok c =
-    walked c.in-Ok.path c.in-Ok.ensures.walks (subst (λ (head : List ℕ). Settles head c.args.blob.now.body c.in-Ok.path c.settle.result) c.begin_record-head.ensures c.settle.ensures)
+    walked c.in-Ok.path (rw c.image.ensures.same at c.in-Ok.ensures.walks)
+    (subst (λ (head : List ℕ). Settles head c.args.blob.now.body c.in-Ok.path c.settle.result)
+    (rw c.digest.ensures at c.begin_record-head.ensures) c.settle.ensures)
 
 pub returns-in-Err-Stuck : goal.returns-in-Err-Stuck
 returns-in-Err-Stuck c =
-    stuck c.in-Err-Stuck.cause c.in-Err-Stuck.turn (rw c.in-Err-Stuck.field-0-is at c.in-Err-Stuck.ensures.stuck)
+    stuck c.in-Err-Stuck.cause c.in-Err-Stuck.turn (rw (c.in-Err-Stuck.field-0-is, c.image.ensures.same) at c.in-Err-Stuck.ensures.stuck)
     (rw (c.in-Err-Stuck.cause-is, c.in-Err-Stuck.turn-is) refl)
