@@ -1,0 +1,13 @@
+pub mod Lists
+pub mod Moves
+pub mod Laid
+pub mod Trails
+pub mod Skips
+pub mod Crossings
+pub mod CellCrossings
+pub mod Outcomes
+pub mod Places
+pub mod Sync
+pub mod Joining
+pub mod Clashing
+pub mod Headlines

@@ -25,7 +25,7 @@ use Rattle.oat_shape.specs.Run.{Entry, Given}
 use Rattle.oat_shape.specs.Window.{executed_path, returns_of_run, made_call}
 use Rattle.oat_shape.specs.Uses.{IsSound}
 use Rattle.oat_device.specs.Measured.{Run, dev, opening, IsSealed, body_of, window_of, uses_of, first_unsound}
-use Rattle.oat_verify.specs.Verdict.{Accepts, Subject, head_of}
+use Rattle.oat_verify.specs.Verdict.{Accepts, subject_of, head_of}
 
 -- ---- what a run and an accepted path are compared by
 
@@ -34,9 +34,6 @@ pub record IsSetting (image : Image) (session : Session) (begin_at : ℕ) : Type
   pub well_formed : IsWellFormed image
   pub shaped : IsShaped image
   pub begins : BeginsAt image.map session.op begin_at
-
-abbrev pub subject_of : Image → Session → Subject
-subject_of image session = record { map = image.map; digest = sha256 (image_text image); session = session }
 
 abbrev pub opening_of : Image → Session → ℕ → Opening
 opening_of image session begin_at = opening session (sha256 (image_text image)) begin_at
@@ -84,20 +81,29 @@ pub record Clashes (head run_returns replay_returns : List ℕ) : Type 0 where
 
 -- ---- the statements
 
--- what each of them is about: an accepted blob of a device run, whatever was given and written
+-- what holds of each device run whose blob these bytes are, whatever was given and written
+abbrev pub OfRuns : Image → Session → ℕ → List ℕ → (Run → Type 0) → Type 0
+OfRuns image session begin_at bytes claim =
+    (inputs : List ℤ) (writes : List Write) (n : ℕ) → Given inputs writes
+    → let run = dev image (opening_of image session begin_at) inputs writes n in
+    IsReported image session begin_at run bytes → claim run
+
+-- what each of them is about: an accepted blob of a device run
 abbrev pub OfAcceptedRuns : ((image : Image) → Session → ℕ → Run → List Edge → Type 0) → Type 0
 OfAcceptedRuns claim =
     (image : Image) (session : Session) (begin_at : ℕ) → IsSetting image session begin_at
     → (bytes : List ℕ) (path : List Edge) → Accepts (subject_of image session) bytes path
-    → (inputs : List ℤ) (writes : List Write) (n : ℕ) → Given inputs writes
-    → let run = dev image (opening_of image session begin_at) inputs writes n in
-    IsReported image session begin_at run bytes → claim image session begin_at run path
+    → OfRuns image session begin_at bytes (λ run. claim image session begin_at run path)
 
--- The headline for `verify`: the run followed the accepted path, or its returns and the replay's clash.
-abbrev pub Headline : Type 0
-Headline = OfAcceptedRuns (λ image session begin_at run path.
+-- The run followed the path, or its returns and the replay's clash.
+abbrev pub FollowedOrClashes : Image → Session → ℕ → Run → List Edge → Type 0
+FollowedOrClashes image session begin_at run path =
     Followed image session begin_at run path
-    ⊎ Clashes (head_of (subject_of image session)) (returns_of_window image session begin_at run) (returns_of path))
+    ⊎ Clashes (head_of (subject_of image session)) (returns_of_window image session begin_at run) (returns_of path)
+
+-- The headline for `verify`.
+abbrev pub Headline : Type 0
+Headline = OfAcceptedRuns FollowedOrClashes
 
 -- the cell of a UseCell row
 abbrev pub cell_of : Row → List ℕ

@@ -1,0 +1,43 @@
+-- The headline for `verify`, from same path, the clash of unequal returns, and exact violations: by whether the run's returns are those of the path.
+use Rattle.std.proofs.Common.{◌≡◌, ℕ, ℤ, inl, inr, List, All, None, sym, ap, ◌∙◌}
+use Rattle.oat_blob.specs.Body.{Body}
+use Rattle.oat_blob.proofs.OneLayout.{one_body}
+use Rattle.oat_case.specs.declared.case.Session.{Session}
+use Rattle.oat_case.specs.declared.case.Write.{Write}
+use Rattle.oat_chain.proofs.Messages.{decided}
+use Rattle.oat_image.specs.declared.image.Image.{Image}
+use Rattle.oat_map.specs.declared.edge.Edge.{Edge}
+use Rattle.oat_map.specs.Walk.{returns_of}
+use Rattle.oat_shape.specs.Uses.{IsSound}
+use Rattle.oat_device.specs.Measured.{dev, body_of, uses_of}
+use Rattle.oat_device.proofs.Sealing.{sound-uses}
+use Rattle.oat_device.proofs.Reports.{runs_report_exactly}
+use Rattle.oat_verify.specs.Verdict.{Accepts, subject_of}
+use Rattle.oat_attest.proofs.Joining.{same_path}
+use Rattle.oat_attest.proofs.Clashing.{clash_of_unequal_returns}
+use Rattle.oat_attest.specs.Headline.{opening_of, IsReported, returns_of_window, Headline, SamePath, ClashOfUnequalReturns}
+
+-- an accepted run has no violation, and so each of its checked uses is sound
+all-sound : (image : Image) (session : Session) (begin_at : ℕ) (bytes : List ℕ) (path : List Edge) → Accepts (subject_of image session) bytes path
+    → (inputs : List ℤ) (writes : List Write) (n : ℕ)
+    → IsReported image session begin_at (dev image (opening_of image session begin_at) inputs writes n) bytes
+    → All IsSound (uses_of image (opening_of image session begin_at) (dev image (opening_of image session begin_at) inputs writes n))
+all-sound image session begin_at bytes path accepted inputs writes n reported =
+    let o = opening_of image session begin_at in
+    let run = dev image o inputs writes n in
+    let same = one_body bytes (body_of o run.state) accepted.body _ accepted.mac reported.blob accepted.is_blob in
+    let none : run.state.violation ≡ None = ap (λ (body : Body). body.head.violation) same.0 ∙ accepted.clean in
+    sound-uses (uses_of image o run) (sym (runs_report_exactly image o inputs writes n reported.sealed) ∙ none)
+
+headline_from : SamePath → ClashOfUnequalReturns → Headline
+headline_from same_path clash image session begin_at setting bytes path accepted inputs writes n given reported =
+    let run = dev image (opening_of image session begin_at) inputs writes n in
+    let run_returns = returns_of_window image session begin_at run in
+    decided run_returns (returns_of path)
+    (λ equal.
+    let followed = same_path image session begin_at setting bytes path accepted inputs writes n given reported equal in
+    inl (record { executed = followed.0; sound = all-sound image session begin_at bytes path accepted inputs writes n reported; loaded = followed.2 }))
+    (λ unequal. inr (clash image session begin_at setting bytes path accepted inputs writes n given reported unequal))
+
+pub headline : Headline
+headline = headline_from same_path clash_of_unequal_returns
