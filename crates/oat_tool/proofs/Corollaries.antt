@@ -1,9 +1,8 @@
 -- What follows for the caller from what a call shows.
-use Rattle.std.proofs.Common.{◌≡◌, ◌∙◌, ◌<◌, ◌≤◌, ◌⊎◌, ℕ, List, [], ◌∷◌, ◌++◌, Option, None, Some, inl, inr, refl, sym, ap, subst, append_assoc, arith}
+use Rattle.std.proofs.Common.{◌≡◌, ◌∙◌, ◌<◌, ◌⊎◌, ℕ, List, [], ◌∷◌, ◌++◌, Option, None, Some, inl, inr, refl, sym, ap, subst, append_assoc, arith}
 use Rattle.std.proofs.lemmas.List.{append-nil}
 use Rattle.oat_world.specs.Outside.{Contents, Adds}
 use Rattle.oat_tool.specs.Outcome.{Outcome, IsPrefix}
-use Rattle.oat_tool.specs.Texts.{starved}
 use Rattle.oat_tool.specs.Defined.{Defined, Ending, defined, fault_told}
 use Rattle.oat_tool.specs.Ends.{OrStarved, ended, at_once, behind, Ends, whole, out_failed, err_failed, err_starved, Shows}
 use Rattle.oat_tool.specs.Answers.{IsAbsentFirst, PutsFrontOfDefined, ShowsJust}
@@ -56,7 +55,7 @@ Ends-quiet : (words : List (List ℕ)) (contents : Contents) (rose out_rose err_
     → Ends (OrStarved (Ending words contents rose)) out_rose err_rose status put said
     → 1 < status → status < 5 → put ≡ []
 Ends-quiet words contents rose out_rose err_rose status put said (whole o (ended ending) same a b) above below =
-    a ∙ Ending-quiet words contents rose o ending (omega (arith, same, above))
+    a ∙ Ending-quiet words contents rose o ending (omega (arith, same, above)) (omega (arith, same, below))
 Ends-quiet words contents rose out_rose err_rose status put said (whole o (at_once is) same a b) above below =
     absurd (omega (arith, same, below, ap (λ (x : Outcome). x.status) is))
 Ends-quiet words contents rose out_rose err_rose status put said (whole o (behind all ending front six err) same a b) above below =

@@ -8,7 +8,9 @@ pub mod Judging
 pub mod Putting
 pub mod Showing
 pub mod Verifying
-pub mod Maps
 pub mod Reporting
-pub mod Stopping
-pub mod CaseReading
+pub mod Refusing
+pub mod Admitting
+pub mod Devising
+pub mod Records
+pub mod Heading

@@ -6,11 +6,11 @@ use Rattle.oat_tool.specs.declared.page.Stop.{Stop}
 use Rattle.oat_tool.specs.declared.page.Stop.TheVariants.{Ends, Starved}
 use Rattle.oat_tool.specs.Outcome.{Outcome}
 use Rattle.oat_tool.specs.Texts.{read_fault}
-use Rattle.oat_tool.specs.Words.{Command, verify, words_of, files_of}
+use Rattle.oat_tool.specs.Words.{Command, verify, device, words_of, files_of}
 use Rattle.oat_tool.specs.Loads.{LoadRefused, Holds}
-use Rattle.oat_tool.specs.Inputs.{Reads, unread, Tests, fails}
 use Rattle.oat_tool.specs.Verifies.{Verifies}
-use Rattle.oat_tool.specs.Defined.{FaultOf, Does, done, Ending, defined, fault_told, image_limit, case_limit, blob_limit}
+use Rattle.oat_tool.specs.Devises.{Devises}
+use Rattle.oat_tool.specs.Defined.{Does, done, Ending, defined, fault_told, image_limit, case_limit, blob_limit}
 use Rattle.oat_tool.specs.Pages.{Stops, Works, Meets, does_it, faults, outcome_of}
 
 pub Stops-weaker : (P Q : Outcome → Type 0) (stop : Stop) → ((o : Outcome) → P o → Q o) → Stops P stop → Stops Q stop
@@ -38,19 +38,6 @@ Stops-load does contents names name limit first before now stop low among leads 
       | inr fault ↦ faults (omega (arith, fault.0)) (record { name = name; loaded = among; told = fault.1 })
     ]) stops
 
--- A stage that stops the work.
-pub Stops-unread : (X : Type 0) (stands_for : X → Type 0) (refusal : Outcome) (rest : X → Outcome → Type 0)
-    (P : Outcome → Type 0) (stop : Stop) → ((o : Outcome) → Reads X stands_for refusal (λ x. rest x o) o → P o)
-    → Stops (λ o. ((x : X) → stands_for x → ⊥) × (o ≡ refusal)) stop → Stops P stop
-Stops-unread X stands_for refusal rest P stop leads stops =
-    Stops-weaker (λ o. ((x : X) → stands_for x → ⊥) × (o ≡ refusal)) P stop (λ o h. leads o (unread h.0 h.1)) stops
-
-pub Stops-fails : (holds : Type 0) (refusal : Outcome) (rest : Outcome → Type 0) (P : Outcome → Type 0)
-    (stop : Stop) → ((o : Outcome) → Tests holds refusal (rest o) o → P o)
-    → Stops (λ o. (¬ holds) × (o ≡ refusal)) stop → Stops P stop
-Stops-fails holds refusal rest P stop leads stops =
-    Stops-weaker (λ o. (¬ holds) × (o ≡ refusal)) P stop (λ o h. leads o (fails h.0 h.1)) stops
-
 -- Work over the three files that are held.
 pub Works-verify : (contents : Contents) (image_name case_name blob_name image case blob : List ℕ) (rose : Type 0)
     (answer : Result Page Stop) → Holds contents image_name image_limit image → Holds contents case_name case_limit case
@@ -60,6 +47,16 @@ Works-verify contents image_name case_name blob_name image case blob rose answer
     Works-weaker (Verifies image_name case_name blob_name image case blob)
     (Meets (Does (verify image_name case_name blob_name) contents) rose (image_name ∷ case_name ∷ blob_name ∷ []))
     answer (λ o verifies. does_it (inr (image, has_image, inr (case, has_case, inr (blob, has_blob, verifies))))) works
+
+-- Work over the two files that are held.
+pub Works-device : (contents : Contents) (image_name case_name image case : List ℕ) (rose : Type 0)
+    (answer : Result Page Stop) → Holds contents image_name image_limit image → Holds contents case_name case_limit case
+    → Works (Devises image_name case_name image case) answer
+    → Works (Meets (Does (device image_name case_name) contents) rose (image_name ∷ case_name ∷ [])) answer
+Works-device contents image_name case_name image case rose answer has_image has_case works =
+    Works-weaker (Devises image_name case_name image case)
+    (Meets (Does (device image_name case_name) contents) rose (image_name ∷ case_name ∷ []))
+    answer (λ o devises. does_it (inr (image, has_image, inr (case, has_case, devises)))) works
 
 -- The work of a command is what its words set out for.
 pub Works-ending : (words : List (List ℕ)) (contents : Contents) (rose : Type 0) (command : Command) (answer : Result Page Stop)

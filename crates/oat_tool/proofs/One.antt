@@ -1,8 +1,8 @@
 -- Loads and looks at inputs determine the outcome where what comes after them does.
-use Rattle.std.proofs.Common.{◌≡◌, ◌∙◌, ◌<◌, ℕ, List, [], ◌∷◌, length, Some, None, IsSomeAnd, inl, inr, sym, ap, subst, arith, codes}
+use Rattle.std.proofs.Common.{◌≡◌, ◌∙◌, ◌<◌, ℕ, List, length, Some, None, inl, inr, sym, ap, subst, arith}
 use Rattle.oat_world.specs.Outside.{Contents}
 use Rattle.oat_tool.specs.Outcome.{Outcome}
-use Rattle.oat_tool.specs.Words.{Command, verify, words_of}
+use Rattle.oat_tool.specs.Words.{Command, verify, device, words_of}
 use Rattle.oat_tool.specs.Loads.{Holds, LoadRefused, absent, long, Loads}
 use Rattle.oat_tool.specs.Inputs.{Reads, unread, read, Tests, fails, passes}
 use Rattle.oat_tool.specs.Laws.{IsOne}
@@ -33,22 +33,26 @@ Loads-one contents name limit rest one o p (inr (bytes, holds, after)) (inr (byt
     let same : bytes' ≡ bytes = cc in
     one bytes o p after (subst (λ (b : List ℕ). rest b p) same after')
 
-pub Reads-one : (X : Type 0) (stands_for : X → Type 0) (refusal : Outcome) (rest : X → Outcome → Type 0)
-    → ((x y : X) → stands_for x → stands_for y → y ≡ x) → ((x : X) → stands_for x → IsOne (rest x))
-    → IsOne (λ o. Reads X stands_for refusal (λ x. rest x o) o)
-Reads-one X stands_for refusal rest same one o p (unread none is) (unread none' is') = is ∙ sym is'
-Reads-one X stands_for refusal rest same one o p (unread none is) (read x stands after) = absurd (none x stands)
-Reads-one X stands_for refusal rest same one o p (read x stands after) (unread none is) = absurd (none x stands)
-Reads-one X stands_for refusal rest same one o p (read x stands after) (read y stands' after') =
+pub Reads-one : (X : Type 0) (stands_for : X → Type 0) (Refused : Outcome → Type 0) (rest : X → Outcome → Type 0)
+    → ((x y : X) → stands_for x → stands_for y → y ≡ x) → ((x : X) (o : Outcome) → stands_for x → Refused o → ⊥) → IsOne Refused
+    → ((x : X) → stands_for x → IsOne (rest x)) → IsOne (λ o. Reads X stands_for Refused (λ x. rest x o) o)
+Reads-one X stands_for Refused rest same apart refusal one o p (unread refused) (unread refused') = refusal o p refused refused'
+Reads-one X stands_for Refused rest same apart refusal one o p (unread refused) (read x stands after) = absurd (apart x o stands refused)
+Reads-one X stands_for Refused rest same apart refusal one o p (read x stands after) (unread refused) = absurd (apart x p stands refused)
+Reads-one X stands_for Refused rest same apart refusal one o p (read x stands after) (read y stands' after') =
     one x stands o p after (subst (λ (z : X). rest z p) (same x y stands stands') after')
 
-pub Tests-one : (holds : Type 0) (refusal : Outcome) (rest : Outcome → Type 0)
-    → (holds → IsOne rest) → IsOne (λ o. Tests holds refusal (rest o) o)
-Tests-one holds refusal rest one o p (fails none is) (fails none' is') = is ∙ sym is'
-Tests-one holds refusal rest one o p (fails none is) (passes holding after) = absurd (none holding)
-Tests-one holds refusal rest one o p (passes holding after) (fails none is) = absurd (none holding)
-Tests-one holds refusal rest one o p (passes holding after) (passes holding' after') = one holding o p after after'
+pub Tests-one : (holds : Type 0) (Refused : Outcome → Type 0) (rest : Outcome → Type 0)
+    → ((o : Outcome) → holds → Refused o → ⊥) → IsOne Refused
+    → (holds → IsOne rest) → IsOne (λ o. Tests holds Refused (rest o) o)
+Tests-one holds Refused rest apart refusal one o p (fails refused) (fails refused') = refusal o p refused refused'
+Tests-one holds Refused rest apart refusal one o p (fails refused) (passes holding after) = absurd (apart o holding refused)
+Tests-one holds Refused rest apart refusal one o p (passes holding after) (fails refused) = absurd (apart p holding refused)
+Tests-one holds Refused rest apart refusal one o p (passes holding after) (passes holding' after') = one holding o p after after'
 
 -- Words give one command at most.
 pub words_of-one : (first second : Command) → words_of first ≡ words_of second → second ≡ first
 words_of-one (verify i c b) (verify i' c' b') same = cc
+words_of-one (verify i c b) (device i' c') same = absurd (omega (arith, ap (λ (words : List (List ℕ)). length words) same))
+words_of-one (device i c) (verify i' c' b') same = absurd (omega (arith, ap (λ (words : List (List ℕ)). length words) same))
+words_of-one (device i c) (device i' c') same = cc

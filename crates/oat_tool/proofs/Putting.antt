@@ -1,8 +1,8 @@
 -- How pieces that were put one after another add up to a front of a text.
-use Rattle.std.proofs.Common.{◌≡◌, ◌≤◌, ◌<◌, ◌+◌, ◌-◌, ℕ, List, [], ◌++◌, length, take, drop, Option, None, Some, Result, Ok, Err, refl, sym, ◌∙◌, ap, subst, append_assoc, arith}
+use Rattle.std.proofs.Common.{◌≡◌, ◌≤◌, ◌+◌, ◌-◌, ℕ, List, [], ◌++◌, length, take, drop, Option, None, Some, Err, refl, sym, ◌∙◌, ap, subst, append_assoc, arith}
 use Rattle.std.proofs.Math.Seq.{take-add}
 use Rattle.std.proofs.lemmas.List.{take-append-drop, take_rest, append-nil}
-use Rattle.oat_world.specs.Outside.{Adds, Rose, Puts}
+use Rattle.oat_world.specs.Outside.{Adds, Puts}
 use Rattle.oat_world.specs.declared.sink.SinkFault.{SinkFault}
 use Rattle.oat_world.specs.declared.sink.SinkFault.TheVariants as sink
 use Rattle.oat_tool.specs.Puts.{PutsAll, PutsFront}

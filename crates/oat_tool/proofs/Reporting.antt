@@ -1,5 +1,5 @@
 -- Each edge of a walked path is that of a row, so that each verdict can be reported.
-use Rattle.std.proofs.Common.{◌≡◌, ◌⊎◌, ℕ, Bool, List, [], ◌∷◌, ◌++◌, Option, None, Some, MatchOption, inl, inr, sym, subst}
+use Rattle.std.proofs.Common.{◌≡◌, ℕ, Bool, List, [], ◌∷◌, ◌++◌, Option, None, Some, MatchOption, inl, inr, sym, subst}
 use Rattle.std.specs.List.{AllByRecursion}
 use Rattle.oat_map.specs.declared.map.Map.{Map}
 use Rattle.oat_map.specs.declared.edge.Edge.{Edge}
@@ -15,7 +15,7 @@ use Rattle.oat_verify.specs.declared.verdict.Cause.{Cause}
 use Rattle.oat_verify.specs.declared.verdict.Cause.TheVariants as causes
 use Rattle.oat_verify.specs.declared.verdict.Verdict.{Verdict}
 use Rattle.oat_verify.specs.declared.verdict.Verdict.TheVariants.{Accept, Refuse}
-use Rattle.oat_verify.specs.Verdict.{Subject, Looks, fails, passes, Reports, Settles, Replays, stuck, walked, Judges}
+use Rattle.oat_verify.specs.Verdict.{Subject, fails, passes, Replays, stuck, walked, Judges, IsVerdict, blob, form}
 use Rattle.oat_tool.specs.Report.{IsReportable}
 
 -- A step passes a row, or moves along an edge of a row.
@@ -75,9 +75,13 @@ replays s body v (stuck cause turn is_stuck is) = refused v (causes.Replay cause
 replays s body v (walked path walk (fails differs is)) = refused v causes.Hash is
 replays s body v (walked path walk (passes same is)) = reports body.head.violation path v is (walked_of_rows s.map s.session.op body.bits body.targets path walk)
 
-pub Judges-reportable : (s : Subject) (body : Body) (mac : List ℕ) (v : Verdict) → Judges s body mac v → IsReportable v
+Judges-reportable : (s : Subject) (body : Body) (mac : List ℕ) (v : Verdict) → Judges s body mac v → IsReportable v
 Judges-reportable s body mac v (fails differs is) = refused v causes.Mac is
 Judges-reportable s body mac v (passes right_mac (fails differs is)) = refused v causes.Nonce is
 Judges-reportable s body mac v (passes right_mac (passes nonce (fails differs is))) = refused v causes.Operation is
 Judges-reportable s body mac v (passes right_mac (passes nonce (passes op (fails differs is)))) = refused v causes.Image is
 Judges-reportable s body mac v (passes right_mac (passes nonce (passes op (passes image rest)))) = replays s body v rest
+
+pub IsVerdict-reportable : (s : Subject) (bytes : List ℕ) (v : Verdict) → IsVerdict s bytes v → IsReportable v
+IsVerdict-reportable s bytes v (blob body mac is judges) = Judges-reportable s body mac v judges
+IsVerdict-reportable s bytes v (form offset at is) = refused v (causes.Form offset) is

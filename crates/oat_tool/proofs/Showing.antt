@@ -1,5 +1,5 @@
 -- How puts on both outputs show an outcome.
-use Rattle.std.proofs.Common.{◌≡◌, ℕ, List, [], Option, refl}
+use Rattle.std.proofs.Common.{ℕ, List, [], Option, refl}
 use Rattle.oat_world.specs.Outside.{Adds}
 use Rattle.oat_tool.specs.Outcome.{Outcome}
 use Rattle.oat_tool.specs.Ends.{OrStarved, ended, at_once, behind, Ends, whole, out_failed, err_failed, err_starved, Shows}

@@ -28,3 +28,14 @@ pub record ShowsJust (o : Outcome) (out_old out_new err_old err_new : Option (Li
   pub same_status : status ≡ o.status
   pub out_added : Adds out_old o.out out_new
   pub err_added : Adds err_old o.err err_new
+
+-- The statuses of work that was done: those of a verdict and of a run.
+abbrev pub IsOfWork : ℕ → Type 0
+IsOfWork status = (status ≡ 0) ⊎ ((status ≡ 1) ⊎ (status ≡ 7))
+
+-- The defined outcome was shown, whole.
+pub record ShowsDefined (words : List (List ℕ)) (contents : Contents)
+    (out_old out_new err_old err_new : Option (List ℕ)) (status : ℕ) : Type 0 where
+  pub outcome : Outcome
+  pub is_defined : Defined words contents outcome
+  pub shown : ShowsJust outcome out_old out_new err_old err_new status

@@ -1,11 +1,12 @@
 -- Which outcome is defined for a list of words, from what each file holds alone (docs/DEFINITIONS.md).
-use Rattle.std.specs.Prelude.{◌≡◌, ◌≢◌, ◌⊎◌, ℕ, List, Contains}
+use Rattle.std.specs.Prelude.{◌≡◌, ◌≢◌, ℕ, List, Contains}
 use Rattle.oat_world.specs.Outside.{Contents}
 use Rattle.oat_tool.specs.Outcome.{Outcome}
-use Rattle.oat_tool.specs.Words.{Command, verify, words_of, files_of}
+use Rattle.oat_tool.specs.Words.{Command, verify, device, words_of, files_of}
 use Rattle.oat_tool.specs.Texts.{usage, read_fault}
 use Rattle.oat_tool.specs.Loads.{Loads}
 use Rattle.oat_tool.specs.Verifies.{Verifies}
+use Rattle.oat_tool.specs.Devises.{Devises}
 
 abbrev pub image_limit : ℕ
 image_limit = 16777216
@@ -22,6 +23,9 @@ Does (verify image_name case_name blob_name) contents o =
     Loads contents image_name image_limit (λ image.
     Loads contents case_name case_limit (λ case.
     Loads contents blob_name blob_limit (λ blob. Verifies image_name case_name blob_name image case blob o) o) o) o
+Does (device image_name case_name) contents o =
+    Loads contents image_name image_limit (λ image.
+    Loads contents case_name case_limit (λ case. Devises image_name case_name image case o) o) o
 
 -- The defined outcome: that of the command, or usage where the words are of no command.
 pub data Defined (words : List (List ℕ)) (contents : Contents) (o : Outcome) : Type 0 where

@@ -1,6 +1,6 @@
 -- What a call of the program ends with: its status and the whole text for each of its two outputs.
 -- The statuses are listed in docs/FORMATS.md.
-use Rattle.std.specs.Prelude.{◌≡◌, ◌++◌, ◌∷◌, [], ℕ, List, codes}
+use Rattle.std.specs.Prelude.{◌≡◌, ◌++◌, ◌∷◌, [], ℕ, List}
 
 pub record Outcome : Type 0 where
   pub status : ℕ

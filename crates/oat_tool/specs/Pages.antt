@@ -1,19 +1,20 @@
 -- A page of the program as the outcome that it stands for (docs/DEFINITIONS.md).
-use Rattle.std.specs.Prelude.{◌≡◌, ◌<◌, ℕ, List, Result, Ok, Err}
+use Rattle.std.specs.Prelude.{ℕ, List, Result, Ok, Err}
 use Rattle.oat_tool.specs.declared.page.Page.{Page}
 use Rattle.oat_tool.specs.declared.page.Status.{Status}
-use Rattle.oat_tool.specs.declared.page.Status.TheVariants.{Accepted, Refused, Input, Usage, ReadFault}
+use Rattle.oat_tool.specs.declared.page.Status.TheVariants.{Done, Refused, Input, Usage, ReadFault, Unsealed}
 use Rattle.oat_tool.specs.declared.page.Stop.{Stop}
 use Rattle.oat_tool.specs.declared.page.Stop.TheVariants.{Ends, Starved}
 use Rattle.oat_tool.specs.Outcome.{Outcome}
 use Rattle.oat_tool.specs.Defined.{FaultOf}
 
 abbrev pub number_of : Status → ℕ
-number_of Accepted = 0
+number_of Done = 0
 number_of Refused = 1
 number_of Input = 2
 number_of Usage = 3
 number_of ReadFault = 4
+number_of Unsealed = 7
 
 abbrev pub outcome_of : Page → Outcome
 outcome_of page = record { status = number_of page.status; out = page.out.items; err = page.err.items }

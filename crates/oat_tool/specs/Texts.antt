@@ -1,12 +1,16 @@
 -- What a call that does no work puts: usage, a refused input, a load that failed, want of memory.
 -- The texts are listed in docs/FORMATS.md.
-use Rattle.std.specs.Prelude.{ℕ, List, [], ◌++◌, codes}
-use Rattle.std.specs.Fmt.{decimal}
+use Rattle.std.specs.Prelude.{ℕ, true, List, [], ◌++◌, length, drop, min, codes}
+use Rattle.std.specs.Fmt.{decimal, radix_digits}
 use Rattle.oat_tool.specs.Outcome.{Outcome, line}
 
 -- an outcome whose only text is one line on the second output
 abbrev pub says : ℕ → List ℕ → Outcome
 says status text = record { status = status; out = []; err = line text }
+
+-- an address by sixteen upper-case hexadecimal digits
+abbrev pub long_address : ℕ → List ℕ
+long_address n = drop (min 16 (length (radix_digits 16 true n))) (codes "0000000000000000") ++ radix_digits 16 true n
 
 abbrev pub usage : Outcome
 usage = says 3 (codes "usage: oat run PROG CASE | build PROG | device IMAGE CASE | verify IMAGE CASE BLOB | attest [--json] PROG CASE | drill N")

@@ -11,6 +11,11 @@ pub enum Request<'a> {
         case: &'a str,
         blob: &'a str,
     },
+    /// Run a case on an image, measured.
+    Device {
+        image: &'a str,
+        case: &'a str,
+    },
     /// The words are of no command.
     Usage,
 }
@@ -24,6 +29,10 @@ pub fn read_words(words: &[String]) -> Request<'_>
             image: image.as_str(),
             case: case.as_str(),
             blob: blob.as_str(),
+        },
+        [verb, image, case] if verb.as_str() == "device" => Request::Device {
+            image: image.as_str(),
+            case: case.as_str(),
         },
         _ => Request::Usage,
     }

@@ -1,114 +1,98 @@
-ghost use Rattle.std.specs.Prelude.{◌≡◌, ◌≤◌, ◌↔◌, length, IsTrue, IsSome, MatchOption, MatchResult, codes};
-ghost use Rattle.std.specs.List.Sorted.{IsStrictlyIncreasing};
-ghost use Rattle.oat_map.specs.Rows.{start, entries_of, starts_of};
-ghost use Rattle.oat_shape.specs.MapRules.{KeepsMapRules};
-ghost use Rattle.oat_image.specs.declared.image.Image.{Image};
-ghost use Rattle.oat_image.specs.Grammar.{IsImageText};
-ghost use Rattle.oat_case.specs.declared.case.Case.{Case};
+ghost use Rattle.std.specs.Prelude.{◌≡◌, ◌≢◌, ◌≤◌, length, IfOk, MatchResult};
+ghost use Rattle.oat_image.specs.declared.fault.ImageFault.TheVariants as image;
+ghost use Rattle.oat_image.specs.FaultText as image_text;
+ghost use Rattle.oat_image.specs.Grammar.{IsImageText, IsWellFormed};
+ghost use Rattle.oat_shape.specs.Shape.{IsShaped, IsOperation};
+ghost use Rattle.oat_case.specs.declared.fault.CaseFault.TheVariants as case;
+ghost use Rattle.oat_case.specs.FaultText as case_text;
 ghost use Rattle.oat_case.specs.Grammar.{IsCaseText};
-ghost use Rattle.oat_tool.specs.declared.page.Stop.TheVariants.{Starved};
-ghost use Rattle.oat_tool.specs.Texts.{refused, no_operation};
+ghost use Rattle.oat_tool.specs.Texts.{refused};
+ghost use Rattle.oat_tool.specs.Refusals.{RefusesImage, RefusesShape, RefusesCase, RefusesOperation, RefusesBlob};
 ghost use Rattle.oat_tool.specs.BlobText.{IsBlobText};
-ghost use Rattle.oat_tool.specs.Verifies.{IsNarrowText, IsPlainCase, IsPlainCaseText};
-ghost use Rattle.oat_tool.specs.Stages.{Stage, TestStage, IsSoleReading};
+ghost use Rattle.oat_tool.specs.Pages.{outcome_of, Stops};
 
 use crate::blob_text::blob_bytes;
-use crate::page::Stop;
-use crate::texts::{no_operation_page, refused_page};
+use crate::page::{Page, Stop};
+use crate::texts::{no_operation_page, refused_page, rule_page};
 use oat_case::{Case, CaseFault, read_case};
-use oat_image::{Image, ImageFault, is_narrow, read_image};
-use oat_map::Map;
-use oat_shape::keeps_map_rules;
-use std::alloc::Global;
+use oat_image::{Image, ImageFault, read_image};
+use oat_shape::{ShapeFault, Shaped, check_shape};
+use std::alloc::{AllocError, Global};
 
-/// The image of the text, if it is one.
-fn image_of(alloc: Global, text: &[u8]) -> Result<Option<Image>, Stop>
+/// What is said of an image text's fault; the error is want of memory.
+fn image_fault_page(alloc: Global, name: &str, fault: ImageFault) -> Result<Page, AllocError>
+    ensures of_text { IfOk result (λ page. fault ≢ image.Memory) }
+    ensures told { IfOk result (λ page. outcome_of page ≡ refused name.now (image_text.fault_text fault)) }
+{
+    match fault {
+        ImageFault::Memory => Err(AllocError),
+        _ => refused_page(alloc, name, fault),
+    }
+}
+
+/// The image of the text.
+pub fn image_of(alloc: Global, name: &str, text: &[u8]) -> Result<Image, Stop>
     requires { length text.now ≤ 16777216 }
-    ensures { MatchResult result
-        (λ found. MatchOption found ((image : Image) → IsImageText text.now image → ⊥) (IsSoleReading (IsImageText text.now)))
-        (λ stop. stop ≡ Starved) }
+    ensures { MatchResult result (λ image. IsImageText text.now image) (Stops (RefusesImage name.now text.now)) }
 {
     match read_image(alloc, text) {
-        Ok(image) => Ok(Some(image)),
-        Err(ImageFault::Memory) => Err(Stop::Starved),
-        Err(_) => Ok(None),
+        Ok(image) => Ok(image),
+        Err(fault) => Err(Stop::Ends(image_fault_page(alloc, name, fault)?)),
     }
 }
 
-/// The image of the text, in the narrow grammar.
-pub fn read_narrow_image(alloc: Global, name: &str, text: &[u8]) -> Result<Image, Stop>
-    requires { length text.now ≤ 16777216 }
-    ensures { Stage (λ image. image) (IsNarrowText text.now) (refused name.now (codes "Unread")) result }
+/// The image, which has the shape.
+pub fn shaped_of(alloc: Global, name: &str, image: Image) -> Result<Shaped, Stop>
+    requires { IsWellFormed image }
+    ensures { MatchResult result (λ shaped. (shaped ≡ image) × IsShaped image) (Stops (RefusesShape name.now image)) }
 {
-    let Some(image) = image_of(alloc, text)? else {
-        return Err(Stop::Ends(refused_page(alloc, name, "Unread")?));
-    };
-    if !is_narrow(&image) {
-        return Err(Stop::Ends(refused_page(alloc, name, "Unread")?));
+    match check_shape(alloc, image) {
+        Ok(shaped) => Ok(shaped),
+        Err(refusal) => match refusal.fault {
+            ShapeFault::Rule { number, at } => {
+                Err(Stop::Ends(rule_page(alloc, name, number, at)?))
+            }
+            ShapeFault::Memory => Err(Stop::Starved),
+        },
     }
-    Ok(image)
 }
 
-/// Tests the rules of the image's map.
-pub fn test_map(alloc: Global, name: &str, map: &Map) -> Result<(), Stop>
-    requires functions_rise { IsStrictlyIncreasing (entries_of map.now.functions) }
-    requires blocks_rise { IsStrictlyIncreasing (starts_of map.now.blocks) }
-    ensures { TestStage (KeepsMapRules map.now) (refused name.now (codes "MapNotYet")) result }
+/// What is said of a case text's fault; the error is want of memory.
+fn case_fault_page(alloc: Global, name: &str, fault: CaseFault) -> Result<Page, AllocError>
+    ensures of_text { IfOk result (λ page. fault ≢ case.Memory) }
+    ensures told { IfOk result (λ page. outcome_of page ≡ refused name.now (case_text.fault_text fault)) }
 {
-    if !keeps_map_rules(alloc, map)? {
-        return Err(Stop::Ends(refused_page(alloc, name, "MapNotYet")?));
+    match fault {
+        CaseFault::Memory => Err(AllocError),
+        _ => refused_page(alloc, name, fault),
     }
-    Ok(())
 }
 
-/// The case of the text, if it is one.
-fn case_of(alloc: Global, text: &[u8]) -> Result<Option<Case>, Stop>
+/// The case of the text.
+pub fn case_of(alloc: Global, name: &str, text: &[u8]) -> Result<Case, Stop>
     requires { length text.now ≤ 4194304 }
-    ensures { MatchResult result
-        (λ found. MatchOption found ((case : Case) → IsCaseText text.now case → ⊥) (IsSoleReading (IsCaseText text.now)))
-        (λ stop. stop ≡ Starved) }
+    ensures { MatchResult result (λ case. IsCaseText text.now case) (Stops (RefusesCase name.now text.now)) }
 {
     match read_case(alloc, text) {
-        Ok(case) => Ok(Some(case)),
-        Err(CaseFault::Memory) => Err(Stop::Starved),
-        Err(_) => Ok(None),
+        Ok(case) => Ok(case),
+        Err(fault) => Err(Stop::Ends(case_fault_page(alloc, name, fault)?)),
     }
 }
 
-/// Whether a case has neither inputs nor writes.
-fn is_plain(case: &Case) -> bool
-    ensures { IsTrue result ↔ IsPlainCase case.now }
+/// Tests that the image has the case's operation.
+pub fn test_operation(alloc: Global, name: &str, shaped: &Shaped, op: u16) -> Result<(), Stop>
+    ensures { MatchResult result (λ done. IsOperation shaped.now.map op)
+        (Stops (RefusesOperation name.now shaped.now.map op)) }
 {
-    case.inputs.is_empty() && case.writes.is_empty()
-}
-
-/// The case of the text, without inputs and writes.
-pub fn read_plain_case(alloc: Global, name: &str, text: &[u8]) -> Result<Case, Stop>
-    requires { length text.now ≤ 4194304 }
-    ensures { Stage (λ case. case) (IsPlainCaseText text.now) (refused name.now (codes "Unread")) result }
-{
-    let Some(case) = case_of(alloc, text)? else {
-        return Err(Stop::Ends(refused_page(alloc, name, "Unread")?));
-    };
-    if !is_plain(&case) {
-        return Err(Stop::Ends(refused_page(alloc, name, "Unread")?));
+    match shaped.begin_at(op) {
+        Some(_) => Ok(()),
+        None => Err(Stop::Ends(no_operation_page(alloc, name, op)?)),
     }
-    Ok(case)
-}
-
-/// Tests that the map has the case's operation.
-pub fn test_operation(alloc: Global, name: &str, map: &Map, op: u16) -> Result<(), Stop>
-    ensures { TestStage (IsSome (start map.now.rows op)) (no_operation name.now op) result }
-{
-    if map.start(op).is_none() {
-        return Err(Stop::Ends(no_operation_page(alloc, name, op)?));
-    }
-    Ok(())
 }
 
 /// The bytes of the blob's text.
-pub fn read_blob(alloc: Global, name: &str, text: &[u8]) -> Result<Vec<u8>, Stop>
-    ensures { Stage (λ bytes. bytes.items) (IsBlobText text.now) (refused name.now (codes "Hex")) result }
+pub fn blob_of(alloc: Global, name: &str, text: &[u8]) -> Result<Vec<u8>, Stop>
+    ensures { MatchResult result (λ bytes. IsBlobText text.now bytes.items) (Stops (RefusesBlob name.now text.now)) }
 {
     match blob_bytes(alloc, text)? {
         Some(bytes) => Ok(bytes),

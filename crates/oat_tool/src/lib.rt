@@ -5,8 +5,11 @@
 //! besides. And *how it was put* is what two outputs took of it.
 #![tactic(auto)]
 
+mod admit;
 mod blob_text;
 mod command;
+mod device;
+mod devise;
 mod inputs;
 mod judge;
 pub mod laws;
@@ -14,6 +17,7 @@ mod load;
 mod page;
 mod put;
 mod report;
+mod run_text;
 mod texts;
 mod top_call;
 mod verify;

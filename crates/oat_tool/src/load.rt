@@ -10,6 +10,10 @@ use crate::texts::{read_fault_page, too_long_page};
 use oat_world::{Files, LoadFault};
 use std::alloc::Global;
 
+pub const IMAGE_LIMIT: usize = 16_777_216;
+
+pub const CASE_LIMIT: usize = 4_194_304;
+
 /// Loads one file by the word that names it.
 pub fn fetch<F: Files>(
     alloc: Global,

@@ -3,8 +3,8 @@ use std::alloc::{AllocError, AllocFailed};
 /// The status of a page that is put whole.
 #[derive(Clone, Copy, Debug, PartialEq, Eq)]
 pub enum Status {
-    /// The verdict accepts.
-    Accepted,
+    /// The verdict accepts, or the run sealed.
+    Done,
     /// The verdict refuses.
     Refused,
     /// An input is refused.
@@ -13,6 +13,8 @@ pub enum Status {
     Usage,
     /// A load failed.
     ReadFault,
+    /// The run isn't sealed after its last step.
+    Unsealed,
 }
 
 impl Status {
@@ -23,11 +25,12 @@ impl Status {
         ensures { result ≡ number_of self }
     {
         match self {
-            Status::Accepted => 0,
+            Status::Done => 0,
             Status::Refused => 1,
             Status::Input => 2,
             Status::Usage => 3,
             Status::ReadFault => 4,
+            Status::Unsealed => 7,
         }
     }
 }

@@ -54,7 +54,7 @@ pub fn report_page(alloc: Global, map: &Map, verdict: &Verdict) -> Result<Page, 
     match verdict {
         Verdict::Accept(path) => {
             put_path(&mut out, map, path.as_slice())?;
-            Ok(page(alloc, Status::Accepted, out))
+            Ok(page(alloc, Status::Done, out))
         }
         Verdict::Refuse(_) => Ok(page(alloc, Status::Refused, out)),
     }

@@ -5,14 +5,10 @@ ghost use Rattle.oat_tool.specs.Defined.{Does};
 ghost use Rattle.oat_tool.specs.Pages.{Works, Meets};
 
 use crate::judge::judge;
-use crate::load::fetch;
+use crate::load::{CASE_LIMIT, IMAGE_LIMIT, fetch};
 use crate::page::{Page, Stop};
 use oat_world::Files;
 use std::alloc::Global;
-
-const IMAGE_LIMIT: usize = 16_777_216;
-
-const CASE_LIMIT: usize = 4_194_304;
 
 const BLOB_LIMIT: usize = 41_943_040;
 

@@ -1,5 +1,4 @@
-use Rattle.std.proofs.Common.{◌≡◌, map, refl}
-use Rattle.std.specs.String.{string_bytes}
+use Rattle.std.proofs.Common.{◌≡◌, refl}
 use Rattle.oat_tool.specs.Texts.{starved}
 use Rattle.oat_tool.specs.Ends.{at_once}
 use Rattle.oat_tool.specs.Pages.{outcome_of}

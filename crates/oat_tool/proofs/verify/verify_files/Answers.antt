@@ -1,11 +1,7 @@
-use Rattle.std.proofs.Common.{◌≡◌, ◌∙◌, ℕ, List, [], ◌∷◌, Some, inl, inr, refl, arith}
+use Rattle.std.proofs.Common.{◌∙◌, inl, inr, refl, arith}
 use Rattle.std.proofs.lemmas.Result.{err_from_is_err_and}
-use Rattle.oat_world.specs.Outside.{Rose}
-use Rattle.oat_tool.specs.Words.{verify}
-use Rattle.oat_tool.specs.Defined.{Does, image_limit, case_limit, blob_limit}
-use Rattle.oat_tool.specs.Pages.{Works, Meets, does_it}
 use Rattle.oat_tool.proofs.Loading.{Stops-load, Works-verify}
-use Rattle.oat_tool.proofs.Verifying.{Works-unfaulted}
+use Rattle.oat_tool.proofs.Verifying.{Works-unfaulted, Verifies-settles}
 use Rattle.oat_tool.proofs.verify.verify_files.Goals as goal
 
 pub returns-in_err-image_text-clause-works : goal.returns-in_err-image_text-clause-works
@@ -45,4 +41,4 @@ returns-clause-works g c = λ contents told.
 
 pub returns-clause-faulted : goal.returns-clause-faulted
 returns-clause-faulted g c = λ told.
-    Works-unfaulted c.args.image.now c.args.case.now c.args.blob.now c.as_slice.result.now c.as_slice-2.result.now c.as_slice-3.result.now _ _ c.judge.ensures
+    Works-unfaulted _ _ _ (λ o verifies. Verifies-settles c.args.image.now c.args.case.now c.args.blob.now c.as_slice.result.now c.as_slice-2.result.now c.as_slice-3.result.now o verifies) c.judge.ensures

@@ -1,0 +1,42 @@
+-- What `device` answers to two loaded texts: the first refusal of an input, or the lines of the measured run, with the blob of its body where it sealed (docs/FORMATS.md).
+use Rattle.std.specs.Prelude.{◌≡◌, ℕ, List, [], ◌++◌, codes}
+use Rattle.sha2.specs.Sha256.{sha256}
+use Rattle.hex.specs.Hex.{encode_lower}
+use Rattle.oat_measure.specs.declared.opening.Opening.{Opening}
+use Rattle.oat_blob.specs.Layout.{IsBlobOf}
+use Rattle.oat_image.specs.declared.image.Image.{Image}
+use Rattle.oat_image.specs.Grammar.{image_text}
+use Rattle.oat_shape.specs.Shape.{BeginsAt}
+use Rattle.oat_case.specs.declared.case.Case.{Case}
+use Rattle.oat_device.specs.Measured.{Run, dev, opening, IsSealed, body_of}
+use Rattle.oat_device.specs.Standing.{end_of}
+use Rattle.oat_tool.specs.Outcome.{Outcome, line}
+use Rattle.oat_tool.specs.RunText.{run_text}
+use Rattle.oat_tool.specs.Admits.{Admits}
+
+-- what the window of a case's operation is opened for
+abbrev pub opening_of : Image → Case → ℕ → Opening
+opening_of image case begin_at = opening case.session (sha256 (image_text image)) begin_at
+
+-- the measured run of a case
+abbrev pub run_of : Image → Case → ℕ → Run
+run_of image case begin_at = dev image (opening_of image case begin_at) case.inputs case.writes case.steps
+
+abbrev pub run_lines : Run → List ℕ
+run_lines run = run_text run.running.outputs (end_of run)
+
+-- A run that sealed puts its blob behind its lines; of another one it is said that there is none.
+pub data ShowsRun (o : Opening) (key : List ℕ) (run : Run) (p : Outcome) : Type 0 where
+  sealed : IsSealed run → (bytes : List ℕ) → IsBlobOf (body_of o run.state) key bytes
+      → p ≡ record { status = 0; out = run_lines run ++ line (codes "blob " ++ encode_lower bytes); err = [] } → ShowsRun o key run p
+  unsealed : ¬ IsSealed run → p ≡ record { status = 7; out = run_lines run; err = line (codes "no blob") } → ShowsRun o key run p
+
+-- The run of the case on the image is shown.
+pub record Runs (image : Image) (case : Case) (p : Outcome) : Type 0 where
+  pub begin_at : ℕ
+  pub begins : BeginsAt image.map case.session.op begin_at
+  pub shown : ShowsRun (opening_of image case begin_at) case.session.key (run_of image case begin_at) p
+
+abbrev pub Devises : (image_name case_name image_text case_text : List ℕ) → Outcome → Type 0
+Devises image_name case_name image_text case_text o =
+    Admits image_name case_name image_text case_text (λ image case. Runs image case o) o
