@@ -1,0 +1,60 @@
+-- What holds of each expansion (docs/PROMISES.md): what the assembler asks of the items holds of the expanded ones.
+use Rattle.std.specs.Prelude.{◌≡◌, ℕ, ◌^◌, ◌<◌, List, Contains, ⊤, ◌⊎◌}
+use Rattle.std.specs.List.{count_by}
+use Rattle.oat_asm.specs.declared.mark.Mark.{Mark}
+use Rattle.oat_asm.specs.declared.mark.Mark.TheVariants.{Jump, Branch, Call, ICall, Ret, Begin, End, UseCell, DefCell}
+use Rattle.oat_asm.specs.declared.item.Item.{Item}
+use Rattle.oat_asm.specs.declared.item.Item.TheVariants as item
+use Rattle.oat_asm.specs.Items.{is_label, StandsOnce, UsedLabelsStandOnce, NoMarkIsLeft, InstructionsAreInRange, BranchesAreInRange, AddressesHaveRegisters}
+use Rattle.oat_asm.specs.Expansion.{expansion}
+
+-- ids and cells have 16 bits, and a cell's word is one of the first 65,536
+abbrev pub IsMark : Mark → Type 0
+IsMark (Jump to) = ⊤
+IsMark (Branch taken other) = ⊤
+IsMark (Call to) = ⊤
+IsMark (ICall params) = ⊤
+IsMark Ret = ⊤
+IsMark (Begin op) = op < 2 ^ 16
+IsMark (End op) = op < 2 ^ 16
+IsMark (UseCell cell index) = (cell < 2 ^ 16) × (index < 65536)
+IsMark (DefCell cell index) = (cell < 2 ^ 16) × (index < 65536)
+
+abbrev pub MarksAreInRange : List Item → Type 0
+MarksAreInRange items = (mark : Mark) → Contains items (item.Mark mark) → IsMark mark
+
+-- the row of a mark leads to a label
+abbrev pub LeadsTo : Mark → ℕ → Type 0
+LeadsTo (Jump to) label = to ≡ label
+LeadsTo (Branch taken other) label = (taken ≡ label) ⊎ (other ≡ label)
+LeadsTo (Call to) label = to ≡ label
+LeadsTo (ICall params) label = ⊥
+LeadsTo Ret label = ⊥
+LeadsTo (Begin op) label = ⊥
+LeadsTo (End op) label = ⊥
+LeadsTo (UseCell cell index) label = ⊥
+LeadsTo (DefCell cell index) label = ⊥
+
+abbrev pub MarkedLabelsStandOnce : List Item → Type 0
+MarkedLabelsStandOnce items =
+    (mark : Mark) (label : ℕ) → Contains items (item.Mark mark) → LeadsTo mark label → StandsOnce items label
+
+-- no mark is left
+abbrev pub ExpansionLeavesNoMark : Type 0
+ExpansionLeavesNoMark = (items : List Item) → NoMarkIsLeft (expansion items)
+
+-- each label stands as often as before
+abbrev pub ExpansionKeepsLabels : Type 0
+ExpansionKeepsLabels =
+    (items : List Item) (label : ℕ) → count_by (is_label label) (expansion items) ≡ count_by (is_label label) items
+
+-- if each label to which an item or mark leads stands once, then each label that is used does
+abbrev pub ExpansionUsesLabelsThatStandOnce : Type 0
+ExpansionUsesLabelsThatStandOnce =
+    (items : List Item) → UsedLabelsStandOnce items → MarkedLabelsStandOnce items → UsedLabelsStandOnce (expansion items)
+
+-- instructions, branches and registers stay in range
+abbrev pub ExpansionStaysInRange : Type 0
+ExpansionStaysInRange =
+    (items : List Item) → InstructionsAreInRange items → BranchesAreInRange items → AddressesHaveRegisters items → MarksAreInRange items
+    → InstructionsAreInRange (expansion items) × BranchesAreInRange (expansion items) × AddressesHaveRegisters (expansion items)

@@ -1,0 +1,78 @@
+-- Items of code, where they stand, and what has to hold of them before they become words (docs/FORMATS.md).
+use Rattle.std.specs.Prelude.{◌≡◌, ℕ, ◌+◌, ◌*◌, ◌≤◌, ◌<◌, ◌^◌, Bool, IsTrue, false, nat_eq, List, take, Contains, ⊤}
+use Rattle.std.specs.List.{sum_by, count_by, position_or_len}
+use Rattle.oat_a64.specs.declared.inst.Inst.{Inst}
+use Rattle.oat_a64.specs.Table.{is_condition, IsInRange}
+use Rattle.oat_asm.specs.declared.branch_form.BranchForm.{BranchForm}
+use Rattle.oat_asm.specs.declared.branch_form.BranchForm.TheVariants.{B, Bl, Cond, Cbz, Cbnz}
+use Rattle.oat_asm.specs.declared.mark.Mark.{Mark}
+use Rattle.oat_asm.specs.declared.item.Item.{Item}
+use Rattle.oat_asm.specs.declared.item.Item.TheVariants as item
+
+-- an AddressOf has two words, and labels, marks and notes have none
+abbrev pub word_count : Item → ℕ
+word_count (item.Inst inst) = 1
+word_count (item.Label label) = 0
+word_count (item.BranchTo form label) = 1
+word_count (item.AddressOf register label) = 2
+word_count (item.Mark mark) = 0
+word_count (item.Note note) = 0
+
+-- how many words the items need
+abbrev pub words_needed : List Item → ℕ
+words_needed items = sum_by word_count items
+
+-- the place of item k: how many words stand before it
+abbrev pub place : List Item → ℕ → ℕ
+place items k = words_needed (take k items)
+
+abbrev pub is_label : ℕ → Item → Bool
+is_label label (item.Inst inst) = false
+is_label label (item.Label l) = nat_eq l label
+is_label label (item.BranchTo form l) = false
+is_label label (item.AddressOf register l) = false
+is_label label (item.Mark mark) = false
+is_label label (item.Note note) = false
+
+-- the place of the item at which a label stands
+abbrev pub place_of : List Item → ℕ → ℕ
+place_of items label = place items (position_or_len (is_label label) items)
+
+-- the address of a place: code starts at base, and a word has four bytes
+abbrev pub address : ℕ → ℕ → ℕ
+address base words = base + 4 * words
+
+-- the most words that code has
+abbrev pub code_limit : ℕ
+code_limit = 131072
+
+-- ---- what has to hold of the items
+
+abbrev pub StandsOnce : List Item → ℕ → Type 0
+StandsOnce items label = count_by (is_label label) items ≡ 1
+
+-- each label that a branch leads to or whose address is taken stands once
+pub record UsedLabelsStandOnce (items : List Item) : Type 0 where
+  pub branches : (form : BranchForm) (label : ℕ) → Contains items (item.BranchTo form label) → StandsOnce items label
+  pub addresses : (register label : ℕ) → Contains items (item.AddressOf register label) → StandsOnce items label
+
+abbrev pub NoMarkIsLeft : List Item → Type 0
+NoMarkIsLeft items = (mark : Mark) → Contains items (item.Mark mark) → ⊥
+
+abbrev pub InstructionsAreInRange : List Item → Type 0
+InstructionsAreInRange items = (inst : Inst) → Contains items (item.Inst inst) → IsInRange inst
+
+-- a condition is one of the ten, and a register is a number of five bits
+abbrev pub IsBranch : BranchForm → Type 0
+IsBranch B = ⊤
+IsBranch Bl = ⊤
+IsBranch (Cond cond) = IsTrue (is_condition cond)
+IsBranch (Cbz register) = register < 2 ^ 5
+IsBranch (Cbnz register) = register < 2 ^ 5
+
+abbrev pub BranchesAreInRange : List Item → Type 0
+BranchesAreInRange items = (form : BranchForm) (label : ℕ) → Contains items (item.BranchTo form label) → IsBranch form
+
+-- an address goes into one of X0 to X30
+abbrev pub AddressesHaveRegisters : List Item → Type 0
+AddressesHaveRegisters items = (register label : ℕ) → Contains items (item.AddressOf register label) → register ≤ 30

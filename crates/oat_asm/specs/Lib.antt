@@ -1,0 +1,8 @@
+pub mod Items
+pub mod Layout
+pub mod Expansion
+pub mod ExpansionLaws
+pub mod NoteRows
+pub mod Laws
+pub mod Steps
+pub mod Worked

@@ -1,0 +1,30 @@
+-- What one step of the assembler needs: the places of the labels that a map holds, and an item whose words are at hand.
+use Rattle.std.specs.Prelude.{◌≡◌, ℕ, ◌≤◌, Some, if◌then◌else◌, unwrap_or, List, ⊤}
+use Rattle.std.specs.Ordering.{nat_cmp}
+use Rattle.std.specs.BTreeMap.{BTreeMap, get}
+use Rattle.oat_a64.specs.Table.{IsInRange}
+use Rattle.oat_asm.specs.declared.item.Item.{Item}
+use Rattle.oat_asm.specs.declared.item.Item.TheVariants as item
+use Rattle.oat_asm.specs.Items.{StandsOnce, IsBranch, is_label, place_of, code_limit}
+
+-- the place that the map has for a label
+abbrev pub place_in : BTreeMap ℕ ℕ → ℕ → ℕ
+place_in places label = unwrap_or (get nat_cmp places label) 0
+
+-- the map has the place of each label that stands once
+abbrev pub HasPlaces : List Item → BTreeMap ℕ ℕ → Type 0
+HasPlaces items places = (label : ℕ) → StandsOnce items label → place_in places label ≡ place_of items label
+
+-- the map has this place for the item's label, if it is one, and else what it had
+abbrev pub SetsLabel : BTreeMap ℕ ℕ → BTreeMap ℕ ℕ → Item → ℕ → Type 0
+SetsLabel old new i here =
+    (label : ℕ) → get nat_cmp new label ≡ (if is_label label i then Some here else get nat_cmp old label)
+
+-- what an item's words need, by the place of each label
+abbrev pub HasWords : (ℕ → ℕ) → Item → Type 0
+HasWords place_of (item.Inst inst) = IsInRange inst
+HasWords place_of (item.Label label) = ⊤
+HasWords place_of (item.BranchTo form label) = IsBranch form × (place_of label ≤ code_limit)
+HasWords place_of (item.AddressOf register label) = (register ≤ 30) × (place_of label ≤ code_limit)
+HasWords place_of (item.Mark mark) = ⊤
+HasWords place_of (item.Note note) = ⊤

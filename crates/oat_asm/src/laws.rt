@@ -1,0 +1,86 @@
+//! Laws of the layout and the expansion, for all items.
+
+ghost use Rattle.oat_asm.specs.Laws.{
+  ItemsFollowOneAnother,
+  LabelsHaveThePlacesOfTheirItems,
+  InstructionsStandAtTheirAddresses,
+  BranchesLeadToTheirLabels,
+  AddressesArePut,
+  LabelsAreListed,
+  NotesAreListed,
+};
+ghost use Rattle.oat_asm.specs.ExpansionLaws.{
+  ExpansionLeavesNoMark,
+  ExpansionKeepsLabels,
+  ExpansionUsesLabelsThatStandOnce,
+  ExpansionStaysInRange,
+};
+ghost use Rattle.oat_asm.specs.NoteRows.{GroupsHaveTheWordsOfTheirRows};
+
+use oat_a64::laws::fetches_by_the_table;
+
+/// The next item stands behind the words of this one.
+pub fn items_follow_one_another()
+    ensures { ItemsFollowOneAnother }
+{}
+
+/// The place of a label that stands once is that of its item.
+pub fn labels_have_the_places_of_their_items()
+    ensures { LabelsHaveThePlacesOfTheirItems }
+{}
+
+/// At the address of an instruction among the items stands that instruction.
+pub fn instructions_stand_at_their_addresses()
+    ensures { InstructionsStandAtTheirAddresses }
+{
+    fetches_by_the_table();
+}
+
+/// A branch leads to the address of its label.
+pub fn branches_lead_to_their_labels()
+    ensures { BranchesLeadToTheirLabels }
+{
+    fetches_by_the_table();
+}
+
+/// The address of a label is put into the register.
+pub fn addresses_are_put()
+    ensures { AddressesArePut }
+{
+    fetches_by_the_table();
+}
+
+/// Each label is listed with its address.
+pub fn labels_are_listed()
+    ensures { LabelsAreListed }
+{}
+
+/// Each note is listed with its address.
+pub fn notes_are_listed()
+    ensures { NotesAreListed }
+{}
+
+/// No mark is left in an expansion.
+pub fn expansion_leaves_no_mark()
+    ensures { ExpansionLeavesNoMark }
+{}
+
+/// Each label stands in the expansion as often as before.
+pub fn expansion_keeps_labels()
+    ensures { ExpansionKeepsLabels }
+{}
+
+/// The labels that an expansion uses stand once.
+pub fn expansion_uses_labels_that_stand_once()
+    ensures { ExpansionUsesLabelsThatStandOnce }
+{}
+
+/// Instructions, branches and registers of an expansion are in range.
+pub fn expansion_stays_in_range()
+    ensures { ExpansionStaysInRange }
+{}
+
+/// A mark's group has as many words as the map says of its row.
+pub fn groups_have_the_words_of_their_rows()
+    ensures { GroupsHaveTheWordsOfTheirRows }
+{}

@@ -1,0 +1,14 @@
+/// A row of the map that is still to be written. Places are labels, and
+/// `index` is the cell's word among the global words.
+#[derive(Clone, Copy, Debug, PartialEq, Eq)]
+pub enum Mark {
+    Jump { to: u32 },
+    Branch { taken: u32, other: u32 },
+    Call { to: u32 },
+    ICall { params: u8 },
+    Ret,
+    Begin { op: u16 },
+    End { op: u16 },
+    UseCell { cell: u16, index: u32 },
+    DefCell { cell: u16, index: u32 },
+}
