@@ -1,0 +1,3 @@
+mod OneFunc
+mod Places
+mod Sizes

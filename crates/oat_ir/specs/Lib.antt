@@ -1,0 +1,5 @@
+pub mod Distinct
+pub mod Indices
+pub mod Laws
+pub mod Size
+pub mod WellFormed

@@ -1,0 +1,22 @@
+-- How many things a program is made of (docs/FORMATS.md, "Program text"): globals, functions, locals, blocks,
+-- instructions and terminators.
+use Rattle.std.specs.Prelude.{ℕ, ◌≡◌, ◌+◌, ◌<◌, length, Option, Some, None}
+use Rattle.std.specs.List.{sum_by}
+use Rattle.oat_ir.specs.declared.program.Program.{Program}
+use Rattle.oat_ir.specs.declared.func.Func.{Func}
+use Rattle.oat_ir.specs.declared.func.BlockIr.{BlockIr}
+
+-- the block itself, its terminator, and its instructions
+abbrev pub block_size : BlockIr → ℕ
+block_size block = 2 + length block.instrs
+
+abbrev pub func_size : Func → ℕ
+func_size func = 1 + length func.locals + sum_by block_size func.blocks
+
+abbrev pub program_size : Program → ℕ
+program_size program = length program.globals + sum_by func_size program.funcs
+
+-- what is left of some room behind n things; None where there is too little of it
+abbrev pub Leaves : ℕ → ℕ → Option ℕ → Type 0
+Leaves room n None = room < n
+Leaves room n (Some left) = left + n ≡ room

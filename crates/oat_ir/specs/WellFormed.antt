@@ -1,0 +1,58 @@
+-- Which values of the program types are programs (docs/FORMATS.md, "Program text"): indices name something, names are
+-- told apart, and numbers are in their ranges. What the checking rules ask besides is not part of it.
+use Rattle.std.specs.Prelude.{◌≡◌, ◌≤◌, length, codes, All}
+use Rattle.std.specs.List.{IsDistinct}
+use Rattle.oat_ir.specs.declared.program.Program.{Program}
+use Rattle.oat_ir.specs.declared.program.GlobalItem.{GlobalItem}
+use Rattle.oat_ir.specs.declared.program.GlobalItem.TheVariants.{Scalar, FnScalar, Array}
+use Rattle.oat_ir.specs.declared.func.Func.{Func}
+use Rattle.oat_ir.specs.declared.func.Role.{Role}
+use Rattle.oat_ir.specs.declared.func.Role.TheVariants.{Plain, Operation, Main}
+use Rattle.oat_ir.specs.declared.func.Ty.{Ty}
+use Rattle.oat_ir.specs.declared.func.Ty.TheVariants.{I64, Fn}
+use Rattle.oat_ir.specs.declared.func.Local.{Local}
+use Rattle.oat_ir.specs.declared.func.BlockIr.{BlockIr}
+use Rattle.oat_ir.specs.Distinct.{are_one_global, have_one_name, have_one_operation, are_one_local, have_one_label}
+use Rattle.oat_ir.specs.Indices.{IsInstr, IsTerm}
+use Rattle.oat_ir.specs.Size.{program_size}
+
+-- the numbers of a global are in their ranges
+abbrev pub IsGlobal : GlobalItem → Type 0
+IsGlobal (Scalar name start critical) = Unit {0}
+IsGlobal (FnScalar name params) = params ≤ 4
+IsGlobal (Array name len) = (1 ≤ len) × (len ≤ 65536)
+
+abbrev pub IsTy : Ty → Type 0
+IsTy I64 = Unit {0}
+IsTy (Fn params) = params ≤ 4
+
+abbrev pub IsLocal : Local → Type 0
+IsLocal local = IsTy local.ty
+
+-- An operation has a number from 1 on. The function where the program starts is named so, and has no parameters.
+abbrev pub IsRole : Role → Func → Type 0
+IsRole Plain func = Unit {0}
+IsRole (Operation id) func = (1 ≤ id) × (id ≤ 65535)
+IsRole Main func = (func.name ≡ codes "main") × (func.params ≡ 0)
+
+-- the indices of a block of this function name something
+abbrev pub IsBlock : Program → Func → BlockIr → Type 0
+IsBlock program func block = All (IsInstr program func) block.instrs × IsTerm func block.term
+
+pub record IsFunc (program : Program) (func : Func) : Type 0 where
+  pub role : IsRole func.role func
+  pub few_params : func.params ≤ 4
+  pub params_first : func.params ≤ length func.locals
+  pub locals : All IsLocal func.locals
+  pub local_names : IsDistinct are_one_local func.locals
+  pub begun : 1 ≤ length func.blocks
+  pub labels : IsDistinct have_one_label func.blocks
+  pub blocks : All (IsBlock program func) func.blocks
+
+pub record IsWellFormed (program : Program) : Type 0 where
+  pub globals : All IsGlobal program.globals
+  pub global_names : IsDistinct are_one_global program.globals
+  pub funcs : All (IsFunc program) program.funcs
+  pub func_names : IsDistinct have_one_name program.funcs
+  pub operations : IsDistinct have_one_operation program.funcs
+  pub size : program_size program ≤ 67108864

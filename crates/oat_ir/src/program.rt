@@ -1,0 +1,49 @@
+ghost use Rattle.std.specs.Prelude.{◌≡◌};
+ghost use Rattle.oat_ir.specs.Distinct.{global_name};
+
+use crate::func::Func;
+use oat_list::Listed;
+use oat_map::Name;
+
+/// A program of the source language.
+///
+/// Globals, functions, locals of a function, and blocks of a function are named by their indices, from 0.
+#[derive(Debug, Drop)]
+pub struct Program {
+    pub globals: Listed<GlobalItem>,
+    pub funcs: Listed<Func>,
+}
+
+/// A variable of the whole program.
+#[derive(Debug, Drop)]
+pub enum GlobalItem {
+    /// A number and what it is at the start. The critical ones are the cells, numbered from 0 in
+    /// their order.
+    Scalar {
+        name: Name,
+        start: i64,
+        critical: bool,
+    },
+    /// A reference of a function with so many parameters, null at the start.
+    FnScalar {
+        name: Name,
+        params: u8,
+    },
+    /// So many numbers, 0 at the start.
+    Array {
+        name: Name,
+        len: u32,
+    },
+}
+
+impl GlobalItem {
+    pub fn name(&self) -> &Name
+        ensures { result.now ≡ global_name self.now }
+    {
+        match self {
+            GlobalItem::Scalar { name, .. }
+            | GlobalItem::FnScalar { name, .. }
+            | GlobalItem::Array { name, .. } => name,
+        }
+    }
+}

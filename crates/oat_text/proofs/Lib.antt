@@ -1,0 +1,4 @@
+mod Examples
+mod Programs
+mod Said
+mod Spelled

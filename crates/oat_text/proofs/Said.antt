@@ -1,0 +1,130 @@
+-- What is said by the word that is printed for it.
+use Rattle.std.proofs.Common.{◌≡◌, ℕ, ℤ, suc, ◌+◌, ◌^◌, ◌<◌, ◌≤◌, Bool, true, false, eqb, ltb, [], ◌∷◌, ◌++◌, length, get_or, refl, ◌∙◌, inl, inr, arith}
+use Rattle.std.specs.Prelude.{pos, negsuc, if◌then◌else◌, codes, decimal, Option, Some, None, IsTrue}
+use Rattle.std.specs.List.{AllByRecursion, list_all}
+use Rattle.std.specs.Str.Parse.{starts_with_minus}
+use Rattle.std.proofs.lemmas.Bool.{ne_eqb, ltb-true, lt-ltb}
+use Rattle.std.proofs.lemmas.Bool.Decides.{nat_tests}
+use Rattle.std.proofs.lemmas.Fmt.{decimal_digit, decimal_nonempty}
+use Rattle.std.proofs.lemmas.List.Elements.{recursion_from_All}
+use Rattle.std.proofs.lemmas.List.Folds.{list_all-append}
+use Rattle.oat_lines.specs.Decimal.{is_decimal_digit, numeral_of, leads_with_zero}
+use Rattle.oat_lines.specs.Fields.{is_visible}
+use Rattle.oat_lines.specs.Lines.{is_comment}
+use Rattle.oat_lines.proofs.Decimals.{decimal_digits, decimal_again}
+use Rattle.oat_lines.proofs.Hexadecimals.{both}
+use Rattle.oat_map.specs.Name.{IsName, IsNameByte}
+use Rattle.oat_ir.specs.declared.func.Ty.{Ty}
+use Rattle.oat_ir.specs.declared.func.Ty.TheVariants.{I64, Fn}
+use Rattle.oat_ir.specs.WellFormed.{IsTy}
+use Rattle.oat_text.specs.Words.{Word, Said, Keyword, Named, Typed, Parameter, Number, Integer, Says, word_of, is_i64, ty_text, reference_text}
+use Rattle.oat_text.proofs.Spelled.{IsPlain}
+
+pub record IsSayable (said : Said) : Type 0 where
+  pub plain : IsPlain (word_of said)
+  pub says : Says (word_of said) said
+
+pub keyword : (word : Word) → list_all is_visible word ≡ true → 0 < length word → is_comment word ≡ false → IsSayable (Keyword word)
+keyword word visible nonempty counts = record { plain = record { visible = visible; nonempty = nonempty; counts = counts }; says = refl }
+
+-- ---- names
+
+name_byte : (c : ℕ) → IsNameByte c → (is_visible c ≡ true) × (eqb c 59 ≡ false)
+name_byte c (inl (inl (inl r))) = (lt-ltb 32 c (omega arith), ne_eqb c 59 (λ e. omega arith))
+name_byte c (inl (inl (inr r))) = (lt-ltb 32 c (omega arith), ne_eqb c 59 (λ e. omega arith))
+name_byte c (inl (inr r)) = (lt-ltb 32 c (omega arith), ne_eqb c 59 (λ e. omega arith))
+name_byte c (inr e) = (lt-ltb 32 c (omega arith), ne_eqb c 59 (λ f. omega arith))
+
+name_visible : (word : Word) → AllByRecursion IsNameByte word → list_all is_visible word ≡ true
+name_visible [] all = refl
+name_visible (c ∷ cs) all = rw ((name_byte c all.0).0, name_visible cs all.1) refl
+
+name_plain : (word : Word) → IsName word → IsPlain word
+name_plain word name = record {
+  visible = name_visible word (recursion_from_All IsNameByte word name.word);
+  nonempty = name.begun;
+  counts = (name_byte (get_or word 0 0) (name.word 0 0 name.begun)).1;
+}
+
+pub named : (name : Word) → IsName name → IsSayable (Named name)
+named name is = record { plain = name_plain name is; says = (refl, is) }
+
+-- ---- types
+
+reference_plain : (params : ℕ) → params ≤ 4 → IsPlain (reference_text params)
+reference_plain params le =
+    let seen : ltb 32 (48 + params) ≡ true = lt-ltb 32 (48 + params) (omega arith) in
+    rw (decimal_digit params (omega arith)) (record { visible = rw seen refl; nonempty = omega arith; counts = refl })
+
+ty_plain : (ty : Ty) → IsTy ty → IsPlain (ty_text ty)
+ty_plain I64 fits = record { visible = refl; nonempty = omega arith; counts = refl }
+ty_plain (Fn params) fits = reference_plain params fits
+
+pub typed : (ty : Ty) → IsTy ty → IsSayable (Typed ty)
+typed ty fits = record { plain = ty_plain ty fits; says = refl }
+
+-- a plain word with visible bytes behind it
+longer : (word more : Word) → IsPlain word → list_all is_visible more ≡ true → IsPlain (word ++ more)
+longer [] more plain visible = absurd (let some = plain.nonempty in omega arith)
+longer (c ∷ cs) more plain visible = record {
+  visible = list_all-append is_visible (c ∷ cs) more ∙ rw (plain.visible, visible) refl;
+  nonempty = omega arith;
+  counts = plain.counts;
+}
+
+pub parameter : (name : Word) (ty : Ty) → IsName name → IsTy ty → IsSayable (Parameter name ty)
+parameter name ty is fits = record {
+  plain = longer name (codes ":" ++ ty_text ty) (name_plain name is) (list_all-append is_visible (codes ":") (ty_text ty) ∙ rw (ty_plain ty fits).visible refl);
+  says = (refl, is);
+}
+
+-- ---- numbers
+
+digit_seen : (c : ℕ) → is_decimal_digit c ≡ true → (is_visible c ≡ true) × (eqb c 59 ≡ false) × (eqb c 45 ≡ false)
+digit_seen c e = (grind (arith, nat_tests), grind (arith, nat_tests), grind (arith, nat_tests))
+
+digits_visible : (word : Word) → list_all is_decimal_digit word ≡ true → list_all is_visible word ≡ true
+digits_visible [] e = refl
+digits_visible (c ∷ cs) e =
+    let p = both (is_decimal_digit c) (list_all is_decimal_digit cs) e in
+    rw ((digit_seen c p.0).0, digits_visible cs p.1) refl
+
+digits_plain : (word : Word) → list_all is_decimal_digit word ≡ true → 0 < length word → IsPlain word × (starts_with_minus word ≡ false)
+digits_plain [] e some = absurd (omega arith)
+digits_plain (c ∷ cs) e some =
+    let p = both (is_decimal_digit c) (list_all is_decimal_digit cs) e in
+    let seen = digit_seen c p.0 in
+    (record { visible = digits_visible (c ∷ cs) e; nonempty = some; counts = seen.1 }, seen.2)
+
+number_plain : (n : ℕ) → n < 2 ^ 64 → IsPlain (decimal n) × (starts_with_minus (decimal n) ≡ false)
+number_plain n lt = digits_plain (decimal n) (decimal_digits n lt) (decimal_nonempty n lt)
+
+-- a value that a test didn't keep out
+let_through : (b : Bool) (o : Option ℕ) (n : ℕ) → (if b then None else o) ≡ Some n → o ≡ Some n
+let_through true o n e = absurd cc
+let_through false o n e = e
+
+numeral_again : (n : ℕ) → n < 2 ^ 64 → numeral_of (decimal n) ≡ Some n
+numeral_again n lt = let_through (leads_with_zero (decimal n)) (numeral_of (decimal n)) n (decimal_again n lt)
+
+pub number : (n : ℕ) → n < 2 ^ 64 → IsSayable (Number n)
+number n lt = record { plain = (number_plain n lt).0; says = numeral_again n lt }
+
+positive : (n : ℕ) → ltb n (2 ^ 63) ≡ true → IsSayable (Integer (pos n))
+positive n fits =
+    let small : n < 2 ^ 63 = ltb-true n (2 ^ 63) fits in
+    let plain = number_plain n (omega arith) in
+    record { plain = plain.0; says = (rw (plain.1, numeral_again n (omega arith)) refl, fits) }
+
+negative : (n : ℕ) → ltb n (2 ^ 63) ≡ true → IsSayable (Integer (negsuc n))
+negative n fits =
+    let small : n < 2 ^ 63 = ltb-true n (2 ^ 63) fits in
+    let plain = number_plain (suc n) (omega arith) in
+    record {
+      plain = record { visible = rw plain.0.visible refl; nonempty = omega arith; counts = refl };
+      says = (rw (numeral_again (suc n) (omega arith)) refl, fits);
+    }
+
+pub integer : (z : ℤ) → IsTrue (is_i64 z) → IsSayable (Integer z)
+integer (pos n) fits = positive n fits
+integer (negsuc n) fits = negative n fits

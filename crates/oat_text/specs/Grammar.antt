@@ -1,0 +1,142 @@
+-- The program grammar: the lines of each program, and which texts have them (docs/FORMATS.md, "Program text"). A program has
+-- its lines in one order, so that a text of it differs from the printed one in blanks, skipped lines and zeros alone.
+use Rattle.std.specs.Prelude.{ℕ, Bool, true, false, not, List, [], ◌∷◌, ◌++◌, map, filter, take, drop, codes}
+use Rattle.std.specs.List.{AllZip, flat_map, slice_index_or}
+use Rattle.oat_lines.specs.Lines.{lines_of, words_of, is_skipped}
+use Rattle.oat_lines.specs.Fields.{spaced, ended}
+use Rattle.oat_ir.specs.declared.program.Program.{Program}
+use Rattle.oat_ir.specs.declared.program.GlobalItem.{GlobalItem}
+use Rattle.oat_ir.specs.declared.program.GlobalItem.TheVariants.{Scalar, FnScalar, Array}
+use Rattle.oat_ir.specs.declared.func.Func.{Func}
+use Rattle.oat_ir.specs.declared.func.Role.{Role}
+use Rattle.oat_ir.specs.declared.func.Role.TheVariants.{Plain, Operation, Main}
+use Rattle.oat_ir.specs.declared.func.Ty.TheVariants as ty
+use Rattle.oat_ir.specs.declared.func.Local.{Local}
+use Rattle.oat_ir.specs.declared.func.BlockIr.{BlockIr}
+use Rattle.oat_ir.specs.declared.instr.BinOp.{BinOp}
+use Rattle.oat_ir.specs.declared.instr.BinOp.TheVariants.{Add, Sub, Mul, And, Or, Xor, Shl, Shr, Sar, Eq, Ne, Lt, Le, Ltu, Leu, Div, Rem, Divu, Remu}
+use Rattle.oat_ir.specs.declared.instr.Instr.{Instr}
+use Rattle.oat_ir.specs.declared.instr.Instr.TheVariants.{Const, Copy, Binary, Load, Store, LoadX, StoreX, RefTo, Call, ICall, Input, Output}
+use Rattle.oat_ir.specs.declared.instr.Term.{Term}
+use Rattle.oat_ir.specs.declared.instr.Term.TheVariants.{Jump, Branch, Ret, Halt}
+use Rattle.oat_ir.specs.Distinct.{global_name}
+use Rattle.oat_ir.specs.WellFormed.{IsWellFormed}
+use Rattle.oat_text.specs.Words.{Word, Said, Keyword, Named, Typed, Parameter, Number, Integer, Says, word_of}
+
+-- what a line says, word by word
+abbrev pub Line : Type 0
+Line = List Said
+
+-- ---- names of what an index stands for
+
+abbrev pub local_at : Func → ℕ → Said
+local_at func x = Named (slice_index_or (map (λ l. l.name) func.locals) x [])
+
+abbrev pub block_at : Func → ℕ → Said
+block_at func b = Named (slice_index_or (map (λ c. c.label) func.blocks) b [])
+
+abbrev pub global_at : Program → ℕ → Said
+global_at program g = Named (slice_index_or (map global_name program.globals) g [])
+
+abbrev pub func_at : Program → ℕ → Said
+func_at program f = Named (slice_index_or (map (λ g. g.name) program.funcs) f [])
+
+-- ---- globals
+
+abbrev pub scalar_keyword : Bool → Word
+scalar_keyword true = codes "critical"
+scalar_keyword false = codes "global"
+
+abbrev pub global_line : GlobalItem → Line
+global_line (Scalar name start critical) = Keyword (scalar_keyword critical) ∷ Named name ∷ Integer start ∷ []
+global_line (FnScalar name params) = Keyword (codes "global") ∷ Named name ∷ Typed (ty.Fn params) ∷ []
+global_line (Array name len) = Keyword (codes "array") ∷ Named name ∷ Number len ∷ []
+
+-- ---- instructions and terminators
+
+abbrev pub op_keyword : BinOp → Word
+op_keyword Add = codes "add"
+op_keyword Sub = codes "sub"
+op_keyword Mul = codes "mul"
+op_keyword And = codes "and"
+op_keyword Or = codes "or"
+op_keyword Xor = codes "xor"
+op_keyword Shl = codes "shl"
+op_keyword Shr = codes "shr"
+op_keyword Sar = codes "sar"
+op_keyword Eq = codes "eq"
+op_keyword Ne = codes "ne"
+op_keyword Lt = codes "lt"
+op_keyword Le = codes "le"
+op_keyword Ltu = codes "ltu"
+op_keyword Leu = codes "leu"
+op_keyword Div = codes "div"
+op_keyword Rem = codes "rem"
+op_keyword Divu = codes "divu"
+op_keyword Remu = codes "remu"
+
+abbrev pub instr_line : Program → Func → Instr → Line
+instr_line p f (Const x value) = Keyword (codes "const") ∷ local_at f x ∷ Integer value ∷ []
+instr_line p f (Copy x y) = Keyword (codes "copy") ∷ local_at f x ∷ local_at f y ∷ []
+instr_line p f (Binary op x y z) = Keyword (op_keyword op) ∷ local_at f x ∷ local_at f y ∷ local_at f z ∷ []
+instr_line p f (Load x global) = Keyword (codes "load") ∷ local_at f x ∷ global_at p global ∷ []
+instr_line p f (Store global x) = Keyword (codes "store") ∷ global_at p global ∷ local_at f x ∷ []
+instr_line p f (LoadX x array i) = Keyword (codes "loadx") ∷ local_at f x ∷ global_at p array ∷ local_at f i ∷ []
+instr_line p f (StoreX array i x) = Keyword (codes "storex") ∷ global_at p array ∷ local_at f i ∷ local_at f x ∷ []
+instr_line p f (RefTo x func) = Keyword (codes "ref") ∷ local_at f x ∷ func_at p func ∷ []
+instr_line p f (Call x func args) = Keyword (codes "call") ∷ local_at f x ∷ func_at p func ∷ map (local_at f) args
+instr_line p f (ICall x y args) = Keyword (codes "icall") ∷ local_at f x ∷ local_at f y ∷ map (local_at f) args
+instr_line p f (Input x) = Keyword (codes "in") ∷ local_at f x ∷ []
+instr_line p f (Output x) = Keyword (codes "out") ∷ local_at f x ∷ []
+
+abbrev pub term_line : Func → Term → Line
+term_line f (Jump to) = Keyword (codes "jump") ∷ block_at f to ∷ []
+term_line f (Branch x first second) = Keyword (codes "branch") ∷ local_at f x ∷ block_at f first ∷ block_at f second ∷ []
+term_line f (Ret x) = Keyword (codes "ret") ∷ local_at f x ∷ []
+term_line f Halt = Keyword (codes "halt") ∷ []
+
+-- ---- functions
+
+abbrev pub parameter : Local → Said
+parameter l = Parameter l.name l.ty
+
+abbrev pub head_line : Role → Word → List Local → Line
+head_line Plain name params = Keyword (codes "func") ∷ Named name ∷ map parameter params
+head_line (Operation id) name params = Keyword (codes "operation") ∷ Number id ∷ Named name ∷ map parameter params
+head_line Main name params = Keyword (codes "main") ∷ []
+
+abbrev pub local_line : Local → Line
+local_line l = Keyword (codes "local") ∷ Named l.name ∷ Typed l.ty ∷ []
+
+abbrev pub block_lines : Program → Func → BlockIr → List Line
+block_lines p f b = (Keyword (codes "block") ∷ Named b.label ∷ []) ∷ (map (instr_line p f) b.instrs ++ (term_line f b.term ∷ []))
+
+abbrev pub func_lines : Program → Func → List Line
+func_lines p f =
+    head_line f.role f.name (take f.params f.locals)
+    ∷ (map local_line (drop f.params f.locals) ++ (flat_map (block_lines p f) f.blocks ++ ((Keyword (codes "end") ∷ []) ∷ [])))
+
+-- ---- the text
+
+abbrev pub program_lines : Program → List Line
+program_lines p = map global_line p.globals ++ flat_map (func_lines p) p.funcs
+
+-- the words of each of these lines, without the lines that are skipped
+abbrev pub counting : List Word → List (List Word)
+counting lines = filter (λ words. not (is_skipped words)) (map words_of lines)
+
+-- the lines of the text, less the skipped ones, say these
+abbrev pub TextSays : List ℕ → List Line → Type 0
+TextSays text lines = AllZip (AllZip Says) (counting (lines_of text)) lines
+
+-- the text stands for the program
+pub record IsProgramText (text : List ℕ) (program : Program) : Type 0 where
+  pub says : TextSays text (program_lines program)
+  pub well_formed : IsWellFormed program
+
+-- these lines as they are printed: one space between two words, and LF behind each line
+abbrev pub lines_text : List Line → List ℕ
+lines_text lines = flat_map (λ line. ended (spaced (map word_of line))) lines
+
+abbrev pub program_text : Program → List ℕ
+program_text program = lines_text (program_lines program)

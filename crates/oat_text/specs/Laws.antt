@@ -1,0 +1,43 @@
+-- What is printed for a program is a text of it (docs/FORMATS.md, "Program text").
+use Rattle.std.specs.Prelude.{IsTrue}
+use Rattle.std.specs.List.{All}
+use Rattle.oat_map.specs.Name.{IsName}
+use Rattle.oat_ir.specs.declared.program.Program.{Program}
+use Rattle.oat_ir.specs.declared.program.GlobalItem.{GlobalItem}
+use Rattle.oat_ir.specs.declared.program.GlobalItem.TheVariants.{Scalar, FnScalar, Array}
+use Rattle.oat_ir.specs.declared.func.Func.{Func}
+use Rattle.oat_ir.specs.declared.func.BlockIr.{BlockIr}
+use Rattle.oat_ir.specs.declared.instr.Instr.{Instr}
+use Rattle.oat_ir.specs.declared.instr.Instr.TheVariants.{Const}
+use Rattle.oat_ir.specs.WellFormed.{IsWellFormed}
+use Rattle.oat_text.specs.Words.{is_i64}
+use Rattle.oat_text.specs.Grammar.{IsProgramText, program_text}
+
+-- ---- what values of the Rust types have, and lists of numbers needn't: names are names, and numbers have 64 bits
+
+abbrev pub HasGlobalValues : GlobalItem → Type 0
+HasGlobalValues (Scalar name start critical) = IsName name × IsTrue (is_i64 start)
+HasGlobalValues (FnScalar name params) = IsName name
+HasGlobalValues (Array name len) = IsName name
+
+abbrev pub HasConstant : Instr → Type 0
+HasConstant (Const x value) = IsTrue (is_i64 value)
+HasConstant _ = Unit {0}
+
+pub record HasBlockValues (block : BlockIr) : Type 0 where
+  pub label : IsName block.label
+  pub instrs : All HasConstant block.instrs
+
+pub record HasFuncValues (func : Func) : Type 0 where
+  pub name : IsName func.name
+  pub locals : All (λ local. IsName local.name) func.locals
+  pub blocks : All HasBlockValues func.blocks
+
+pub record HasValues (program : Program) : Type 0 where
+  pub globals : All HasGlobalValues program.globals
+  pub funcs : All HasFuncValues program.funcs
+
+-- ---- the law
+
+abbrev pub PrintedIsText : Type 0
+PrintedIsText = (program : Program) → IsWellFormed program → HasValues program → IsProgramText (program_text program) program
