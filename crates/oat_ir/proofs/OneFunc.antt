@@ -9,7 +9,7 @@ use Rattle.oat_ir.specs.declared.func.Role.{Role}
 use Rattle.oat_ir.specs.declared.func.Role.TheVariants.{Main, Operation}
 use Rattle.oat_ir.specs.Distinct.{have_one_name, have_one_operation}
 use Rattle.oat_ir.specs.Laws.{NameIsOneFunc, MainIsOneFunc, OperationIsOneFunc}
-use Rattle.oat_ir.specs.WellFormed.{IsWellFormed, IsFunc, IsRole}
+use Rattle.oat_ir.specs.WellFormed.{IsProgram, IsFunc, IsRole}
 use Rattle.oat_ir.proofs.Places.{one_place, each_at}
 
 pub by_name : NameIsOneFunc
@@ -17,7 +17,7 @@ by_name program fits i j f g at again same =
     one_place have_one_name program.funcs i j f g fits.func_names at again ((bytes_eq-Decides f.name g.name).1 same)
     ((bytes_eq-Decides g.name f.name).1 (sym same))
 
-main_name : (program : Program) (i : ℕ) (f : Func) → IsWellFormed program → slice_get program.funcs i ≡ Some f → f.role ≡ Main
+main_name : (program : Program) (i : ℕ) (f : Func) → IsProgram program → slice_get program.funcs i ≡ Some f → f.role ≡ Main
     → f.name ≡ codes "main"
 main_name program i f fits at main =
     let role : IsRole Main f = subst (λ (r : Role). IsRole r f) main (each_at (IsFunc program) program.funcs i f fits.funcs at).role in role.0

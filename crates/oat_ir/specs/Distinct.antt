@@ -2,7 +2,7 @@
 use Rattle.std.specs.Prelude.{ℕ, Bool, false, ◌==◌, List}
 use Rattle.std.specs.Str.{bytes_eq}
 use Rattle.oat_ir.specs.declared.program.GlobalItem.{GlobalItem}
-use Rattle.oat_ir.specs.declared.program.GlobalItem.TheVariants.{Scalar, FnScalar, Array}
+use Rattle.oat_ir.specs.declared.program.GlobalItem.TheVariants.{Scalar, FnScalar, Array, CriticalArray}
 use Rattle.oat_ir.specs.declared.func.Func.{Func}
 use Rattle.oat_ir.specs.declared.func.Role.{Role}
 use Rattle.oat_ir.specs.declared.func.Role.TheVariants.{Operation}
@@ -13,6 +13,7 @@ abbrev pub global_name : GlobalItem → List ℕ
 global_name (Scalar name start critical) = name
 global_name (FnScalar name params) = name
 global_name (Array name len) = name
+global_name (CriticalArray name len) = name
 
 abbrev pub are_one_global : GlobalItem → GlobalItem → Bool
 are_one_global g h = bytes_eq (global_name g) (global_name h)

@@ -4,7 +4,7 @@ use Rattle.std.specs.Prelude.{◌≡◌, ◌≤◌, length, codes, All}
 use Rattle.std.specs.List.{IsDistinct}
 use Rattle.oat_ir.specs.declared.program.Program.{Program}
 use Rattle.oat_ir.specs.declared.program.GlobalItem.{GlobalItem}
-use Rattle.oat_ir.specs.declared.program.GlobalItem.TheVariants.{Scalar, FnScalar, Array}
+use Rattle.oat_ir.specs.declared.program.GlobalItem.TheVariants.{Scalar, FnScalar, Array, CriticalArray}
 use Rattle.oat_ir.specs.declared.func.Func.{Func}
 use Rattle.oat_ir.specs.declared.func.Role.{Role}
 use Rattle.oat_ir.specs.declared.func.Role.TheVariants.{Plain, Operation, Main}
@@ -21,6 +21,7 @@ abbrev pub IsGlobal : GlobalItem → Type 0
 IsGlobal (Scalar name start critical) = Unit {0}
 IsGlobal (FnScalar name params) = params ≤ 4
 IsGlobal (Array name len) = (1 ≤ len) × (len ≤ 65536)
+IsGlobal (CriticalArray name len) = (1 ≤ len) × (len ≤ 4096)
 
 abbrev pub IsTy : Ty → Type 0
 IsTy I64 = Unit {0}
@@ -36,8 +37,8 @@ IsRole (Operation id) func = (1 ≤ id) × (id ≤ 65535)
 IsRole Main func = (func.name ≡ codes "main") × (func.params ≡ 0)
 
 -- the indices of a block of this function name something
-abbrev pub IsBlock : Program → Func → BlockIr → Type 0
-IsBlock program func block = All (IsInstr program func) block.instrs × IsTerm func block.term
+abbrev pub IsBlockIr : Program → Func → BlockIr → Type 0
+IsBlockIr program func block = All (IsInstr program func) block.instrs × IsTerm func block.term
 
 pub record IsFunc (program : Program) (func : Func) : Type 0 where
   pub role : IsRole func.role func
@@ -47,9 +48,9 @@ pub record IsFunc (program : Program) (func : Func) : Type 0 where
   pub local_names : IsDistinct are_one_local func.locals
   pub begun : 1 ≤ length func.blocks
   pub labels : IsDistinct have_one_label func.blocks
-  pub blocks : All (IsBlock program func) func.blocks
+  pub blocks : All (IsBlockIr program func) func.blocks
 
-pub record IsWellFormed (program : Program) : Type 0 where
+pub record IsProgram (program : Program) : Type 0 where
   pub globals : All IsGlobal program.globals
   pub global_names : IsDistinct are_one_global program.globals
   pub funcs : All (IsFunc program) program.funcs

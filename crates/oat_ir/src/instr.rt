@@ -13,9 +13,9 @@ pub enum Instr {
     Load { x: u32, global: u32 },
     /// A global scalar is x.
     Store { global: u32, x: u32 },
-    /// x is item i of a global array.
+    /// x is element i of a global array.
     LoadX { x: u32, array: u32, i: u32 },
-    /// Item i of a global array is x.
+    /// Element i of a global array is x.
     StoreX { array: u32, i: u32, x: u32 },
     /// x is a reference of a function.
     RefTo { x: u32, func: u32 },

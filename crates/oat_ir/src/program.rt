@@ -15,10 +15,12 @@ pub struct Program {
 }
 
 /// A variable of the whole program.
+///
+/// The cells are numbered from 0 in the order of the globals: a critical scalar takes one number, and a
+/// critical array one for each of its elements.
 #[derive(Debug, Drop)]
 pub enum GlobalItem {
-    /// A number and what it is at the start. The critical ones are the cells, numbered from 0 in
-    /// their order.
+    /// A number and what it is at the start. A critical one is a cell.
     Scalar {
         name: Name,
         start: i64,
@@ -34,6 +36,11 @@ pub enum GlobalItem {
         name: Name,
         len: u32,
     },
+    /// So many numbers, 0 at the start, each of which is a cell.
+    CriticalArray {
+        name: Name,
+        len: u32,
+    },
 }
 
 impl GlobalItem {
@@ -43,7 +50,8 @@ impl GlobalItem {
         match self {
             GlobalItem::Scalar { name, .. }
             | GlobalItem::FnScalar { name, .. }
-            | GlobalItem::Array { name, .. } => name,
+            | GlobalItem::Array { name, .. }
+            | GlobalItem::CriticalArray { name, .. } => name,
         }
     }
 }

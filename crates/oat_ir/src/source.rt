@@ -56,7 +56,7 @@ pub enum SourceEdge {
     },
 }
 
-/// A load of a critical scalar.
+/// A load of a critical scalar, or of an element of a critical array.
 #[derive(Clone, Copy, Debug, PartialEq, Eq)]
 pub struct CriticalLoad {
     /// The number of the cell.

@@ -1,5 +1,5 @@
 ghost use Rattle.std.specs.Prelude.{◌↔◌, IsTrue};
-ghost use Rattle.oat_ir.specs.WellFormed.{IsGlobal, IsTy, IsLocal, IsRole, IsFunc, IsWellFormed};
+ghost use Rattle.oat_ir.specs.WellFormed.{IsGlobal, IsTy, IsLocal, IsRole, IsFunc, IsProgram};
 
 use crate::distinct::{BlockLabel, FuncName, GlobalName, LocalName, OperationId, are_distinct};
 use crate::func::{Func, Local, Role, Ty};
@@ -14,6 +14,7 @@ fn is_global(global: &GlobalItem) -> bool
         GlobalItem::Scalar { .. } => true,
         GlobalItem::FnScalar { params, .. } => *params <= 4,
         GlobalItem::Array { len, .. } => 1 <= *len && *len <= 65_536,
+        GlobalItem::CriticalArray { len, .. } => 1 <= *len && *len <= 4096,
     }
 }
 
@@ -66,7 +67,7 @@ impl Program {
     /// No memory is taken, so names are compared in pairs: the time grows with the square of
     /// the number of globals, functions, locals of a function, or blocks of a function.
     pub fn well_formed(&self) -> bool
-        ensures { IsTrue result ↔ IsWellFormed self.now }
+        ensures { IsTrue result ↔ IsProgram self.now }
     {
         self.globals
             .as_slice()

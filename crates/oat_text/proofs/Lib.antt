@@ -1,4 +1,4 @@
 mod Examples
-mod Programs
+pub mod Programs
 mod Said
 mod Spelled

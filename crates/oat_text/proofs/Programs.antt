@@ -9,7 +9,7 @@ use Rattle.oat_lines.specs.Fields.{spaced, ended}
 use Rattle.oat_map.specs.Name.{IsName}
 use Rattle.oat_ir.specs.declared.program.Program.{Program}
 use Rattle.oat_ir.specs.declared.program.GlobalItem.{GlobalItem}
-use Rattle.oat_ir.specs.declared.program.GlobalItem.TheVariants.{Scalar, FnScalar, Array}
+use Rattle.oat_ir.specs.declared.program.GlobalItem.TheVariants.{Scalar, FnScalar, Array, CriticalArray}
 use Rattle.oat_ir.specs.declared.func.Func.{Func}
 use Rattle.oat_ir.specs.declared.func.Role.{Role}
 use Rattle.oat_ir.specs.declared.func.Role.TheVariants.{Plain, Operation, Main}
@@ -24,7 +24,7 @@ use Rattle.oat_ir.specs.declared.instr.Term.{Term}
 use Rattle.oat_ir.specs.declared.instr.Term.TheVariants.{Jump, Branch, Ret, Halt}
 use Rattle.oat_ir.specs.Distinct.{global_name}
 use Rattle.oat_ir.specs.Indices.{HasLocal, HasBlock, HasGlobal, HasFunc, IsInstr, IsTerm}
-use Rattle.oat_ir.specs.WellFormed.{IsGlobal, IsLocal, IsRole, IsBlock, IsFunc, IsWellFormed}
+use Rattle.oat_ir.specs.WellFormed.{IsGlobal, IsLocal, IsRole, IsBlockIr, IsFunc, IsProgram}
 use Rattle.oat_text.specs.Words.{Word, Keyword, Named, Says, word_of}
 use Rattle.oat_text.specs.Grammar.{Line, local_at, block_at, global_at, func_at, scalar_keyword, global_line, op_keyword, instr_line, term_line, parameter, head_line, local_line, block_lines, func_lines, program_lines, counting, TextSays, lines_text}
 use Rattle.oat_text.specs.Laws.{HasGlobalValues, HasConstant, HasBlockValues, HasFuncValues, HasValues, PrintedIsText}
@@ -163,6 +163,9 @@ global_line_is (FnScalar name params) fits values =
 global_line_is (Array name len) fits values =
     led (codes "array") _ (said.keyword (codes "array") refl (omega arith) refl)
     (said.named name values, (said.number len (let most = fits.1 in omega arith), tt))
+global_line_is (CriticalArray name len) fits values =
+    led (codes "criticals") _ (said.keyword (codes "criticals") refl (omega arith) refl)
+    (said.named name values, (said.number len (let most = fits.1 in omega arith), tt))
 
 instr_line_is : (p : Program) (f : Func) (i : Instr) → HasNames p f → IsInstr p f i → HasConstant i → IsLine (instr_line p f i)
 instr_line_is p f (Const x value) n has values =
@@ -225,7 +228,7 @@ local_line_is : (l : Local) → IsSound l → IsLine (local_line l)
 local_line_is l is =
     led (codes "local") _ (said.keyword (codes "local") refl (omega arith) refl) (said.named l.name is.0, (said.typed l.ty is.1, tt))
 
-block_lines_are : (p : Program) (f : Func) (b : BlockIr) → HasNames p f → IsBlock p f b → HasBlockValues b → AllByRecursion IsLine (block_lines p f b)
+block_lines_are : (p : Program) (f : Func) (b : BlockIr) → HasNames p f → IsBlockIr p f b → HasBlockValues b → AllByRecursion IsLine (block_lines p f b)
 block_lines_are p f b n has values =
     let instrs = all_same (λ i. IsInstr p f i × HasConstant i) (λ i. IsLine (instr_line p f i)) b.instrs (λ i both. instr_line_is p f i n both.0 both.1) (all_both (IsInstr p f) HasConstant b.instrs has.0 values.instrs) in (
       led (codes "block") _ (said.keyword (codes "block") refl (omega arith) refl) (said.named b.label values.label, tt),
@@ -235,7 +238,7 @@ block_lines_are p f b n has values =
 func_lines_are : (p : Program) (f : Func) → HasNames p f → IsFunc p f → HasFuncValues f → AllByRecursion IsLine (func_lines p f)
 func_lines_are p f n fits values =
     let locals = all_both (λ (l : Local). IsName l.name) IsLocal f.locals values.locals fits.locals in
-    let blocks = all_same (λ b. IsBlock p f b × HasBlockValues b) (λ b. AllByRecursion IsLine (block_lines p f b)) f.blocks (λ b both. block_lines_are p f b n both.0 both.1) (all_both (IsBlock p f) HasBlockValues f.blocks fits.blocks values.blocks) in
+    let blocks = all_same (λ b. IsBlockIr p f b × HasBlockValues b) (λ b. AllByRecursion IsLine (block_lines p f b)) f.blocks (λ b both. block_lines_are p f b n both.0 both.1) (all_both (IsBlockIr p f) HasBlockValues f.blocks fits.blocks values.blocks) in
     let others = all_same IsSound (λ l. IsLine (local_line l)) (drop f.params f.locals) local_line_is (all_drop IsSound f.params f.locals locals) in (
       head_line_is f.role f (take f.params f.locals) fits.role values.name (all_take IsSound f.params f.locals locals),
       all_append IsLine (map local_line (drop f.params f.locals)) _ (all_map IsLine local_line (drop f.params f.locals) others)
@@ -249,6 +252,7 @@ global_named : (g : GlobalItem) → HasGlobalValues g → IsName (global_name g)
 global_named (Scalar name start critical) values = values.0
 global_named (FnScalar name params) values = values
 global_named (Array name len) values = values
+global_named (CriticalArray name len) values = values
 
 each_same : {X : Type 0} (P Q : X → Type 0) (xs : List X) → ((x : X) → P x → Q x) → All P xs → All Q xs
 each_same P Q xs from all = λ k d lt. from (get_or xs k d) (all k d lt)
@@ -261,7 +265,7 @@ names_of p f values own = record {
   labels = each_same HasBlockValues (λ b. IsName b.label) f.blocks (λ b is. is.label) own.blocks;
 }
 
-lines_are : (p : Program) → IsWellFormed p → HasValues p → AllByRecursion IsLine (program_lines p)
+lines_are : (p : Program) → IsProgram p → HasValues p → AllByRecursion IsLine (program_lines p)
 lines_are p fits values =
     let globals = all_same (λ g. IsGlobal g × HasGlobalValues g) (λ g. IsLine (global_line g)) p.globals (λ g both. global_line_is g both.0 both.1) (all_both IsGlobal HasGlobalValues p.globals fits.globals values.globals) in
     let funcs = all_same (λ f. IsFunc p f × HasFuncValues f) (λ f. AllByRecursion IsLine (func_lines p f)) p.funcs (λ f both. func_lines_are p f (names_of p f values both.1) both.0 both.1) (all_both (IsFunc p) HasFuncValues p.funcs fits.funcs values.funcs) in

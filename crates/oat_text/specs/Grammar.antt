@@ -6,7 +6,7 @@ use Rattle.oat_lines.specs.Lines.{lines_of, words_of, is_skipped}
 use Rattle.oat_lines.specs.Fields.{spaced, ended}
 use Rattle.oat_ir.specs.declared.program.Program.{Program}
 use Rattle.oat_ir.specs.declared.program.GlobalItem.{GlobalItem}
-use Rattle.oat_ir.specs.declared.program.GlobalItem.TheVariants.{Scalar, FnScalar, Array}
+use Rattle.oat_ir.specs.declared.program.GlobalItem.TheVariants.{Scalar, FnScalar, Array, CriticalArray}
 use Rattle.oat_ir.specs.declared.func.Func.{Func}
 use Rattle.oat_ir.specs.declared.func.Role.{Role}
 use Rattle.oat_ir.specs.declared.func.Role.TheVariants.{Plain, Operation, Main}
@@ -20,7 +20,7 @@ use Rattle.oat_ir.specs.declared.instr.Instr.TheVariants.{Const, Copy, Binary, L
 use Rattle.oat_ir.specs.declared.instr.Term.{Term}
 use Rattle.oat_ir.specs.declared.instr.Term.TheVariants.{Jump, Branch, Ret, Halt}
 use Rattle.oat_ir.specs.Distinct.{global_name}
-use Rattle.oat_ir.specs.WellFormed.{IsWellFormed}
+use Rattle.oat_ir.specs.WellFormed.{IsProgram}
 use Rattle.oat_text.specs.Words.{Word, Said, Keyword, Named, Typed, Parameter, Number, Integer, Says, word_of}
 
 -- what a line says, word by word
@@ -51,6 +51,7 @@ abbrev pub global_line : GlobalItem → Line
 global_line (Scalar name start critical) = Keyword (scalar_keyword critical) ∷ Named name ∷ Integer start ∷ []
 global_line (FnScalar name params) = Keyword (codes "global") ∷ Named name ∷ Typed (ty.Fn params) ∷ []
 global_line (Array name len) = Keyword (codes "array") ∷ Named name ∷ Number len ∷ []
+global_line (CriticalArray name len) = Keyword (codes "criticals") ∷ Named name ∷ Number len ∷ []
 
 -- ---- instructions and terminators
 
@@ -132,7 +133,7 @@ TextSays text lines = AllZip (AllZip Says) (counting (lines_of text)) lines
 -- the text stands for the program
 pub record IsProgramText (text : List ℕ) (program : Program) : Type 0 where
   pub says : TextSays text (program_lines program)
-  pub well_formed : IsWellFormed program
+  pub well_formed : IsProgram program
 
 -- these lines as they are printed: one space between two words, and LF behind each line
 abbrev pub lines_text : List Line → List ℕ

@@ -4,12 +4,12 @@ use Rattle.std.specs.List.{All}
 use Rattle.oat_map.specs.Name.{IsName}
 use Rattle.oat_ir.specs.declared.program.Program.{Program}
 use Rattle.oat_ir.specs.declared.program.GlobalItem.{GlobalItem}
-use Rattle.oat_ir.specs.declared.program.GlobalItem.TheVariants.{Scalar, FnScalar, Array}
+use Rattle.oat_ir.specs.declared.program.GlobalItem.TheVariants.{Scalar, FnScalar, Array, CriticalArray}
 use Rattle.oat_ir.specs.declared.func.Func.{Func}
 use Rattle.oat_ir.specs.declared.func.BlockIr.{BlockIr}
 use Rattle.oat_ir.specs.declared.instr.Instr.{Instr}
 use Rattle.oat_ir.specs.declared.instr.Instr.TheVariants.{Const}
-use Rattle.oat_ir.specs.WellFormed.{IsWellFormed}
+use Rattle.oat_ir.specs.WellFormed.{IsProgram}
 use Rattle.oat_text.specs.Words.{is_i64}
 use Rattle.oat_text.specs.Grammar.{IsProgramText, program_text}
 
@@ -19,6 +19,7 @@ abbrev pub HasGlobalValues : GlobalItem → Type 0
 HasGlobalValues (Scalar name start critical) = IsName name × IsTrue (is_i64 start)
 HasGlobalValues (FnScalar name params) = IsName name
 HasGlobalValues (Array name len) = IsName name
+HasGlobalValues (CriticalArray name len) = IsName name
 
 abbrev pub HasConstant : Instr → Type 0
 HasConstant (Const x value) = IsTrue (is_i64 value)
@@ -40,4 +41,4 @@ pub record HasValues (program : Program) : Type 0 where
 -- ---- the law
 
 abbrev pub PrintedIsText : Type 0
-PrintedIsText = (program : Program) → IsWellFormed program → HasValues program → IsProgramText (program_text program) program
+PrintedIsText = (program : Program) → IsProgram program → HasValues program → IsProgramText (program_text program) program
