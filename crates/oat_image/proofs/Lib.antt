@@ -5,6 +5,5 @@ pub mod Forms
 pub mod RowForms
 pub mod Images
 pub mod Examples
-mod Digits
 mod Texts
 mod WellFormed

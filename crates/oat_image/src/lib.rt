@@ -1,7 +1,6 @@
 //! Images: code, initial words, cells and map, and the text that spells them.
 #![tactic(auto)]
 
-mod digit;
 mod fault;
 mod image;
 pub mod laws;

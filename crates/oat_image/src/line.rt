@@ -2,15 +2,15 @@ ghost use Rattle.std.specs.Prelude.{◌≡◌, ◌↔◌, ◌<◌, ◌≤◌, �
 ghost use Rattle.oat_image.specs.Grammar.{code_line, data_line, cell_line, flag_text, function_line, block_line, IsAddress, IsWord, IsIndex, IsInitWord, IsFunction, IsBlock};
 ghost use Rattle.oat_image.specs.ImageReading.{address_of, number_in, value_of, flag_of, name_of, code_of, data_of, cell_of, function_with, function_of, block_of, no_key, index_key, cell_key, entry_key, start_key};
 
-use crate::digit::{address_digits, hexadecimal_text};
 use crate::fault::LineFault;
 use crate::image::InitWord;
 use crate::receiver::Receiver;
 use crate::text::Form;
-use crate::words::{put_four, put_line, put_two};
+use crate::words::{address_digits, put_four, put_line, put_two};
 use itoa::Buffer;
 use oat_lines::{
-    read_decimal, read_four_fields, read_hexadecimal, read_one_field, read_two_fields,
+    hexadecimal_text, read_decimal, read_four_fields, read_hexadecimal, read_one_field,
+    read_two_fields,
 };
 use oat_map::{Block, Function, Name};
 

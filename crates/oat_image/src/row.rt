@@ -2,12 +2,11 @@ ghost use Rattle.std.specs.Prelude.{◌≡◌, ◌<◌, ◌≤◌, IfOk};
 ghost use Rattle.oat_image.specs.Grammar.{row_line, IsRow};
 ghost use Rattle.oat_image.specs.ImageReading.{kind_of, sole_address, two_addresses, addresses_of, three_addresses, address_and_number, row_with, row_of, no_key};
 
-use crate::digit::address_digits;
 use crate::fault::LineFault;
 use crate::line::{is_address, read_address, read_number};
 use crate::receiver::Receiver;
 use crate::text::Form;
-use crate::words::{put_four, put_three, put_two};
+use crate::words::{address_digits, put_four, put_three, put_two};
 use itoa::Buffer;
 use oat_lines::{read_field, read_one_field, read_three_fields, read_two_fields};
 use oat_map::Row;

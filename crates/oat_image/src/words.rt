@@ -1,8 +1,17 @@
-ghost use Rattle.std.specs.Prelude.{[], ◌∷◌};
+ghost use Rattle.std.specs.Prelude.{◌≡◌, [], ◌∷◌};
 ghost use Rattle.oat_lines.specs.Fields.{spaced, ended};
+ghost use Rattle.oat_lines.specs.Hexadecimal.{hexadecimal};
 ghost use Rattle.oat_image.specs.Printing.{Takes};
 
 use crate::receiver::Receiver;
+use oat_lines::hexadecimal_text;
+
+/// The digits of an address, or of a word of code.
+pub(crate) fn address_digits(address: u64) -> [u8; 8]
+    ensures { result ≡ hexadecimal 8 address }
+{
+    hexadecimal_text::<8>(address)
+}
 
 /// A line of one word, with its end.
 pub(crate) fn put_line<R: Receiver>(out: &mut R, line: &[u8])

@@ -1,5 +1,9 @@
-pub mod Cuts
-pub mod Digits
+mod Cuts
+mod Digits
 pub mod Decimals
 pub mod Hexadecimals
 pub mod Cutting
+pub mod Steps
+mod Integers
+mod DigitsFilled
+pub mod LowerDigits

@@ -3,3 +3,6 @@ pub mod Lines
 pub mod Decimal
 pub mod Hexadecimal
 pub mod Fields
+pub mod Integer
+pub mod Faults
+pub mod FaultText

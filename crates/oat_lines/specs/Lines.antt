@@ -1,5 +1,5 @@
 -- The lines and words of a text of bytes, as docs/FORMATS.md says: a line ends with LF or CR LF, words stand between spaces and tabs.
-use Rattle.std.specs.Prelude.{ℕ, List, [], ◌∷◌, Bool, true, false, not, ◌==◌, ◌||◌, filter, Option, Some, None, slice_index}
+use Rattle.std.specs.Prelude.{ℕ, List, [], ◌∷◌, Bool, true, false, not, ◌==◌, ◌||◌, map, filter, Option, Some, None, slice_index}
 use Rattle.std.specs.List.{slice_split}
 use Rattle.std.specs.Str.Lines.{lines}
 
@@ -44,3 +44,7 @@ sole words = None
 abbrev pub triple : List (List ℕ) → Option (List ℕ × List ℕ × List ℕ)
 triple (first ∷ second ∷ third ∷ []) = Some (first, second, third)
 triple words = None
+
+-- the words of each of these lines, without the lines that are skipped
+abbrev pub counting : List (List ℕ) → List (List (List ℕ))
+counting lines = filter (λ words. not (is_skipped words)) (map words_of lines)

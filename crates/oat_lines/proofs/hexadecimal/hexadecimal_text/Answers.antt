@@ -1,6 +1,6 @@
 use Rattle.std.proofs.Common.{rules, sym, ◌∙◌, arith}
-use Rattle.oat_image.proofs.Digits.{digit_goes, digits_end}
-use Rattle.oat_image.proofs.digit.hexadecimal_text.Goals as goal
+use Rattle.oat_lines.proofs.DigitsFilled.{digit_goes, digits_end}
+use Rattle.oat_lines.proofs.hexadecimal.hexadecimal_text.Goals as goal
 
 pub loop-place-preserved : goal.loop-place-preserved
 loop-place-preserved g c =

@@ -1,6 +1,6 @@
 use Rattle.std.proofs.Common.{◌≡◌, ◌≤◌, ◌++◌, length, drop}
 use Rattle.oat_lines.specs.Hexadecimal.{hexadecimal}
-use Rattle.oat_image.proofs.digit.hexadecimal_text.Given as goal
+use Rattle.oat_lines.proofs.hexadecimal.hexadecimal_text.Given as goal
 
 -- the digits so far stand behind those that are still to come
 abbrev pub invariant-loop-place : goal.invariant-loop-place

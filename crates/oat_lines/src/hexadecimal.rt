@@ -1,4 +1,5 @@
-ghost use Rattle.std.specs.Prelude.{◌≡◌, ◌<◌};
+ghost use Rattle.std.specs.Prelude.{◌≡◌, ◌<◌, ◌≤◌, length};
+ghost use Rattle.hex.specs.Hex.{encode_lower};
 ghost use Rattle.oat_lines.specs.Hexadecimal.{hexadecimal_digit, hexadecimal};
 
 fn digit_character(digit: u8) -> u8
@@ -13,7 +14,7 @@ fn digit_character(digit: u8) -> u8
 }
 
 /// The last `N` upper-case hexadecimal digits of a number.
-pub(crate) fn hexadecimal_text<const N: usize>(number: u64) -> [u8; N]
+pub fn hexadecimal_text<const N: usize>(number: u64) -> [u8; N]
     ensures { result ≡ hexadecimal N number }
 {
     let mut digits = [b'0'; N];
@@ -27,9 +28,14 @@ pub(crate) fn hexadecimal_text<const N: usize>(number: u64) -> [u8; N]
     digits
 }
 
-/// The digits of an address, or of a word of code.
-pub(crate) fn address_digits(address: u64) -> [u8; 8]
-    ensures { result ≡ hexadecimal 8 address }
+/// The lower-case digits of at most 32 bytes, two for each, in front of `buffer`.
+pub fn lower_digits<'a>(bytes: &[u8], buffer: &'a mut [u8; 64]) -> &'a [u8]
+    requires { length bytes.now ≤ 32 }
+    ensures { result.now ≡ encode_lower bytes.now }
 {
-    hexadecimal_text::<8>(address)
+    let digits = &mut buffer[..2 * bytes.len()];
+    match hex::encode_to_slice(bytes, digits) {
+        Ok(()) => digits,
+        Err(_) => unreachable!(),
+    }
 }
