@@ -1,5 +1,5 @@
-pub mod Offsets
-pub mod Candidates
-pub mod Same
+mod Offsets
+mod Candidates
+mod Same
 pub mod FetchLemmas
 pub mod StepBounds

@@ -1,52 +1,15 @@
 -- A step keeps registers within 64 bits and memory within bytes.
-use Rattle.std.proofs.Common.{ℕ, zero, suc, ◌+◌, ◌-◌, ◌/◌, ◌%◌, ◌^◌, ◌<◌, ◌≤◌, Bool, true, false, not, ◌&&◌, cond, leb, ltb, eqb, Option, Some, None, ℤ, pos, negsuc, neg_ℤ, arith, lit<}
-use Rattle.std.specs.Prelude.{int_div}
-use Rattle.std.specs.Int.{w64}
-use Rattle.std.proofs.Math.Facts.{sfits_to_z}
-use Rattle.std.specs.Int.Signed.{mag, shr_z}
+use Rattle.std.proofs.Common.{ℕ, ◌+◌, ◌%◌, ◌^◌, ◌<◌, Bool, true, false, not, ◌&&◌, cond, leb, ltb, eqb, Option, Some, None, ℤ, pos, negsuc, arith, lit<}
 use Rattle.std.proofs.lemmas.Bool.{cond_both}
-use Rattle.std.proofs.lemmas.Nat.{and_le_l, or_lt, xor_lt, shr_le}
-use Rattle.std.proofs.Math.Nat.{div-le_self}
+use Rattle.std.proofs.lemmas.Nat.{and_le_l, or_lt, xor_lt}
+use Rattle.oat_bits.proofs.WordLemmas.{results_are_words}
 use Rattle.oat_mem.specs.DataMemory.{word_in, can_access}
 use Rattle.oat_mem.proofs.Words.{words_are_bounded, memory_stays_bytes}
 use Rattle.oat_a64.specs.declared.inst.Inst.{Inst}
 use Rattle.oat_a64.specs.declared.inst.Inst.TheVariants.{AddImm, SubImm, SubsImm, AddReg, SubReg, SubsReg, AndReg, OrrReg, EorReg, Madd, Msub, Udiv, Sdiv, Lslv, Lsrv, Asrv, Movz, Movk, Csinc, Ldr, Str, B, Bl, BCond, Cbz, Cbnz, Blr, Ret, Svc, Brk, Nop}
 use Rattle.oat_a64.specs.Fetch.{inst_of}
-use Rattle.oat_a64.specs.Step.{Machine, Outcome, IsBounded, StepKeepsBounds, wrap, difference, signed, unsigned, signed_quotient, unsigned_quotient, reg, reg_or_sp, set, with_reg, with_reg_or_sp, branch_target, next_pc, goes_on, jumps, jumps_if, links, subtracts, loads, stores, act, acts, decodes, step, word_at, holds}
-
--- ---- numbers
-
-unsigned-pos : (n : ℕ) → n < 2 ^ 64 → unsigned (pos n) < 2 ^ 64
-unsigned-pos n h = h
-
-unsigned-negsuc : (n : ℕ) → unsigned (negsuc n) < 2 ^ 64
-unsigned-negsuc n = omega arith
-
-unsigned-neg : (n : ℕ) → unsigned (neg_ℤ (pos n)) < 2 ^ 64
-unsigned-neg zero = lit< tt
-unsigned-neg (suc n) = unsigned-negsuc n
-
-mag-signed : (n : ℕ) → n < 2 ^ 64 → mag (signed n) < 2 ^ 63
-mag-signed n h = (sfits_to_z {w = w64} {n = n} (record { fits = h })).sfits
-
-quotient-lt : (a b : ℤ) → mag a < 2 ^ 63 → unsigned (int_div a b) < 2 ^ 64
-quotient-lt (pos a) (pos b) h = let q : a / b ≤ a = div-le_self a b in omega arith
-quotient-lt (pos a) (negsuc b) h = unsigned-neg (a / suc b)
-quotient-lt (negsuc a) (pos b) h = unsigned-neg (suc a / b)
-quotient-lt (negsuc a) (negsuc b) h = let q : suc a / suc b ≤ suc a = div-le_self (suc a) (suc b) in omega arith
-
-shift-lt : (a : ℤ) (m : ℕ) → mag a < 2 ^ 63 → unsigned (shr_z a m) < 2 ^ 64
-shift-lt (pos a) m h = let q : a / m ≤ a = div-le_self a m in omega arith
-shift-lt (negsuc a) m h = unsigned-negsuc (a / m)
-
-signed_quotient-lt : (a b : ℕ) → a < 2 ^ 64 → signed_quotient a b < 2 ^ 64
-signed_quotient-lt a b h =
-    cond_both (eqb b 0) 0 (unsigned (int_div (signed a) (signed b))) (λ q. q < 2 ^ 64) (λ _. lit< tt) (λ _. quotient-lt (signed a) (signed b) (mag-signed a h))
-
-unsigned_quotient-lt : (a b : ℕ) → a < 2 ^ 64 → unsigned_quotient a b < 2 ^ 64
-unsigned_quotient-lt a b h =
-    let q : a / b ≤ a = div-le_self a b in
-    cond_both (eqb b 0) 0 (a / b) (λ q. q < 2 ^ 64) (λ _. lit< tt) (λ _. omega arith)
+use Rattle.oat_bits.specs.Words.{wrap, difference}
+use Rattle.oat_a64.specs.Step.{Machine, Outcome, IsBounded, StepKeepsBounds, reg, reg_or_sp, set, with_reg, with_reg_or_sp, branch_target, next_pc, goes_on, jumps, jumps_if, links, subtracts, loads, stores, act, acts, decodes, step, word_at, holds}
 
 branch_target-lt : (pc : ℕ) (z : ℤ) → branch_target pc z < 2 ^ 64
 branch_target-lt pc (pos n) = omega arith
@@ -114,13 +77,13 @@ act-bounded (OrrReg rd rn rm) m b = result m b rd _ (or_lt 64 _ _ (reg-lt m b rn
 act-bounded (EorReg rd rn rm) m b = result m b rd _ (xor_lt 64 _ _ (reg-lt m b rn) (reg-lt m b rm))
 act-bounded (Madd rd rn rm ra) m b = result m b rd _ (omega arith)
 act-bounded (Msub rd rn rm ra) m b = result m b rd _ (omega arith)
-act-bounded (Udiv rd rn rm) m b = result m b rd _ (unsigned_quotient-lt _ (reg m.regs rm) (reg-lt m b rn))
-act-bounded (Sdiv rd rn rm) m b = result m b rd _ (signed_quotient-lt _ (reg m.regs rm) (reg-lt m b rn))
+act-bounded (Udiv rd rn rm) m b = result m b rd _ (results_are_words _ (reg m.regs rm) (reg-lt m b rn)).0
+act-bounded (Sdiv rd rn rm) m b = result m b rd _ (results_are_words _ (reg m.regs rm) (reg-lt m b rn)).1
 act-bounded (Lslv rd rn rm) m b = result m b rd _ (omega arith)
 act-bounded (Lsrv rd rn rm) m b =
-    result m b rd _ (omega (arith, shr_le (reg m.regs rn) (reg m.regs rm % 64), reg-lt m b rn))
+    result m b rd _ (results_are_words _ (reg m.regs rm % 64) (reg-lt m b rn)).4
 act-bounded (Asrv rd rn rm) m b =
-    result m b rd _ (shift-lt (signed (reg m.regs rn)) (2 ^ (reg m.regs rm % 64)) (mag-signed _ (reg-lt m b rn)))
+    result m b rd _ (results_are_words _ (reg m.regs rm % 64) (reg-lt m b rn)).5
 act-bounded (Movz rd hw imm) m b = result m b rd _ (omega arith)
 act-bounded (Movk rd hw imm) m b = result m b rd _ (omega arith)
 act-bounded (Csinc rd rn rm c) m b =

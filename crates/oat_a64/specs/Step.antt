@@ -1,7 +1,8 @@
 -- The machine step: how an instruction is fetched and what it does, one row for each form of the device's A64 instructions, by the operation of its section in the Arm A64 manual, "A64 base instructions".
-use Rattle.std.specs.Prelude.{ℕ, suc, ◌+◌, ◌-◌, ◌*◌, ◌/◌, ◌%◌, ◌^◌, ◌<◌, Bool, false, not, ◌&&◌, ◌||◌, nat_eq, nat_lt, nat_le, if◌then◌else◌, Option, Some, None, List, slice_get, option_and_then, ℤ, pos, negsuc, ◌-ℤ◌, int_div, bit_and, bit_or, bit_xor}
+use Rattle.std.specs.Prelude.{ℕ, suc, ◌+◌, ◌-◌, ◌*◌, ◌/◌, ◌%◌, ◌^◌, ◌<◌, Bool, false, not, ◌&&◌, ◌||◌, nat_eq, nat_lt, nat_le, if◌then◌else◌, Option, Some, None, List, slice_get, option_and_then, ℤ, pos, negsuc, ◌-ℤ◌, bit_and, bit_or, bit_xor}
 use Rattle.std.specs.Bool.{beq}
-use Rattle.std.specs.Int.{w64, cast_signed, cast_unsigned, int_shr}
+use Rattle.oat_bits.specs.Field.{with_field}
+pub use Rattle.oat_bits.specs.Words.{wrap, difference, signed, unsigned, unsigned_quotient, signed_quotient, shifted_left, shifted_right, shifted_right_signed}
 use Rattle.oat_mem.specs.DataMemory.{can_access, word_in, with_word, IsBytes}
 use Rattle.oat_a64.specs.declared.event.Event.{Event}
 use Rattle.oat_a64.specs.declared.event.Event.TheVariants as event
@@ -31,40 +32,9 @@ pub record Outcome : Type 0 where
   pub machine : Machine
   pub event : Event
 
--- ---- numbers of 64 bits
-
-abbrev pub wrap : ℕ → ℕ
-wrap value = value % 2 ^ 64
-
-abbrev pub difference : ℕ → ℕ → ℕ
-difference a b = wrap (a + (2 ^ 64 - b))
-
--- the integer that a number stands for in two's complement, and back
-abbrev pub signed : ℕ → ℤ
-signed value = cast_signed w64 value
-
-abbrev pub unsigned : ℤ → ℕ
-unsigned value = cast_unsigned w64 value
-
-abbrev pub unsigned_quotient : ℕ → ℕ → ℕ
-unsigned_quotient a b = if nat_eq b 0 then 0 else a / b
-
-abbrev pub signed_quotient : ℕ → ℕ → ℕ
-signed_quotient a b = if nat_eq b 0 then 0 else unsigned (int_div (signed a) (signed b))
-
-abbrev pub shifted_left : ℕ → ℕ → ℕ
-shifted_left value amount = wrap (value * 2 ^ amount)
-
-abbrev pub shifted_right : ℕ → ℕ → ℕ
-shifted_right value amount = value / 2 ^ amount
-
-abbrev pub shifted_right_signed : ℕ → ℕ → ℕ
-shifted_right_signed value amount = unsigned (int_shr (signed value) amount)
-
 -- a number with other 16 bits from a place on
 abbrev pub with_bits : ℕ → ℕ → ℕ → ℕ
-with_bits value low bits =
-    wrap (value / 2 ^ (low + 16) * 2 ^ (low + 16) + bits * 2 ^ low + value % 2 ^ low)
+with_bits value low bits = wrap (with_field low 16 value bits)
 
 -- ---- registers
 

@@ -1,4 +1,5 @@
-pub mod FieldLemmas
+mod FieldLemmas
 pub mod PackedForm
 pub mod OnePackedForm
 pub mod Filling
+pub mod WordLemmas

@@ -3,3 +3,5 @@ pub mod Packed
 pub mod Bits
 pub mod PackedLaws
 pub mod Held
+pub mod Words
+pub mod WordLaws

@@ -3,7 +3,8 @@ use Rattle.std.proofs.Common.{◌≡◌, ℕ, ◌+◌, ◌-◌, ◌*◌, ◌/◌
 use Rattle.std.proofs.lemmas.Nat.{pow-add}
 use Rattle.std.proofs.Math.Pow.{pow_mono}
 use Rattle.std.proofs.Math.Nat.{div-eq_of_lt, mod-eq_of_lt}
-use Rattle.oat_a64.specs.Step.{shifted_left, with_bits}
+use Rattle.oat_bits.specs.Words.{shifted_left}
+use Rattle.oat_a64.specs.Step.{with_bits}
 
 shifted_left-over : (v j : ℕ) → shifted_left v (j + 64) ≡ 0
 shifted_left-over v j = rw (pow-add 2 j 64) (omega arith)

@@ -1,6 +1,7 @@
 // Loads and stores.
 ghost use Rattle.std.specs.Prelude.{◌≡◌, ◌+◌, ◌*◌};
-ghost use Rattle.oat_a64.specs.Step.{loads, stores, wrap};
+ghost use Rattle.oat_bits.specs.Words.{wrap};
+ghost use Rattle.oat_a64.specs.Step.{loads, stores};
 ghost use Rattle.oat_cpu.specs.Processor.{machine_of, outcome_of};
 
 use crate::cpu::Cpu;

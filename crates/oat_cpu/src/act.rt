@@ -5,8 +5,8 @@ ghost use Rattle.oat_cpu.specs.Processor.{machine_of, outcome_of};
 
 use crate::access::address_of;
 use crate::cpu::Cpu;
-use crate::value::{divide, divide_signed, put_quarter, shift_left, shift_right_signed, target_of};
-use oat_a64::{Event, Inst};
+use crate::value::{divide, divide_signed, put_quarter, shift_left, shift_right_signed};
+use oat_a64::{Event, Inst, branch_target};
 use oat_mem::Memory;
 
 impl Cpu {
@@ -70,16 +70,16 @@ impl Cpu {
             Inst::Str { rt, rn, imm } => {
                 self.store(rt, address_of(self.read_or_sp(rn), imm), memory)
             }
-            Inst::B { offset } => self.jump(target_of(self.pc, offset)),
-            Inst::Bl { offset } => self.link(target_of(self.pc, offset)),
+            Inst::B { offset } => self.jump(branch_target(self.pc, offset)),
+            Inst::Bl { offset } => self.link(branch_target(self.pc, offset)),
             Inst::BCond { cond, offset } => {
-                self.jump_if(self.holds(cond), target_of(self.pc, offset))
+                self.jump_if(self.holds(cond), branch_target(self.pc, offset))
             }
             Inst::Cbz { rt, offset } => {
-                self.jump_if(self.read(rt) == 0, target_of(self.pc, offset))
+                self.jump_if(self.read(rt) == 0, branch_target(self.pc, offset))
             }
             Inst::Cbnz { rt, offset } => {
-                self.jump_if(self.read(rt) != 0, target_of(self.pc, offset))
+                self.jump_if(self.read(rt) != 0, branch_target(self.pc, offset))
             }
             Inst::Blr { rn } => self.link(self.read(rn)),
             Inst::Ret { rn } => self.jump(self.read(rn)),

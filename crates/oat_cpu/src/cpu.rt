@@ -1,7 +1,6 @@
 ghost use Rattle.std.specs.Prelude.{◌≡◌, ◌≤◌, length};
 
-use crate::code::word_at;
-use oat_a64::{Event, FaultKind, decode};
+use oat_a64::{CODE_BASE, Event, FaultKind, decode, word_at};
 use oat_mem::Memory;
 
 /// The state of the processor: X0 to X30, SP, PC and the condition flags.
@@ -27,7 +26,7 @@ impl Cpu {
         Cpu {
             x: [0; 31],
             sp: 0x8000_0000,
-            pc: 0x10000,
+            pc: CODE_BASE,
             n: false,
             z: false,
             c: false,

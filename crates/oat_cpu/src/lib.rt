@@ -3,7 +3,6 @@
 
 mod access;
 mod act;
-mod code;
 mod control;
 mod cpu;
 mod registers;

@@ -1,6 +1,7 @@
 // The numbers that instructions compute.
 ghost use Rattle.std.specs.Prelude.{◌≡◌, ◌*◌, ◌<◌};
-ghost use Rattle.oat_a64.specs.Step.{branch_target, shifted_left, shifted_right_signed, signed_quotient, unsigned_quotient, with_bits};
+ghost use Rattle.oat_bits.specs.Words.{unsigned_quotient, signed_quotient, shifted_left, shifted_right_signed};
+ghost use Rattle.oat_a64.specs.Step.{with_bits};
 
 pub(crate) fn divide(dividend: u64, divisor: u64) -> u64
     ensures { result ≡ unsigned_quotient dividend divisor }
@@ -48,17 +49,5 @@ pub(crate) fn put_quarter(value: u64, quarter: u8, bits: u16) -> u64
         2 => value / HALF / QUARTER * QUARTER * HALF + bits * HALF + value % HALF,
         3 => bits * QUARTER * HALF + value % (QUARTER * HALF),
         _ => value,
-    }
-}
-
-// The address to which a branch leads; the offset counts words.
-pub(crate) fn target_of(pc: u64, offset: i32) -> u64
-    ensures { result ≡ branch_target pc offset }
-{
-    let bytes = 4 * u64::from(offset.unsigned_abs());
-    if offset < 0 {
-        pc.wrapping_sub(bytes)
-    } else {
-        pc.wrapping_add(bytes)
     }
 }
