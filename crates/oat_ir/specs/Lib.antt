@@ -3,3 +3,4 @@ pub mod Indices
 pub mod Laws
 pub mod Size
 pub mod WellFormed
+pub mod WorkedPrograms

@@ -2,12 +2,7 @@
 use Rattle.std.specs.Prelude.{◌≡◌, ℕ, List, [], ◌∷◌, codes, Ok}
 use Rattle.std.specs.List.{flat_map}
 use Rattle.oat_lines.specs.Fields.{ended}
-use Rattle.oat_ir.specs.declared.program.Program.{Program}
-use Rattle.oat_ir.specs.declared.func.Func.{Func}
-use Rattle.oat_ir.specs.declared.func.Role.TheVariants.{Operation, Main}
-use Rattle.oat_ir.specs.declared.func.Ty.TheVariants.{I64}
-use Rattle.oat_ir.specs.declared.instr.Instr.TheVariants.{Call}
-use Rattle.oat_ir.specs.declared.instr.Term.TheVariants.{Ret, Halt}
+use Rattle.oat_ir.specs.WorkedPrograms.{idle_program}
 use Rattle.oat_text.specs.declared.fault.TextFault.TheVariants.{Token, Expected, Number, Duplicate, Unknown}
 use Rattle.oat_text.specs.Words.{Word}
 use Rattle.oat_text.specs.Grammar.{program_text}
@@ -15,28 +10,6 @@ use Rattle.oat_text.specs.Faults.{look, HasFault}
 
 abbrev pub lines : List Word → List ℕ
 lines words = flat_map ended words
-
--- an operation that does nothing
-abbrev pub idle : Func
-idle = record {
-  name = codes "idle";
-  role = Operation 1;
-  params = 0;
-  locals = record { name = codes "z"; ty = I64 } ∷ [];
-  blocks = record { label = codes "b0"; instrs = []; term = Ret 0 } ∷ [];
-}
-
-abbrev pub main : Func
-main = record {
-  name = codes "main";
-  role = Main;
-  params = 0;
-  locals = record { name = codes "s"; ty = I64 } ∷ [];
-  blocks = record { label = codes "b0"; instrs = Call 0 0 [] ∷ []; term = Halt } ∷ [];
-}
-
-abbrev pub idle_program : Program
-idle_program = record { globals = []; funcs = idle ∷ main ∷ [] }
 
 abbrev pub idle_text : List ℕ
 idle_text =

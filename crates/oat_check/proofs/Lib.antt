@@ -1,0 +1,13 @@
+mod Bounds
+mod Cells
+mod Checking
+mod Cutting
+mod Frames
+mod Keeping
+mod Lines
+mod Locals
+mod Places
+mod Short
+mod Sourcing
+mod Turning
+mod Worked

@@ -1,0 +1,13 @@
+pub mod Active
+pub mod Globals
+pub mod Keeping
+pub mod Lines
+pub mod Naming
+pub mod Operators
+pub mod RuleLaws
+pub mod Rules
+pub mod RunLaws
+pub mod Runs
+pub mod Steps
+pub mod Worked
+pub mod WorkedPrograms

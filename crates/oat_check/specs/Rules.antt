@@ -1,0 +1,208 @@
+-- The checking rules, and the first that a program breaks, with its place (docs/FORMATS.md, "Checking").
+use Rattle.std.specs.Prelude.{◌≡◌, ℕ, suc, Bool, true, false, not, ◌&&◌, ◌||◌, nat_eq, nat_lt, if◌then◌else◌, List, [], ◌∷◌, length, take, slice_get, Option, Some, None}
+use Rattle.std.specs.Option.{option_map, option_or}
+use Rattle.std.specs.List.{sum_by, list_any}
+use Rattle.oat_ir.specs.declared.program.Program.{Program}
+use Rattle.oat_ir.specs.declared.program.GlobalItem.{GlobalItem}
+use Rattle.oat_ir.specs.declared.program.GlobalItem.TheVariants.{Scalar, FnScalar, Array, CriticalArray}
+use Rattle.oat_ir.specs.declared.func.Func.{Func}
+use Rattle.oat_ir.specs.declared.func.Role.{Role}
+use Rattle.oat_ir.specs.declared.func.Role.TheVariants.{Operation, Main}
+use Rattle.oat_ir.specs.declared.func.Ty.{Ty}
+use Rattle.oat_ir.specs.declared.func.Ty.TheVariants.{I64, Fn}
+use Rattle.oat_ir.specs.declared.func.Local.{Local}
+use Rattle.oat_ir.specs.declared.func.BlockIr.{BlockIr}
+use Rattle.oat_ir.specs.declared.instr.Instr.{Instr}
+use Rattle.oat_ir.specs.declared.instr.Instr.TheVariants.{Const, Copy, Binary, Load, Store, LoadX, StoreX, RefTo, Call, ICall, Input, Output}
+use Rattle.oat_ir.specs.declared.instr.Term.{Term}
+use Rattle.oat_ir.specs.declared.instr.Term.TheVariants.{Branch, Ret}
+use Rattle.oat_ir.specs.WellFormed.{IsProgram}
+use Rattle.oat_check.specs.declared.fault.CheckKind.{CheckKind}
+use Rattle.oat_check.specs.declared.fault.CheckKind.TheVariants.{NoMain, GlobalWords, Locals, NoEnd, CallsMain, OperationCall, RefKind, Arity, Kind, MainRet}
+use Rattle.oat_check.specs.declared.fault.CheckFault.{CheckFault}
+use Rattle.oat_check.specs.declared.fault.CheckFault.TheVariants as fault
+use Rattle.oat_check.specs.Lines.{CodeLine, instruction, terminator}
+use Rattle.oat_check.specs.Globals.{size_in_words}
+
+-- ---- what is asked of functions, locals and globals
+
+abbrev pub is_main_role : Role → Bool
+is_main_role Main = true
+is_main_role _ = false
+
+abbrev pub is_main : Func → Bool
+is_main f = is_main_role f.role
+
+abbrev pub is_operation_role : Role → Bool
+is_operation_role (Operation id) = true
+is_operation_role _ = false
+
+abbrev pub is_operation : Func → Bool
+is_operation f = is_operation_role f.role
+
+-- there is one, and it passes
+abbrev pub passes : {X : Type 0} → (X → Bool) → Option X → Bool
+passes test (Some x) = test x
+passes test None = false
+
+-- function g passes
+abbrev pub is_func : Program → (Func → Bool) → ℕ → Bool
+is_func p test g = passes test (slice_get p.funcs g)
+
+abbrev pub one_ty : Ty → Ty → Bool
+one_ty I64 I64 = true
+one_ty (Fn k) (Fn l) = nat_eq k l
+one_ty _ _ = false
+
+-- both have a type, and it is one
+abbrev pub are_alike : Option Ty → Option Ty → Bool
+are_alike (Some t) (Some u) = one_ty t u
+are_alike _ _ = false
+
+abbrev pub local_ty : Func → ℕ → Option Ty
+local_ty f x = option_map (λ local. local.ty) (slice_get f.locals x)
+
+abbrev pub holds_number : Func → ℕ → Bool
+holds_number f x = are_alike (local_ty f x) (Some I64)
+
+abbrev pub hold_numbers : Func → List ℕ → Bool
+hold_numbers f [] = true
+hold_numbers f (x ∷ xs) = holds_number f x && hold_numbers f xs
+
+-- x has a type fn/K, and K is this number
+abbrev pub refers_with : Func → ℕ → ℕ → Bool
+refers_with f x k = are_alike (local_ty f x) (Some (Fn k))
+
+abbrev pub scalar_ty : GlobalItem → Option Ty
+scalar_ty (Scalar name start critical) = Some I64
+scalar_ty (FnScalar name params) = Some (Fn params)
+scalar_ty (Array name len) = None
+scalar_ty (CriticalArray name len) = None
+
+abbrev pub is_array : GlobalItem → Bool
+is_array (Array name len) = true
+is_array (CriticalArray name len) = true
+is_array _ = false
+
+-- the local has the type of the scalar
+abbrev pub is_as_scalar : Program → Func → ℕ → ℕ → Bool
+is_as_scalar p f x g = passes (λ item. are_alike (local_ty f x) (scalar_ty item)) (slice_get p.globals g)
+
+abbrev pub names_array : Program → ℕ → Bool
+names_array p g = passes is_array (slice_get p.globals g)
+
+abbrev pub parameters : Func → List Local
+parameters f = take f.params f.locals
+
+abbrev pub takes_numbers : List Local → Bool
+takes_numbers [] = true
+takes_numbers (param ∷ params) = one_ty param.ty I64 && takes_numbers params
+
+-- these locals have the types of the parameters, one by one
+abbrev pub are_as : Func → List ℕ → List Local → Bool
+are_as f (x ∷ xs) (param ∷ params) = are_alike (local_ty f x) (Some param.ty) && are_as f xs params
+are_as f _ _ = true
+
+-- ---- the rules on one line of function f
+
+-- a call of main
+abbrev pub calls_main : Program → CodeLine → Bool
+calls_main p (instruction (Call x g args)) = is_func p is_main g
+calls_main p _ = false
+
+-- a call of an operation outside main
+abbrev pub calls_operation : Program → Func → CodeLine → Bool
+calls_operation p f (instruction (Call x g args)) = is_func p is_operation g && not (is_main f)
+calls_operation p f _ = false
+
+-- a reference of main, of an operation, or of a function with a parameter that isn't a number
+abbrev pub refers_amiss : Program → CodeLine → Bool
+refers_amiss p (instruction (RefTo x g)) = is_func p (λ callee. is_main callee || is_operation callee || not (takes_numbers (parameters callee))) g
+refers_amiss p _ = false
+
+-- a type fn/K, where K is another number
+abbrev pub refers_without : Option Ty → ℕ → Bool
+refers_without (Some (Fn k)) n = not (nat_eq k n)
+refers_without _ n = false
+
+-- a call with another number of arguments than the function has parameters, or than the K of Y
+abbrev pub counts_amiss : Program → Func → CodeLine → Bool
+counts_amiss p f (instruction (Call x g args)) = is_func p (λ callee. not (nat_eq (length args) callee.params)) g
+counts_amiss p f (instruction (ICall x y args)) = refers_without (local_ty f y) (length args)
+counts_amiss p f _ = false
+
+-- each operand has the type that the line asks for, and a scalar or an array stands where one is wanted
+abbrev pub has_types : Program → Func → CodeLine → Bool
+has_types p f (instruction (Const x value)) = holds_number f x
+has_types p f (instruction (Copy x y)) = are_alike (local_ty f x) (local_ty f y)
+has_types p f (instruction (Binary op x y z)) = holds_number f x && holds_number f y && holds_number f z
+has_types p f (instruction (Load x g)) = is_as_scalar p f x g
+has_types p f (instruction (Store g x)) = is_as_scalar p f x g
+has_types p f (instruction (LoadX x g i)) = holds_number f x && names_array p g && holds_number f i
+has_types p f (instruction (StoreX g i x)) = names_array p g && holds_number f i && holds_number f x
+has_types p f (instruction (RefTo x g)) = is_func p (λ callee. refers_with f x callee.params) g
+has_types p f (instruction (Call x g args)) = holds_number f x && is_func p (λ callee. are_as f args (parameters callee)) g
+has_types p f (instruction (ICall x y args)) = holds_number f x && refers_with f y (length args) && hold_numbers f args
+has_types p f (instruction (Input x)) = holds_number f x
+has_types p f (instruction (Output x)) = holds_number f x
+has_types p f (terminator (Branch x first second)) = holds_number f x
+has_types p f (terminator (Ret x)) = holds_number f x
+has_types p f (terminator _) = true
+
+-- a return in main
+abbrev pub returns_from_main : Func → CodeLine → Bool
+returns_from_main f (terminator (Ret x)) = is_main f
+returns_from_main f _ = false
+
+-- the first rule of this order that the line breaks
+abbrev pub broken_by : Program → Func → CodeLine → Option CheckKind
+broken_by p f line =
+    if calls_main p line then Some CallsMain
+    else (if calls_operation p f line then Some OperationCall
+    else (if refers_amiss p line then Some RefKind
+    else (if counts_amiss p f line then Some Arity
+    else (if not (has_types p f line) then Some Kind
+    else (if returns_from_main f line then Some MainRet
+    else None)))))
+
+-- ---- the rules on a program, in order: function, block and place count from 0
+
+abbrev pub fault_at : ℕ → ℕ → ℕ → CheckKind → CheckFault
+fault_at func block place kind = fault.At kind func block place
+
+abbrev pub fault_in_lines : Program → Func → ℕ → ℕ → ℕ → List Instr → Term → Option CheckFault
+fault_in_lines p f func block place [] term = option_map (fault_at func block place) (broken_by p f (terminator term))
+fault_in_lines p f func block place (i ∷ is) term =
+    option_or (option_map (fault_at func block place) (broken_by p f (instruction i))) (fault_in_lines p f func block (suc place) is term)
+
+abbrev pub fault_in_blocks : Program → Func → ℕ → ℕ → List BlockIr → Option CheckFault
+fault_in_blocks p f func block [] = None
+fault_in_blocks p f func block (b ∷ bs) = option_or (fault_in_lines p f func block 0 b.instrs b.term) (fault_in_blocks p f func (suc block) bs)
+
+abbrev pub is_ret : Term → Bool
+is_ret (Ret x) = true
+is_ret _ = false
+
+-- an operation without a return
+abbrev pub never_ends : Func → Bool
+never_ends f = is_operation f && not (list_any (λ b. is_ret b.term) f.blocks)
+
+abbrev pub fault_in_func : Program → ℕ → Func → Option CheckFault
+fault_in_func p func f =
+    if nat_lt 255 (length f.locals) then Some (fault_at func 0 0 Locals)
+    else option_or (fault_in_blocks p f func 0 f.blocks) (if never_ends f then Some (fault_at func 0 0 NoEnd) else None)
+
+abbrev pub fault_in_funcs : Program → ℕ → List Func → Option CheckFault
+fault_in_funcs p func [] = None
+fault_in_funcs p func (f ∷ fs) = option_or (fault_in_func p func f) (fault_in_funcs p (suc func) fs)
+
+-- the first rule that the program breaks
+abbrev pub first_fault : Program → Option CheckFault
+first_fault p =
+    if not (list_any is_main p.funcs) then Some (fault_at 0 0 0 NoMain)
+    else (if nat_lt 65536 (sum_by size_in_words p.globals) then Some (fault_at 0 0 0 GlobalWords)
+    else fault_in_funcs p 0 p.funcs)
+
+pub record IsChecked (p : Program) : Type 0 where
+  pub well_formed : IsProgram p
+  pub accepted : first_fault p ≡ None
