@@ -12,14 +12,13 @@ use Rattle.oat_ir.specs.declared.func.BlockIr.{BlockIr}
 use Rattle.oat_ir.specs.declared.func.Ty.{Ty}
 use Rattle.oat_ir.specs.declared.func.Ty.TheVariants.{I64, Fn}
 use Rattle.oat_ir.specs.declared.instr.Instr.{Instr}
-use Rattle.oat_ir.specs.declared.instr.Term.{Term}
 use Rattle.oat_ir.specs.WellFormed.{IsFunc, IsBlockIr}
 use Rattle.oat_ir.specs.Indices.{IsTerm}
 use Rattle.oat_check.specs.declared.fault.CheckKind.TheVariants.{CallsMain, OperationCall, RefKind, Arity, Kind, MainRet}
 use Rattle.oat_check.specs.Globals.{size_in_words}
 use Rattle.oat_check.specs.Lines.{CodeLine, instruction, terminator}
 use Rattle.oat_check.specs.RuleLaws.{AcceptedExactly, BlockKeepsRules, FuncKeepsRules, IsAllowed, KeepsRules}
-use Rattle.oat_check.specs.Rules.{IsChecked, are_alike, broken_by, calls_main, calls_operation, counts_amiss, fault_at, fault_in_blocks, fault_in_func, fault_in_funcs, fault_in_lines, first_fault, has_types, is_main, never_ends, one_ty, refers_amiss, returns_from_main}
+use Rattle.oat_check.specs.Rules.{IsChecked, are_alike, broken_by, calls_main, calls_operation, counts_amiss, fault_at, fault_in_block, fault_in_func, fault_in_line, first_in, first_fault, has_types, is_main, never_ends, one_ty, refers_amiss, returns_from_main}
 
 pub each_at : {X : Type 0} (P : X → Type 0) (xs : List X) (i : ℕ) (x : X) → All P xs → slice_get xs i ≡ Some x → P x
 each_at P xs i x each is = subst P (get_or_from_slice_get xs i x x is) (each i x (slice_get_within xs i x is))
@@ -63,13 +62,10 @@ unbroken p f line a =
 
 -- ---- all lines
 
-lines_keep : (p : Program) (f : Func) (func block place : ℕ) (is : List Instr) (term : Term) → fault_in_lines p f func block place is term ≡ None
-    → All (λ i. IsAllowed p f (instruction i)) is × IsAllowed p f (terminator term)
-lines_keep p f func block place [] term h = (All-nil (λ i. IsAllowed p f (instruction i)), allowed p f (terminator term) (map_none (fault_at func block place) _ h))
-lines_keep p f func block place (i ∷ is) term h =
-    let a = or_none _ _ h in
-    let rest = lines_keep p f func block (suc place) is term a.1 in
-    (All-cons (λ i. IsAllowed p f (instruction i)) i is (allowed p f (instruction i) (map_none (fault_at func block place) _ a.0)) rest.0, rest.1)
+-- where none is found, each item has none
+none_in : {X A : Type 0} (find : ℕ → X → Option A) (P : X → Type 0) → ((n : ℕ) (x : X) → find n x ≡ None → P x) → (n : ℕ) (xs : List X) → first_in find n xs ≡ None → All P xs
+none_in find P keeps n [] h = All-nil P
+none_in find P keeps n (x ∷ xs) h = let a = or_none _ _ h in All-cons P x xs (keeps n x a.0) (none_in find P keeps (suc n) xs a.1)
 
 first_one : {X : Type 0} (P : X → Type 0) (x : X) (xs : List X) → All P (x ∷ xs) → P x
 first_one P x xs h = each_at P (x ∷ xs) 0 x h refl
@@ -77,54 +73,56 @@ first_one P x xs h = each_at P (x ∷ xs) 0 x h refl
 other_ones : {X : Type 0} (P : X → Type 0) (x : X) (xs : List X) → All P (x ∷ xs) → All P xs
 other_ones P x xs h k d l = h (suc k) d (let e : k < length xs = l in omega arith)
 
-keep_lines : (p : Program) (f : Func) (func block place : ℕ) (is : List Instr) (term : Term) → All (λ i. IsAllowed p f (instruction i)) is → IsAllowed p f (terminator term) → fault_in_lines p f func block place is term ≡ None
-keep_lines p f func block place [] term h k = ap (option_map (fault_at func block place)) (unbroken p f (terminator term) k)
-keep_lines p f func block place (i ∷ is) term h k =
-    none_or _ _ (ap (option_map (fault_at func block place)) (unbroken p f (instruction i) (first_one (λ i. IsAllowed p f (instruction i)) i is h)))
-    (keep_lines p f func block (suc place) is term (other_ones (λ i. IsAllowed p f (instruction i)) i is h) k)
+in_none : {X A : Type 0} (find : ℕ → X → Option A) (P : X → Type 0) → ((n : ℕ) (x : X) → P x → find n x ≡ None) → (n : ℕ) (xs : List X) → All P xs → first_in find n xs ≡ None
+in_none find P lacks n [] h = refl
+in_none find P lacks n (x ∷ xs) h = none_or _ _ (lacks n x (first_one P x xs h)) (in_none find P lacks (suc n) xs (other_ones P x xs h))
 
-blocks_keep : (p : Program) (f : Func) (func block : ℕ) (bs : List BlockIr) → fault_in_blocks p f func block bs ≡ None → All (BlockKeepsRules p f) bs
-blocks_keep p f func block [] h = All-nil (BlockKeepsRules p f)
-blocks_keep p f func block (b ∷ bs) h =
-    let a = or_none _ _ h in
-    let k = lines_keep p f func block 0 b.instrs b.term a.0 in
-    All-cons (BlockKeepsRules p f) b bs (record { instrs = k.0; term = k.1 }) (blocks_keep p f func (suc block) bs a.1)
+line_keeps : (p : Program) (f : Func) (func block place : ℕ) (line : CodeLine) → fault_in_line p f func block place line ≡ None → IsAllowed p f line
+line_keeps p f func block place line h = allowed p f line (map_none (fault_at func block place) _ h)
 
-keep_blocks : (p : Program) (f : Func) (func block : ℕ) (bs : List BlockIr) → All (BlockKeepsRules p f) bs → fault_in_blocks p f func block bs ≡ None
-keep_blocks p f func block [] h = refl
-keep_blocks p f func block (b ∷ bs) h =
-    let k = first_one (BlockKeepsRules p f) b bs h in
-    none_or _ _ (keep_lines p f func block 0 b.instrs b.term k.instrs k.term) (keep_blocks p f func (suc block) bs (other_ones (BlockKeepsRules p f) b bs h))
+keep_line : (p : Program) (f : Func) (func block place : ℕ) (line : CodeLine) → IsAllowed p f line → fault_in_line p f func block place line ≡ None
+keep_line p f func block place line k = ap (option_map (fault_at func block place)) (unbroken p f line k)
+
+block_keeps : (p : Program) (f : Func) (func block : ℕ) (b : BlockIr) → fault_in_block p f func block b ≡ None → BlockKeepsRules p f b
+block_keeps p f func block b h =
+    let a = or_none (first_in (λ place i. fault_in_line p f func block place (instruction i)) 0 b.instrs) _ h in
+    record {
+      instrs = none_in (λ place i. fault_in_line p f func block place (instruction i)) (λ i. IsAllowed p f (instruction i)) (λ n i k. line_keeps p f func block n (instruction i) k) 0 b.instrs a.0;
+      term = line_keeps p f func block (length b.instrs) (terminator b.term) a.1;
+    }
+
+keep_block : (p : Program) (f : Func) (func block : ℕ) (b : BlockIr) → BlockKeepsRules p f b → fault_in_block p f func block b ≡ None
+keep_block p f func block b k =
+    none_or (first_in (λ place i. fault_in_line p f func block place (instruction i)) 0 b.instrs) _
+    (in_none (λ place i. fault_in_line p f func block place (instruction i)) (λ i. IsAllowed p f (instruction i)) (λ n i l. keep_line p f func block n (instruction i) l) 0 b.instrs k.instrs)
+    (keep_line p f func block (length b.instrs) (terminator b.term) k.term)
 
 func_keeps : (p : Program) (func : ℕ) (f : Func) → fault_in_func p func f ≡ None → FuncKeepsRules p f
 func_keeps p func f h =
     let a = skipped (ltb 255 (length f.locals)) _ _ h in
-    let b = or_none (fault_in_blocks p f func 0 f.blocks) _ a.1 in
-    record { locals = ltb-false 255 (length f.locals) a.0; blocks = blocks_keep p f func 0 f.blocks b.0; ends = (skipped (never_ends f) _ None b.1).0 }
+    let b = or_none (first_in (fault_in_block p f func) 0 f.blocks) _ a.1 in
+    record {
+      locals = ltb-false 255 (length f.locals) a.0;
+      blocks = none_in (fault_in_block p f func) (BlockKeepsRules p f) (block_keeps p f func) 0 f.blocks b.0;
+      ends = (skipped (never_ends f) _ None b.1).0;
+    }
 
 keep_func : (p : Program) (func : ℕ) (f : Func) → FuncKeepsRules p f → fault_in_func p func f ≡ None
 keep_func p func f k =
-    passed (ltb 255 (length f.locals)) _ _ (le-ltb 255 (length f.locals) k.locals) (none_or _ _ (keep_blocks p f func 0 f.blocks k.blocks) (passed (never_ends f) _ None k.ends refl))
-
-funcs_keep : (p : Program) (func : ℕ) (fs : List Func) → fault_in_funcs p func fs ≡ None → All (FuncKeepsRules p) fs
-funcs_keep p func [] h = All-nil (FuncKeepsRules p)
-funcs_keep p func (f ∷ fs) h = let a = or_none _ _ h in All-cons (FuncKeepsRules p) f fs (func_keeps p func f a.0) (funcs_keep p (suc func) fs a.1)
-
-keep_funcs : (p : Program) (func : ℕ) (fs : List Func) → All (FuncKeepsRules p) fs → fault_in_funcs p func fs ≡ None
-keep_funcs p func [] h = refl
-keep_funcs p func (f ∷ fs) h = none_or _ _ (keep_func p func f (first_one (FuncKeepsRules p) f fs h)) (keep_funcs p (suc func) fs (other_ones (FuncKeepsRules p) f fs h))
+    passed (ltb 255 (length f.locals)) _ _ (le-ltb 255 (length f.locals) k.locals)
+    (none_or (first_in (fault_in_block p f func) 0 f.blocks) _ (in_none (fault_in_block p f func) (BlockKeepsRules p f) (keep_block p f func) 0 f.blocks k.blocks) (passed (never_ends f) _ None k.ends refl))
 
 pub keeps_rules : (p : Program) → first_fault p ≡ None → KeepsRules p
 keeps_rules p h =
     let a = skipped (not (list_any is_main p.funcs)) _ _ h in
     let b = skipped (ltb 65536 (sum_by size_in_words p.globals)) _ _ a.1 in
-    record { main = not-false _ a.0; words = ltb-false 65536 (sum_by size_in_words p.globals) b.0; funcs = funcs_keep p 0 p.funcs b.1 }
+    record { main = not-false _ a.0; words = ltb-false 65536 (sum_by size_in_words p.globals) b.0; funcs = none_in (fault_in_func p) (FuncKeepsRules p) (func_keeps p) 0 p.funcs b.1 }
 
 pub accepted_exactly : AcceptedExactly
 accepted_exactly p = (
   keeps_rules p,
   λ k. passed (not (list_any is_main p.funcs)) _ _ (not_from_true _ k.main)
-      (passed (ltb 65536 (sum_by size_in_words p.globals)) _ _ (le-ltb 65536 (sum_by size_in_words p.globals) k.words) (keep_funcs p 0 p.funcs k.funcs)),
+      (passed (ltb 65536 (sum_by size_in_words p.globals)) _ _ (le-ltb 65536 (sum_by size_in_words p.globals) k.words) (in_none (fault_in_func p) (FuncKeepsRules p) (keep_func p) 0 p.funcs k.funcs)),
 )
 
 -- ---- by place

@@ -12,7 +12,6 @@ use Rattle.oat_ir.specs.declared.func.Ty.{Ty}
 use Rattle.oat_ir.specs.declared.func.Ty.TheVariants.{I64, Fn}
 use Rattle.oat_ir.specs.declared.func.Local.{Local}
 use Rattle.oat_ir.specs.declared.func.BlockIr.{BlockIr}
-use Rattle.oat_ir.specs.declared.instr.Instr.{Instr}
 use Rattle.oat_ir.specs.declared.instr.Instr.TheVariants.{Const, Copy, Binary, Load, Store, LoadX, StoreX, RefTo, Call, ICall, Input, Output}
 use Rattle.oat_ir.specs.declared.instr.Term.{Term}
 use Rattle.oat_ir.specs.declared.instr.Term.TheVariants.{Branch, Ret}
@@ -165,19 +164,24 @@ broken_by p f line =
     else (if returns_from_main f line then Some MainRet
     else None)))))
 
--- ---- the rules on a program, in order: function, block and place count from 0
+-- ---- the rules on a program, in order: functions, blocks and places count from 0
+
+-- the first that is found in a list, whose items are numbered from n on
+abbrev pub first_in : {X A : Type 0} → (ℕ → X → Option A) → ℕ → List X → Option A
+first_in find n [] = None
+first_in find n (x ∷ xs) = option_or (find n x) (first_in find (suc n) xs)
 
 abbrev pub fault_at : ℕ → ℕ → ℕ → CheckKind → CheckFault
 fault_at func block place kind = fault.At kind func block place
 
-abbrev pub fault_in_lines : Program → Func → ℕ → ℕ → ℕ → List Instr → Term → Option CheckFault
-fault_in_lines p f func block place [] term = option_map (fault_at func block place) (broken_by p f (terminator term))
-fault_in_lines p f func block place (i ∷ is) term =
-    option_or (option_map (fault_at func block place) (broken_by p f (instruction i))) (fault_in_lines p f func block (suc place) is term)
+abbrev pub fault_in_line : Program → Func → ℕ → ℕ → ℕ → CodeLine → Option CheckFault
+fault_in_line p f func block place line = option_map (fault_at func block place) (broken_by p f line)
 
-abbrev pub fault_in_blocks : Program → Func → ℕ → ℕ → List BlockIr → Option CheckFault
-fault_in_blocks p f func block [] = None
-fault_in_blocks p f func block (b ∷ bs) = option_or (fault_in_lines p f func block 0 b.instrs b.term) (fault_in_blocks p f func (suc block) bs)
+-- the instructions in order, then the terminator
+abbrev pub fault_in_block : Program → Func → ℕ → ℕ → BlockIr → Option CheckFault
+fault_in_block p f func block b =
+    option_or (first_in (λ place i. fault_in_line p f func block place (instruction i)) 0 b.instrs)
+    (fault_in_line p f func block (length b.instrs) (terminator b.term))
 
 abbrev pub is_ret : Term → Bool
 is_ret (Ret x) = true
@@ -190,19 +194,25 @@ never_ends f = is_operation f && not (list_any (λ b. is_ret b.term) f.blocks)
 abbrev pub fault_in_func : Program → ℕ → Func → Option CheckFault
 fault_in_func p func f =
     if nat_lt 255 (length f.locals) then Some (fault_at func 0 0 Locals)
-    else option_or (fault_in_blocks p f func 0 f.blocks) (if never_ends f then Some (fault_at func 0 0 NoEnd) else None)
-
-abbrev pub fault_in_funcs : Program → ℕ → List Func → Option CheckFault
-fault_in_funcs p func [] = None
-fault_in_funcs p func (f ∷ fs) = option_or (fault_in_func p func f) (fault_in_funcs p (suc func) fs)
+    else option_or (first_in (fault_in_block p f func) 0 f.blocks) (if never_ends f then Some (fault_at func 0 0 NoEnd) else None)
 
 -- the first rule that the program breaks
 abbrev pub first_fault : Program → Option CheckFault
 first_fault p =
     if not (list_any is_main p.funcs) then Some (fault_at 0 0 0 NoMain)
     else (if nat_lt 65536 (sum_by size_in_words p.globals) then Some (fault_at 0 0 0 GlobalWords)
-    else fault_in_funcs p 0 p.funcs)
+    else first_in (fault_in_func p) 0 p.funcs)
 
+-- a program that keeps all rules
 pub record IsChecked (p : Program) : Type 0 where
   pub well_formed : IsProgram p
   pub accepted : first_fault p ≡ None
+
+-- ---- operations
+
+abbrev pub is_operation_of : ℕ → Role → Bool
+is_operation_of op (Operation id) = nat_eq id op
+is_operation_of op _ = false
+
+abbrev pub has_operation : Program → ℕ → Bool
+has_operation p op = list_any (λ f. is_operation_of op f.role) p.funcs
