@@ -1,5 +1,5 @@
--- What holds of each item of an expansion.
-use Rattle.std.proofs.Common.{◌≡◌, ℕ, ◌/◌, ◌%◌, ◌^◌, ◌<◌, ◌≤◌, List, [], ◌∷◌, refl, ◌∙◌, inl, inr, cond, arith}
+-- What holds of each item of an expansion: one table says what each mark's group has, and all else follows.
+use Rattle.std.proofs.Common.{◌≡◌, ℕ, ◌+◌, ◌/◌, ◌%◌, ◌^◌, ◌<◌, ◌≤◌, Bool, false, List, [], ◌∷◌, refl, ap, ◌∙◌, inl, inr, cond, arith}
 use Rattle.std.specs.Prelude.{Contains, ⊤}
 use Rattle.std.specs.List.{count_by, AllByRecursion}
 use Rattle.std.proofs.lemmas.List.Elements.{Contains-append_cases, Contains-append_right, Contains-append_left, All-contains, All-from_recursion}
@@ -11,9 +11,10 @@ use Rattle.oat_asm.specs.declared.mark.Mark.TheVariants.{Jump, Branch, Call, ICa
 use Rattle.oat_asm.specs.declared.item.Item.{Item}
 use Rattle.oat_asm.specs.declared.item.Item.TheVariants as item
 use Rattle.oat_asm.specs.Items.{is_label, StandsOnce, IsBranch, UsedLabelsStandOnce, InstructionsAreInRange, BranchesAreInRange, AddressesHaveRegisters}
-use Rattle.oat_asm.specs.Expansion.{global_word, group, expanded, expansion}
+use Rattle.oat_asm.specs.Expansion.{global_word, note_of, group, expanded, expansion}
 use Rattle.oat_asm.specs.NoteRows.{GroupsHaveTheWordsOfTheirRows}
 use Rattle.oat_asm.specs.ExpansionLaws.{IsMark, MarksAreInRange, LeadsTo, MarkedLabelsStandOnce, ExpansionLeavesNoMark, ExpansionKeepsLabels, ExpansionUsesLabelsThatStandOnce, ExpansionStaysInRange}
+use Rattle.oat_asm.proofs.Seen.{count_cons}
 
 first_of : {A : Type 0} (x : A) (xs : List A) → Contains (x ∷ xs) x
 first_of x xs = Contains-append_left (x ∷ []) xs x (0, omega arith, refl)
@@ -27,34 +28,60 @@ in_expansion P (i ∷ items) each x has =
       | inr later ↦ in_expansion P items (λ j among. each j (Contains-append_right (i ∷ []) items j among)) x later
     ]
 
+-- ---- the group of each mark
+
+service : (n : ℕ) → n < 2 ^ 16 → IsInRange (Svc n)
+service n h = (h, tt)
+
+number : (n : ℕ) → n < 2 ^ 16 → IsInRange (Movz 9 0 n)
+number n h = (omega arith, (omega arith, (h, tt)))
+
+low : (index : ℕ) → IsInRange (Movz 11 0 (global_word index % 2 ^ 16))
+low index = (omega arith, (omega arith, (omega arith, tt)))
+
+high : (index : ℕ) → index < 65536 → IsInRange (Movk 11 1 (global_word index / 2 ^ 16))
+high index h = (omega arith, (omega arith, (omega arith, tt)))
+
+-- an instruction in range, or a branch to a label to which the row leads
+abbrev IsOfGroup : Mark → Item → Type 0
+IsOfGroup m (item.Inst i) = IsMark m → IsInRange i
+IsOfGroup m (item.BranchTo form label) = IsBranch form × LeadsTo m label
+IsOfGroup m _ = ⊥
+
+of_group : (m : Mark) → AllByRecursion (IsOfGroup m) (group m)
+of_group (Jump to) = ((tt, refl), tt)
+of_group (Branch taken other) = (λ h. service 3 (omega arith), ((omega arith, inl refl), ((tt, inr refl), tt)))
+of_group (Call to) = ((tt, refl), tt)
+of_group (ICall params) = (λ h. service 4 (omega arith), (λ h. (omega arith, tt), tt))
+of_group Ret = (λ h. service 5 (omega arith), (λ h. (omega arith, tt), tt))
+of_group (Begin op) = (λ h. number op h, (λ h. service 1 (omega arith), tt))
+of_group (End op) = (λ h. number op h, (λ h. service 2 (omega arith), tt))
+of_group (UseCell cell index) =
+    (λ h. low index, (λ h. high index h.1, (λ h. (omega arith, (omega arith, (omega arith, tt))), (λ h. number cell h.0, (λ h. service 7 (omega arith), tt)))))
+of_group (DefCell cell index) =
+    (λ h. low index, (λ h. high index h.1, (λ h. number cell h.0, (λ h. (omega arith, (omega arith, (omega arith, tt))), (λ h. service 6 (omega arith), tt)))))
+
+all_so : (P Q : Item → Type 0) → ((i : Item) → P i → Q i) → (items : List Item) → AllByRecursion P items → AllByRecursion Q items
+all_so P Q so [] all = tt
+all_so P Q so (i ∷ items) all = (so i all.0, all_so P Q so items all.1)
+
+-- what holds of all items of this kind holds of the group
+in_group : (Q : Item → Type 0) (m : Mark) → ((i : Item) → IsOfGroup m i → Q i) → AllByRecursion Q (group m)
+in_group Q m so = all_so (IsOfGroup m) Q so (group m) (of_group m)
+
 -- ---- no mark
 
 abbrev IsNoMark : Item → Type 0
-IsNoMark (item.Inst i) = ⊤
-IsNoMark (item.Label label) = ⊤
-IsNoMark (item.BranchTo form label) = ⊤
-IsNoMark (item.AddressOf register label) = ⊤
 IsNoMark (item.Mark mark) = ⊥
-IsNoMark (item.Note note) = ⊤
+IsNoMark _ = ⊤
 
-group_without_marks : (m : Mark) → AllByRecursion IsNoMark (group m)
-group_without_marks (Jump to) = (tt, tt)
-group_without_marks (Branch taken other) = (tt, (tt, (tt, tt)))
-group_without_marks (Call to) = (tt, tt)
-group_without_marks (ICall params) = (tt, (tt, tt))
-group_without_marks Ret = (tt, (tt, tt))
-group_without_marks (Begin op) = (tt, (tt, tt))
-group_without_marks (End op) = (tt, (tt, tt))
-group_without_marks (UseCell cell index) = (tt, (tt, (tt, (tt, (tt, tt)))))
-group_without_marks (DefCell cell index) = (tt, (tt, (tt, (tt, (tt, tt)))))
+no_mark : (m : Mark) (i : Item) → IsOfGroup m i → IsNoMark i
+no_mark m (item.Mark mark) is = is
+no_mark m _ is = tt
 
 expanded_without_marks : (i : Item) → AllByRecursion IsNoMark (expanded i)
-expanded_without_marks (item.Inst i) = (tt, tt)
-expanded_without_marks (item.Label label) = (tt, tt)
-expanded_without_marks (item.BranchTo form label) = (tt, tt)
-expanded_without_marks (item.AddressOf register label) = (tt, tt)
-expanded_without_marks (item.Mark mark) = (tt, group_without_marks mark)
-expanded_without_marks (item.Note note) = (tt, tt)
+expanded_without_marks (item.Mark mark) = (tt, in_group IsNoMark mark (no_mark mark))
+expanded_without_marks _ = (tt, tt)
 
 pub leaves_no_mark : ExpansionLeavesNoMark
 leaves_no_mark items mark has =
@@ -62,61 +89,57 @@ leaves_no_mark items mark has =
 
 -- ---- labels
 
-group_without_labels : (m : Mark) (label : ℕ) → count_by (is_label label) (group m) ≡ 0
-group_without_labels (Jump to) label = refl
-group_without_labels (Branch taken other) label = refl
-group_without_labels (Call to) label = refl
-group_without_labels (ICall params) label = refl
-group_without_labels Ret label = refl
-group_without_labels (Begin op) label = refl
-group_without_labels (End op) label = refl
-group_without_labels (UseCell cell index) label = refl
-group_without_labels (DefCell cell index) label = refl
+abbrev IsNoLabel : Item → Type 0
+IsNoLabel (item.Label label) = ⊥
+IsNoLabel _ = ⊤
+
+no_label : (m : Mark) (i : Item) → IsOfGroup m i → IsNoLabel i
+no_label m (item.Label label) is = is
+no_label m _ is = tt
+
+isnt_label : (i : Item) (label : ℕ) → IsNoLabel i → is_label label i ≡ false
+isnt_label (item.Label l) label is = absurd is
+isnt_label _ label is = refl
+
+abbrev one_if : Bool → ℕ
+one_if b = cond b 1 0
+
+none_counted : (items : List Item) (label : ℕ) → AllByRecursion IsNoLabel items → count_by (is_label label) items ≡ 0
+none_counted [] label all = refl
+none_counted (i ∷ items) label all =
+    let here = ap one_if (isnt_label i label all.0) in
+    omega (arith, here, count_cons label i items, none_counted items label all.1)
 
 expanded_labels : (i : Item) (label : ℕ) → count_by (is_label label) (expanded i) ≡ count_by (is_label label) (i ∷ [])
-expanded_labels (item.Inst i) label = refl
-expanded_labels (item.Label l) label = refl
-expanded_labels (item.BranchTo form l) label = refl
-expanded_labels (item.AddressOf register l) label = refl
-expanded_labels (item.Mark mark) label = group_without_labels mark label
-expanded_labels (item.Note note) label = refl
+expanded_labels (item.Mark mark) label =
+    omega (arith, count_cons label (item.Note (note_of mark)) (group mark), none_counted (group mark) label (in_group IsNoLabel mark (no_label mark)))
+expanded_labels _ label = refl
 
 pub keeps_labels : ExpansionKeepsLabels
 keeps_labels [] label = refl
 keeps_labels (i ∷ items) label =
-    let ones = λ (x : Item). cond (is_label label x) 1 0 in
-    let split = sum_by-append ones (expanded i) (expansion items) in
-    let front = sum_by-append ones (i ∷ []) items in
+    let one = λ (x : Item). cond (is_label label x) 1 0 in
+    let split = sum_by-append one (expanded i) (expansion items) in
+    let front = sum_by-append one (i ∷ []) items in
     omega (arith, split, front, expanded_labels i label, keeps_labels items label)
 
 -- the label to which an item leads stands once
 abbrev UsesOnce : List Item → Item → Type 0
-UsesOnce items (item.Inst i) = ⊤
-UsesOnce items (item.Label label) = ⊤
 UsesOnce items (item.BranchTo form label) = StandsOnce items label
 UsesOnce items (item.AddressOf register label) = StandsOnce items label
-UsesOnce items (item.Mark mark) = ⊤
-UsesOnce items (item.Note note) = ⊤
+UsesOnce items _ = ⊤
 
-group_uses_once : (items : List Item) (m : Mark) → ((label : ℕ) → LeadsTo m label → StandsOnce items label) → AllByRecursion (UsesOnce items) (group m)
-group_uses_once items (Jump to) once = (once to refl, tt)
-group_uses_once items (Branch taken other) once = (tt, (once taken (inl refl), (once other (inr refl), tt)))
-group_uses_once items (Call to) once = (once to refl, tt)
-group_uses_once items (ICall params) once = (tt, (tt, tt))
-group_uses_once items Ret once = (tt, (tt, tt))
-group_uses_once items (Begin op) once = (tt, (tt, tt))
-group_uses_once items (End op) once = (tt, (tt, tt))
-group_uses_once items (UseCell cell index) once = (tt, (tt, (tt, (tt, (tt, tt)))))
-group_uses_once items (DefCell cell index) once = (tt, (tt, (tt, (tt, (tt, tt)))))
+leads_once : (items : List Item) (m : Mark) → ((label : ℕ) → LeadsTo m label → StandsOnce items label) → (i : Item) → IsOfGroup m i → UsesOnce items i
+leads_once items m once (item.BranchTo form label) is = once label is.1
+leads_once items m once (item.AddressOf register label) is = absurd is
+leads_once items m once _ is = tt
 
 expanded_uses_once : (items : List Item) → UsedLabelsStandOnce items → MarkedLabelsStandOnce items → (i : Item) → Contains items i → AllByRecursion (UsesOnce items) (expanded i)
-expanded_uses_once items used marked (item.Inst i) among = (tt, tt)
-expanded_uses_once items used marked (item.Label label) among = (tt, tt)
 expanded_uses_once items used marked (item.BranchTo form label) among = (used.branches form label among, tt)
 expanded_uses_once items used marked (item.AddressOf register label) among = (used.addresses register label among, tt)
 expanded_uses_once items used marked (item.Mark mark) among =
-    (tt, group_uses_once items mark (λ label leads. marked mark label among leads))
-expanded_uses_once items used marked (item.Note note) among = (tt, tt)
+    (tt, in_group (UsesOnce items) mark (leads_once items mark (λ label leads. marked mark label among leads)))
+expanded_uses_once items used marked _ among = (tt, tt)
 
 pub uses_once : ExpansionUsesLabelsThatStandOnce
 uses_once items used marked =
@@ -131,44 +154,23 @@ uses_once items used marked =
 
 abbrev IsItemInRange : Item → Type 0
 IsItemInRange (item.Inst i) = IsInRange i
-IsItemInRange (item.Label label) = ⊤
 IsItemInRange (item.BranchTo form label) = IsBranch form
 IsItemInRange (item.AddressOf register label) = register ≤ 30
-IsItemInRange (item.Mark mark) = ⊤
-IsItemInRange (item.Note note) = ⊤
+IsItemInRange _ = ⊤
 
-service : (n : ℕ) → n < 2 ^ 16 → IsInRange (Svc n)
-service n h = (h, tt)
-
-number : (n : ℕ) → n < 2 ^ 16 → IsInRange (Movz 9 0 n)
-number n h = (omega arith, (omega arith, (h, tt)))
-
-low : (index : ℕ) → IsInRange (Movz 11 0 (global_word index % 2 ^ 16))
-low index = (omega arith, (omega arith, (omega arith, tt)))
-
-high : (index : ℕ) → index < 65536 → IsInRange (Movk 11 1 (global_word index / 2 ^ 16))
-high index h = (omega arith, (omega arith, (omega arith, tt)))
-
-group_in_range : (m : Mark) → IsMark m → AllByRecursion IsItemInRange (group m)
-group_in_range (Jump to) h = (tt, tt)
-group_in_range (Branch taken other) h = (service 3 (omega arith), (omega arith, (tt, tt)))
-group_in_range (Call to) h = (tt, tt)
-group_in_range (ICall params) h = (service 4 (omega arith), ((omega arith, tt), tt))
-group_in_range Ret h = (service 5 (omega arith), ((omega arith, tt), tt))
-group_in_range (Begin op) h = (number op h, (service 1 (omega arith), tt))
-group_in_range (End op) h = (number op h, (service 2 (omega arith), tt))
-group_in_range (UseCell cell index) h =
-    (low index, (high index h.1, ((omega arith, (omega arith, (omega arith, tt))), (number cell h.0, (service 7 (omega arith), tt)))))
-group_in_range (DefCell cell index) h =
-    (low index, (high index h.1, (number cell h.0, ((omega arith, (omega arith, (omega arith, tt))), (service 6 (omega arith), tt)))))
+group_in_range : (m : Mark) → IsMark m → (i : Item) → IsOfGroup m i → IsItemInRange i
+group_in_range m h (item.Inst i) is = is h
+group_in_range m h (item.BranchTo form label) is = is.0
+group_in_range m h (item.AddressOf register label) is = absurd is
+group_in_range m h _ is = tt
 
 expanded_in_range : (items : List Item) → InstructionsAreInRange items → BranchesAreInRange items → AddressesHaveRegisters items → MarksAreInRange items → (i : Item) → Contains items i → AllByRecursion IsItemInRange (expanded i)
 expanded_in_range items insts branches registers marks (item.Inst i) among = (insts i among, tt)
-expanded_in_range items insts branches registers marks (item.Label label) among = (tt, tt)
 expanded_in_range items insts branches registers marks (item.BranchTo form label) among = (branches form label among, tt)
 expanded_in_range items insts branches registers marks (item.AddressOf register label) among = (registers register label among, tt)
-expanded_in_range items insts branches registers marks (item.Mark mark) among = (tt, group_in_range mark (marks mark among))
-expanded_in_range items insts branches registers marks (item.Note note) among = (tt, tt)
+expanded_in_range items insts branches registers marks (item.Mark mark) among =
+    (tt, in_group IsItemInRange mark (group_in_range mark (marks mark among)))
+expanded_in_range items insts branches registers marks _ among = (tt, tt)
 
 pub stays_in_range : ExpansionStaysInRange
 stays_in_range items insts branches registers marks =

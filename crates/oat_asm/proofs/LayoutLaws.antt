@@ -1,12 +1,10 @@
--- What stands at the address of an item.
-use Rattle.std.proofs.Common.{◌≡◌, ℕ, zero, suc, ◌+◌, ◌-◌, ◌/◌, ◌%◌, ◌^◌, ◌<◌, ◌≤◌, List, [], ◌∷◌, ◌++◌, length, take, get_or, refl, sym, ap, ◌∙◌, subst, Bool, true, false, cond, Some, eq-eqb, arith, length-append, inl, inr}
+-- What stands at the address of an item, and what is listed.
+use Rattle.std.proofs.Common.{◌≡◌, ℕ, zero, suc, ◌+◌, ◌-◌, ◌/◌, ◌%◌, ◌^◌, ◌≤◌, List, [], ◌∷◌, ◌++◌, length, refl, sym, ap, ◌∙◌, subst, Bool, true, false, cond, Some, eq-eqb, arith, inl, inr}
 use Rattle.std.specs.Prelude.{slice_get, nat_eq, nat_le, nat_lt, Contains}
 use Rattle.std.specs.List.{count_by}
 use Rattle.std.specs.Option.{option_and_then}
-use Rattle.std.proofs.lemmas.Bool.{cases_lt, ltb-true, ltb-false, le-leb}
-use Rattle.std.proofs.lemmas.List.Elements.{Contains-append_left, Contains-append_right}
-use Rattle.std.proofs.lemmas.Option.{slice_get_within, get_or_from_slice_get}
-use Rattle.std.proofs.lemmas.List.Sums.{sum_by-cons}
+use Rattle.std.proofs.lemmas.Bool.{ltb-true, ltb-false, le-leb}
+use Rattle.std.proofs.lemmas.List.Elements.{Contains-push, Contains-push_cases}
 use Rattle.oat_a64.specs.declared.inst.Inst.{Inst}
 use Rattle.oat_a64.specs.declared.inst.Inst.TheVariants.{Movz, Movk}
 use Rattle.oat_a64.specs.Table.{IsInRange, word_of}
@@ -15,17 +13,29 @@ use Rattle.oat_a64.specs.Laws.{FetchesByTheTable}
 use Rattle.oat_a64.specs.Step.{code_base, word_at, instruction_at, branch_target}
 use Rattle.oat_asm.specs.declared.item.Item.{Item}
 use Rattle.oat_asm.specs.declared.item.Item.TheVariants as item
-use Rattle.oat_asm.specs.Items.{word_count, place, place_of, address, is_label, code_limit, StandsOnce}
-use Rattle.oat_asm.specs.Layout.{branch, distance, words_of_item, labels_of_item, notes_of_item, given, first_give, all_give}
-use Rattle.oat_asm.specs.Laws.{code_of, address_of, ItemsFollowOneAnother, InstructionsStandAtTheirAddresses, BranchesLeadToTheirLabels, AddressesArePut, LabelsAreListed, NotesAreListed}
-use Rattle.oat_asm.proofs.Places.{place_le, place_more, give_more}
+use Rattle.oat_asm.specs.declared.note.Note.{Note}
+use Rattle.oat_asm.specs.declared.assembled.LabelAt.{LabelAt}
+use Rattle.oat_asm.specs.declared.assembled.NoteAt.{NoteAt}
+use Rattle.oat_asm.specs.Items.{word_count, words_needed, place, place_of, address, code_limit, is_label, StandsOnce}
+use Rattle.oat_asm.specs.Layout.{branch, distance, words_of_item, labels_of_item, notes_of_item, items_give, layout}
+use Rattle.oat_asm.specs.Laws.{code_of, item_address, ItemsFollowOneAnother, PlacesRise, LayoutsAreOfTwo, LabelsHaveThePlacesOfTheirItems, LabelsStandBehindOthers, WordsStandAtTheirPlaces, BranchesReachPlaces, InstructionsStandAtTheirAddresses, BranchesLeadToTheirLabels, AddressesArePut, LabelsAreListed, NotesAreListed, NotesAreInOrder}
+use Rattle.oat_asm.proofs.Giving.{before_next, before_grows, before_within, gives-append, GivenBy, given_by, gives_at, reads_at}
 use Rattle.oat_asm.proofs.Ranges.{ahead, behind, branch_in_range}
 use Rattle.oat_asm.proofs.Seen.{count_cons, place_of_cons}
 
+-- ---- places
+
 pub follow : ItemsFollowOneAnother
-follow items k i h =
-    let within = slice_get_within items k i h in
-    place_more items k i within ∙ ap (λ x. place items k + word_count x) (get_or_from_slice_get items k i i h)
+follow items k i at =
+    let e : k + 1 ≡ suc k = omega arith in
+    ap (place items) e ∙ before_next word_count items k i at
+
+pub rise : PlacesRise
+rise items j k less = (before_grows word_count items j k less, before_within word_count items k)
+
+pub of_two : LayoutsAreOfTwo
+of_two place_of base =
+    (gives-append word_count (words_of_item place_of base), gives-append word_count (labels_of_item base), gives-append word_count (notes_of_item base))
 
 -- ---- the place of a label
 
@@ -43,99 +53,36 @@ later_place i items k label true e once more rest = absurd (omega arith)
 later_place i items k label false e once more rest =
     place_of_cons i items label false e ∙ ap (λ n. word_count i + n) (rest (omega arith))
 
-pub label_place : (items : List Item) (k label : ℕ) → StandsOnce items label → slice_get items k ≡ Some (item.Label label) → place_of items label ≡ place items k
+pub label_place : LabelsHaveThePlacesOfTheirItems
 label_place [] k label once h = absurd cc
 label_place (i ∷ items) zero label once h =
     let e : i ≡ item.Label label = cc in
     place_of_cons i items label true (ap (is_label label) e ∙ eq-eqb label label refl)
 label_place (i ∷ items) (suc k) label once h =
     later_place i items k label (is_label label i) refl (sym (count_cons label i items) ∙ once) (counted items k label h) (λ o. label_place items k label o h)
-    ∙ sym (sum_by-cons word_count i (take k items))
 
--- ---- what a layout has at a place
+skipped_by : (x : Item) (xs ys : List Item) (label : ℕ) (b : Bool) → is_label label x ≡ b → cond b 1 0 + count_by (is_label label) xs ≡ 0
+    → (count_by (is_label label) xs ≡ 0 → place_of (xs ++ ys) label ≡ words_needed xs + place_of ys label)
+    → place_of (x ∷ (xs ++ ys)) label ≡ words_needed (x ∷ xs) + place_of ys label
+skipped_by x xs ys label true e none rest = absurd (omega arith)
+skipped_by x xs ys label false e none rest =
+    let later = rest (omega arith) in
+    omega (arith, place_of_cons x (xs ++ ys) label false e, later)
 
-get_left : {A : Type 0} (xs ys : List A) (i : ℕ) (x : A) → slice_get xs i ≡ Some x → slice_get (xs ++ ys) i ≡ Some x
-get_left [] ys i x h = absurd cc
-get_left (a ∷ xs) ys zero x h = h
-get_left (a ∷ xs) ys (suc i) x h = get_left xs ys i x h
-
-get_right : {A : Type 0} (xs ys : List A) (i n : ℕ) → n ≡ length xs + i → slice_get (xs ++ ys) n ≡ slice_get ys i
-get_right [] ys i n h = let e : n ≡ i = omega arith in ap (slice_get ys) e
-get_right (a ∷ xs) ys i zero h = absurd (omega arith)
-get_right (a ∷ xs) ys i (suc n) h = get_right xs ys i n (omega arith)
-
-module _ {A : Type 0} (gives : ℕ → Item → List A) where
-  -- an item gives as much as it has words
-  abbrev AsWords : Type 0
-  AsWords = (here : ℕ) (i : Item) → length (gives here i) ≡ word_count i
-
-  length_give : AsWords → (items : List Item) (d : Item) (n : ℕ) → n ≤ length items → length (first_give gives items n) ≡ place items n
-  length_give sized items d zero h = refl
-  length_give sized items d (suc n) h =
-      let e : n + 1 ≡ suc n = omega arith in
-      let within : n < length items = omega arith in
-      let before = length_give sized items d n (omega arith) in
-      let all = ap length (give_more gives items n d within) in
-      let two = length-append (first_give gives items n) (gives (place items n) (get_or items n d)) in
-      let last = sized (place items n) (get_or items n d) in
-      let next = place_more items n d within in
-      subst (λ m. length (first_give gives items m) ≡ place items m) e (omega (arith, before, all, two, last, next))
-
-  reads_first : AsWords → (items : List Item) (k r : ℕ) (i : Item) (x : A) (n : ℕ) → slice_get items k ≡ Some i → slice_get (gives (place items k) i) r ≡ Some x → k < n → n ≤ length items → slice_get (first_give gives items n) (place items k + r) ≡ Some x
-  reads_first sized items k r i x zero at has below within = absurd (omega arith)
-  reads_first sized items k r i x (suc n) at has below within =
-      elim (cases_lt k n) [
-        | inl less ↦ get_left (first_give gives items n) _ _ x (reads_first sized items k r i x n at has less (omega arith))
-        | inr most ↦
-            let e : k ≡ n = omega arith in
-            let size = length_give sized items i n (omega arith) in
-            get_right (first_give gives items n) (given (gives (place items n)) (slice_get items n)) r _ (ap (λ m. place items m + r) e ∙ ap (λ m. m + r) (sym size))
-            ∙ ap (λ m. slice_get (given (gives (place items m)) (slice_get items m)) r) (sym e)
-            ∙ ap (λ o. slice_get (given (gives (place items k)) o) r) at
-            ∙ has
-      ]
-
-  -- what an item gives stands at its place
-  pub reads : AsWords → (items : List Item) (k r : ℕ) (i : Item) (x : A) → slice_get items k ≡ Some i → slice_get (gives (place items k) i) r ≡ Some x → slice_get (all_give gives items) (place items k + r) ≡ Some x
-  reads sized items k r i x at has =
-      reads_first sized items k r i x (length items) at has (slice_get_within items k i at) (omega arith)
-
-  contains_first : (items : List Item) (k : ℕ) (i : Item) (x : A) (n : ℕ) → slice_get items k ≡ Some i → Contains (gives (place items k) i) x → k < n → Contains (first_give gives items n) x
-  contains_first items k i x zero at has below = absurd (omega arith)
-  contains_first items k i x (suc n) at has below =
-      elim (cases_lt k n) [
-        | inl less ↦ Contains-append_left (first_give gives items n) _ x (contains_first items k i x n at has less)
-        | inr most ↦
-            let e : k ≡ n = omega arith in
-            let here = subst (λ o. Contains (given (gives (place items k)) o) x) (sym at) has in
-            Contains-append_right (first_give gives items n) _ x (subst (λ m. Contains (given (gives (place items m)) (slice_get items m)) x) e here)
-      ]
-
-  pub contains : (items : List Item) (k : ℕ) (i : Item) (x : A) → slice_get items k ≡ Some i → Contains (gives (place items k) i) x → Contains (all_give gives items) x
-  contains items k i x at has = contains_first items k i x (length items) at has (slice_get_within items k i at)
-
-only_one : {A : Type 0} (x : A) → Contains (x ∷ []) x
-only_one x = (0, omega arith, refl)
-
-pub labels_listed : LabelsAreListed
-labels_listed items base k label at =
-    contains (labels_of_item base) items k (item.Label label) _ at (only_one _)
-
-pub notes_listed : NotesAreListed
-notes_listed items base k note at =
-    contains (notes_of_item base) items k (item.Note note) _ at (only_one _)
+pub skipped : LabelsStandBehindOthers
+skipped [] ys label none = omega arith
+skipped (x ∷ xs) ys label none =
+    skipped_by x xs ys label (is_label label x) refl (sym (count_cons label x xs) ∙ none) (λ h. skipped xs ys label h)
 
 -- ---- words, and the instructions that they encode
 
 words_are_counted : (place_of : ℕ → ℕ) (base here : ℕ) (i : Item) → length (words_of_item place_of base here i) ≡ word_count i
 words_are_counted place_of base here (item.Inst i) = refl
-words_are_counted place_of base here (item.Label label) = refl
 words_are_counted place_of base here (item.BranchTo form label) = refl
 words_are_counted place_of base here (item.AddressOf register label) = refl
-words_are_counted place_of base here (item.Mark mark) = refl
-words_are_counted place_of base here (item.Note note) = refl
+words_are_counted place_of base here _ = refl
 
-word_at_place : (code : List ℕ) (p : ℕ) → word_at code (address code_base p) ≡ slice_get code p
+pub word_at_place : WordsStandAtTheirPlaces
 word_at_place code p =
     let whole : nat_eq (address code_base p % 4) 0 ≡ true = eq-eqb (address code_base p % 4) 0 (omega arith) in
     let above : nat_le code_base (address code_base p) ≡ true = le-leb code_base (address code_base p) (omega arith) in
@@ -149,12 +96,13 @@ stands fetches code p i range at =
 -- the r-th instruction of item k
 stands_in : FetchesByTheTable → (items : List Item) (k r : ℕ) (i : Item) (x : Inst) → IsInRange x → slice_get items k ≡ Some i → slice_get (words_of_item (place_of items) code_base (place items k) i) r ≡ Some (word_of x) → instruction_at (code_of items) (address code_base (place items k + r)) ≡ Some x
 stands_in fetches items k r i x range at has =
-    stands fetches (code_of items) (place items k + r) x range (reads (words_of_item (place_of items) code_base) (words_are_counted (place_of items) code_base) items k r i (word_of x) at has)
+    stands fetches (code_of items) (place items k + r) x range
+    (reads_at word_count (words_of_item (place_of items) code_base) (words_are_counted (place_of items) code_base) 0 items k i (place items k) r (place items k + r) (word_of x) at (omega arith) refl has)
 
-first_place : (items : List Item) (k : ℕ) → address code_base (place items k + 0) ≡ address_of items k
+first_place : (items : List Item) (k : ℕ) → address code_base (place items k + 0) ≡ item_address items k
 first_place items k = omega arith
 
-second_place : (items : List Item) (k : ℕ) → address code_base (place items k + 1) ≡ address_of items k + 4
+second_place : (items : List Item) (k : ℕ) → address code_base (place items k + 1) ≡ item_address items k + 4
 second_place items k = omega arith
 
 pub instructions_stand : FetchesByTheTable → InstructionsStandAtTheirAddresses
@@ -169,25 +117,106 @@ leads_by from to false e f t =
     let most = ltb-false to from e in
     rw (ahead from to most) (omega arith)
 
+pub branches_reach : BranchesReachPlaces
+branches_reach form from to is_branch f t =
+    (branch_in_range form from to is_branch f t, leads_by from to (nat_lt to from) refl f t)
+
 pub branches_lead : FetchesByTheTable → BranchesLeadToTheirLabels
 branches_lead fetches items k j form label is_branch once small at labelled =
     let from = place items k in
     let to = place items j in
-    let from_small : from ≤ code_limit = omega (arith, place_le items k) in
-    let to_small : to ≤ code_limit = omega (arith, place_le items j) in
+    let from_small : from ≤ code_limit = omega (arith, before_within word_count items k) in
+    let to_small : to ≤ code_limit = omega (arith, before_within word_count items j) in
     let offset = distance from to in
-    let range = branch_in_range form from to is_branch from_small to_small in
+    let reach = branches_reach form from to is_branch from_small to_small in
     let word = ap (λ p. Some (word_of (branch form (distance from p)))) (label_place items j label once labelled) in
-    let here = stands_in fetches items k 0 (item.BranchTo form label) (branch form offset) range at word in
-    (offset, subst (λ a. instruction_at (code_of items) a ≡ Some (branch form offset)) (first_place items k) here, leads_by from to (nat_lt to from) refl from_small to_small)
+    let here = stands_in fetches items k 0 (item.BranchTo form label) (branch form offset) reach.0 at word in
+    (offset, subst (λ a. instruction_at (code_of items) a ≡ Some (branch form offset)) (first_place items k) here, reach.1)
 
 pub addresses_put : FetchesByTheTable → AddressesArePut
 addresses_put fetches items k j register label few once small at labelled =
-    let to_small : place items j ≤ code_limit = omega (arith, place_le items j) in
+    let to_small : place items j ≤ code_limit = omega (arith, before_within word_count items j) in
     let e = label_place items j label once labelled in
     let i = item.AddressOf register label in
-    let low_range : IsInRange (Movz register 0 (address_of items j % 2 ^ 16)) = (omega arith, (omega arith, (omega arith, tt))) in
-    let high_range : IsInRange (Movk register 1 (address_of items j / 2 ^ 16)) = (omega arith, (omega arith, (omega arith, tt))) in
+    let low_range : IsInRange (Movz register 0 (item_address items j % 2 ^ 16)) = (omega arith, (omega arith, (omega arith, tt))) in
+    let high_range : IsInRange (Movk register 1 (item_address items j / 2 ^ 16)) = (omega arith, (omega arith, (omega arith, tt))) in
     let low = stands_in fetches items k 0 i _ low_range at (ap (λ p. Some (word_of (Movz register 0 (address code_base p % 2 ^ 16)))) e) in
     let high = stands_in fetches items k 1 i _ high_range at (ap (λ p. Some (word_of (Movk register 1 (address code_base p / 2 ^ 16)))) e) in
-    (subst (λ a. instruction_at (code_of items) a ≡ Some (Movz register 0 (address_of items j % 2 ^ 16))) (first_place items k) low, subst (λ a. instruction_at (code_of items) a ≡ Some (Movk register 1 (address_of items j / 2 ^ 16))) (second_place items k) high)
+    (subst (λ a. instruction_at (code_of items) a ≡ Some (Movz register 0 (item_address items j % 2 ^ 16))) (first_place items k) low, subst (λ a. instruction_at (code_of items) a ≡ Some (Movk register 1 (item_address items j / 2 ^ 16))) (second_place items k) high)
+
+-- ---- what is listed
+
+abbrev label_at : ℕ → ℕ → LabelAt
+label_at label at = record { label = label; at = at }
+
+abbrev note_at : Note → ℕ → NoteAt
+note_at note at = record { note = note; at = at }
+
+own_label : (base here : ℕ) (i : Item) (l : LabelAt) → Contains (labels_of_item base here i) l → (i ≡ item.Label l.label) × (l.at ≡ address base here)
+own_label base here (item.Label n) l has =
+    elim (Contains-push_cases [] (label_at n (address base here)) l has) [
+      | inl none ↦ absurd (omega (arith, none.1))
+      | inr same ↦ (ap (λ (x : LabelAt). item.Label x.label) same, sym (ap (λ (x : LabelAt). x.at) same))
+    ]
+own_label base here _ l has = absurd (omega (arith, has.1))
+
+own_note : (base here : ℕ) (i : Item) (n : NoteAt) → Contains (notes_of_item base here i) n → (i ≡ item.Note n.note) × (n.at ≡ address base here)
+own_note base here (item.Note note) n has =
+    elim (Contains-push_cases [] (note_at note (address base here)) n has) [
+      | inl none ↦ absurd (omega (arith, none.1))
+      | inr same ↦ (ap (λ (x : NoteAt). item.Note x.note) same, sym (ap (λ (x : NoteAt). x.at) same))
+    ]
+own_note base here _ n has = absurd (omega (arith, has.1))
+
+pub labels_listed : LabelsAreListed
+labels_listed items base label at = (
+  λ has.
+      let f : GivenBy word_count (labels_of_item base) 0 items (label_at label at) = given_by word_count (labels_of_item base) 0 items (label_at label at) has in
+      let own = own_label base f.there f.thing (label_at label at) f.has in
+      let there = f.is in
+      let placed = own.1 in
+      (f.k, f.at ∙ ap Some own.0, omega arith),
+  λ listed.
+      gives_at word_count (labels_of_item base) 0 items listed.0 (item.Label label) (place items listed.0) (label_at label at) listed.1 (omega arith)
+      (subst (λ a. Contains (label_at label a ∷ []) (label_at label at)) listed.2 (Contains-push [] (label_at label at))),
+)
+
+pub notes_listed : NotesAreListed
+notes_listed items base at note = (
+  λ has.
+      let f : GivenBy word_count (notes_of_item base) 0 items (note_at note at) = given_by word_count (notes_of_item base) 0 items (note_at note at) has in
+      let own = own_note base f.there f.thing (note_at note at) f.has in
+      let there = f.is in
+      let placed = own.1 in
+      (f.k, f.at ∙ ap Some own.0, omega arith),
+  λ listed.
+      gives_at word_count (notes_of_item base) 0 items listed.0 (item.Note note) (place items listed.0) (note_at note at) listed.1 (omega arith)
+      (subst (λ a. Contains (note_at note a ∷ []) (note_at note at)) listed.2 (Contains-push [] (note_at note at))),
+)
+
+-- notes from a place on stand at or behind it
+beyond : (base here : ℕ) (items : List Item) (k : ℕ) (n : NoteAt) → slice_get (items_give (notes_of_item base) here items) k ≡ Some n → address base here ≤ n.at
+beyond base here [] k n at = absurd cc
+beyond base here (item.Note note ∷ items) zero n at =
+    let same : note_at note (address base here) ≡ n = cc in
+    let e = ap (λ (x : NoteAt). x.at) same in
+    omega (arith, e)
+beyond base here (item.Note note ∷ items) (suc k) n at = omega (arith, beyond base (here + 0) items k n at)
+beyond base here (i ∷ items) k n at = omega (arith, beyond base (here + word_count i) items k n at)
+
+in_order : (base here : ℕ) (items : List Item) (j k : ℕ) (one other : NoteAt) → j ≤ k
+    → slice_get (items_give (notes_of_item base) here items) j ≡ Some one → slice_get (items_give (notes_of_item base) here items) k ≡ Some other → one.at ≤ other.at
+in_order base here [] j k one other less first second = absurd cc
+in_order base here (item.Note note ∷ items) zero k one other less first second =
+    let same : note_at note (address base here) ≡ one = cc in
+    let e = ap (λ (x : NoteAt). x.at) same in
+    omega (arith, e, beyond base here (item.Note note ∷ items) k other second)
+in_order base here (item.Note note ∷ items) (suc j) zero one other less first second = absurd (omega arith)
+in_order base here (item.Note note ∷ items) (suc j) (suc k) one other less first second =
+    in_order base (here + 0) items j k one other (omega arith) first second
+in_order base here (i ∷ items) j k one other less first second =
+    in_order base (here + word_count i) items j k one other less first second
+
+pub notes_in_order : NotesAreInOrder
+notes_in_order items base j k one other less first second =
+    in_order base 0 items j k one other less first second

@@ -1,7 +1,7 @@
-pub mod Places
-pub mod Ranges
-pub mod Seen
-pub mod ItemWords
-pub mod LayoutLaws
-pub mod Nops
-pub mod ExpansionProofs
+mod Giving
+mod Loops
+mod Seen
+mod ItemWords
+mod Ranges
+mod LayoutLaws
+mod ExpansionProofs

@@ -1,12 +1,11 @@
 -- Where a label was seen last: a loop over the items finds the place of each label that stands once.
-use Rattle.std.proofs.Common.{◌≡◌, ℕ, suc, ◌+◌, ◌<◌, ◌≤◌, List, [], ◌∷◌, length, take, drop, get_or, refl, sym, ap, ◌∙◌, Bool, true, false, cond, Option, Some, None, add-one, arith}
+use Rattle.std.proofs.Common.{◌≡◌, ℕ, suc, ◌+◌, ◌<◌, ◌≤◌, List, [], ◌∷◌, length, drop, get_or, refl, sym, ap, ◌∙◌, Bool, true, false, cond, Option, Some, None, arith}
 use Rattle.std.specs.Prelude.{unwrap_or}
 use Rattle.std.specs.List.{count_by, position_or_len}
-use Rattle.std.proofs.Math.Seq.{drop-cons}
 use Rattle.std.proofs.lemmas.List.{drop_all}
 use Rattle.std.proofs.lemmas.List.Sums.{sum_by-cons}
 use Rattle.oat_asm.specs.declared.item.Item.{Item}
-use Rattle.oat_asm.specs.Items.{word_count, words_needed, place_of, is_label, StandsOnce}
+use Rattle.oat_asm.specs.Items.{word_count, place, place_of, is_label, StandsOnce}
 
 -- the place of the last item with the label, of those from here on; else what was known
 abbrev pub seen : ℕ → List Item → ℕ → Option ℕ → Option ℕ
@@ -33,7 +32,7 @@ place_of_cons i items label true e = rw e refl
 place_of_cons i items label false e =
     let p = position_or_len (is_label label) items in
     let n : 1 + p ≡ suc p = omega arith in
-    rw e (ap (λ k. words_needed (take k (i ∷ items))) n ∙ sum_by-cons word_count i (take p items))
+    rw e (ap (λ k. place (i ∷ items) k) n)
 
 once_seen_by : (here : ℕ) (i : Item) (items : List Item) (label : ℕ) (known : Option ℕ) (b : Bool) → is_label label i ≡ b → cond b 1 0 + count_by (is_label label) items ≡ 1 → (StandsOnce items label → (known' : Option ℕ) → seen (here + word_count i) items label known' ≡ Some (here + word_count i + place_of items label)) → seen (here + word_count i) items label (cond b (Some here) known) ≡ Some (here + cond b 0 (word_count i + place_of items label))
 once_seen_by here i items label known true e once later =
@@ -53,7 +52,3 @@ pub finds_place : (items : List Item) (i here label : ℕ) (known : Option ℕ) 
 finds_place items i here label known past h once =
     let known_is : known ≡ seen 0 items label None = sym (ap (λ rest. seen here rest label known) (drop_all i items past)) ∙ h in
     ap (λ o. unwrap_or o 0) (known_is ∙ once_seen 0 items label None once) ∙ omega arith
-
--- one item further
-pub see_more : (here : ℕ) (items : List Item) (i : ℕ) (d : Item) (label : ℕ) (known : Option ℕ) → i < length items → seen (here + word_count (get_or items i d)) (drop (i + 1) items) label (cond (is_label label (get_or items i d)) (Some here) known) ≡ seen here (drop i items) label known
-see_more here items i d label known h = rw (add-one, drop-cons items i d h) refl

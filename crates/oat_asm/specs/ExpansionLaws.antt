@@ -2,7 +2,7 @@
 use Rattle.std.specs.Prelude.{◌≡◌, ℕ, ◌^◌, ◌<◌, List, Contains, ⊤, ◌⊎◌}
 use Rattle.std.specs.List.{count_by}
 use Rattle.oat_asm.specs.declared.mark.Mark.{Mark}
-use Rattle.oat_asm.specs.declared.mark.Mark.TheVariants.{Jump, Branch, Call, ICall, Ret, Begin, End, UseCell, DefCell}
+use Rattle.oat_asm.specs.declared.mark.Mark.TheVariants.{Jump, Branch, Call, Begin, End, UseCell, DefCell}
 use Rattle.oat_asm.specs.declared.item.Item.{Item}
 use Rattle.oat_asm.specs.declared.item.Item.TheVariants as item
 use Rattle.oat_asm.specs.Items.{is_label, StandsOnce, UsedLabelsStandOnce, NoMarkIsLeft, InstructionsAreInRange, BranchesAreInRange, AddressesHaveRegisters}
@@ -10,15 +10,11 @@ use Rattle.oat_asm.specs.Expansion.{expansion}
 
 -- ids and cells have 16 bits, and a cell's word is one of the first 65,536
 abbrev pub IsMark : Mark → Type 0
-IsMark (Jump to) = ⊤
-IsMark (Branch taken other) = ⊤
-IsMark (Call to) = ⊤
-IsMark (ICall params) = ⊤
-IsMark Ret = ⊤
 IsMark (Begin op) = op < 2 ^ 16
 IsMark (End op) = op < 2 ^ 16
 IsMark (UseCell cell index) = (cell < 2 ^ 16) × (index < 65536)
 IsMark (DefCell cell index) = (cell < 2 ^ 16) × (index < 65536)
+IsMark _ = ⊤
 
 abbrev pub MarksAreInRange : List Item → Type 0
 MarksAreInRange items = (mark : Mark) → Contains items (item.Mark mark) → IsMark mark
@@ -28,12 +24,7 @@ abbrev pub LeadsTo : Mark → ℕ → Type 0
 LeadsTo (Jump to) label = to ≡ label
 LeadsTo (Branch taken other) label = (taken ≡ label) ⊎ (other ≡ label)
 LeadsTo (Call to) label = to ≡ label
-LeadsTo (ICall params) label = ⊥
-LeadsTo Ret label = ⊥
-LeadsTo (Begin op) label = ⊥
-LeadsTo (End op) label = ⊥
-LeadsTo (UseCell cell index) label = ⊥
-LeadsTo (DefCell cell index) label = ⊥
+LeadsTo _ label = ⊥
 
 abbrev pub MarkedLabelsStandOnce : List Item → Type 0
 MarkedLabelsStandOnce items =

@@ -1,6 +1,6 @@
 -- Items of code, where they stand, and what has to hold of them before they become words (docs/FORMATS.md).
-use Rattle.std.specs.Prelude.{◌≡◌, ℕ, ◌+◌, ◌*◌, ◌≤◌, ◌<◌, ◌^◌, Bool, IsTrue, false, nat_eq, List, take, Contains, ⊤}
-use Rattle.std.specs.List.{sum_by, count_by, position_or_len}
+use Rattle.std.specs.Prelude.{◌≡◌, ℕ, ◌+◌, ◌*◌, ◌≤◌, ◌<◌, ◌^◌, Bool, IsTrue, false, nat_eq, List, Contains, ⊤}
+use Rattle.std.specs.List.{count_by, position_or_len}
 use Rattle.oat_a64.specs.declared.inst.Inst.{Inst}
 use Rattle.oat_a64.specs.Table.{is_condition, IsInRange}
 use Rattle.oat_asm.specs.declared.branch_form.BranchForm.{BranchForm}
@@ -8,31 +8,26 @@ use Rattle.oat_asm.specs.declared.branch_form.BranchForm.TheVariants.{B, Bl, Con
 use Rattle.oat_asm.specs.declared.mark.Mark.{Mark}
 use Rattle.oat_asm.specs.declared.item.Item.{Item}
 use Rattle.oat_asm.specs.declared.item.Item.TheVariants as item
+use Rattle.oat_asm.specs.Giving.{words_in, words_before}
 
 -- an AddressOf has two words, and labels, marks and notes have none
 abbrev pub word_count : Item → ℕ
 word_count (item.Inst inst) = 1
-word_count (item.Label label) = 0
 word_count (item.BranchTo form label) = 1
 word_count (item.AddressOf register label) = 2
-word_count (item.Mark mark) = 0
-word_count (item.Note note) = 0
+word_count _ = 0
 
 -- how many words the items need
 abbrev pub words_needed : List Item → ℕ
-words_needed items = sum_by word_count items
+words_needed items = words_in word_count items
 
 -- the place of item k: how many words stand before it
 abbrev pub place : List Item → ℕ → ℕ
-place items k = words_needed (take k items)
+place items k = words_before word_count items k
 
 abbrev pub is_label : ℕ → Item → Bool
-is_label label (item.Inst inst) = false
 is_label label (item.Label l) = nat_eq l label
-is_label label (item.BranchTo form l) = false
-is_label label (item.AddressOf register l) = false
-is_label label (item.Mark mark) = false
-is_label label (item.Note note) = false
+is_label label _ = false
 
 -- the place of the item at which a label stands
 abbrev pub place_of : List Item → ℕ → ℕ

@@ -1,5 +1,5 @@
 -- The layout of items: the words, labels and notes that they become, each at its address (docs/FORMATS.md; the encodings are those of the Arm A64 manual).
-use Rattle.std.specs.Prelude.{ℕ, zero, suc, ◌/◌, ◌%◌, ◌^◌, ℤ, pos, ◌-ℤ◌, List, [], ◌∷◌, ◌++◌, length, map, Option, None, Some, slice_get}
+use Rattle.std.specs.Prelude.{ℕ, ◌/◌, ◌%◌, ◌^◌, ℤ, pos, ◌-ℤ◌, List, [], ◌∷◌, map}
 use Rattle.oat_a64.specs.declared.inst.Inst.{Inst}
 use Rattle.oat_a64.specs.declared.inst.Inst.TheVariants as inst
 use Rattle.oat_a64.specs.Table.{word_of}
@@ -10,7 +10,8 @@ use Rattle.oat_asm.specs.declared.item.Item.TheVariants as item
 use Rattle.oat_asm.specs.declared.assembled.LabelAt.{LabelAt}
 use Rattle.oat_asm.specs.declared.assembled.NoteAt.{NoteAt}
 use Rattle.oat_asm.specs.declared.assembled.Assembled.{Assembled}
-use Rattle.oat_asm.specs.Items.{place, place_of, address}
+use Rattle.oat_asm.specs.Giving.{gives_from}
+use Rattle.oat_asm.specs.Items.{word_count, place_of, address}
 
 -- the branch of a form over so many words
 abbrev pub branch : BranchForm → ℤ → Inst
@@ -31,47 +32,29 @@ puts register number = inst.Movz register 0 (number % 2 ^ 16) ∷ inst.Movk regi
 -- the instructions of an item at a place, by the place of each label
 abbrev pub instructions : (ℕ → ℕ) → ℕ → ℕ → Item → List Inst
 instructions place_of base here (item.Inst i) = i ∷ []
-instructions place_of base here (item.Label label) = []
 instructions place_of base here (item.BranchTo form label) = branch form (distance here (place_of label)) ∷ []
 instructions place_of base here (item.AddressOf register label) = puts register (address base (place_of label))
-instructions place_of base here (item.Mark mark) = []
-instructions place_of base here (item.Note note) = []
+instructions place_of base here _ = []
 
 abbrev pub words_of_item : (ℕ → ℕ) → ℕ → ℕ → Item → List ℕ
 words_of_item place_of base here i = map word_of (instructions place_of base here i)
 
 abbrev pub labels_of_item : ℕ → ℕ → Item → List LabelAt
-labels_of_item base here (item.Inst i) = []
 labels_of_item base here (item.Label label) = record { label = label; at = address base here } ∷ []
-labels_of_item base here (item.BranchTo form label) = []
-labels_of_item base here (item.AddressOf register label) = []
-labels_of_item base here (item.Mark mark) = []
-labels_of_item base here (item.Note note) = []
+labels_of_item base here _ = []
 
 abbrev pub notes_of_item : ℕ → ℕ → Item → List NoteAt
-notes_of_item base here (item.Inst i) = []
-notes_of_item base here (item.Label label) = []
-notes_of_item base here (item.BranchTo form label) = []
-notes_of_item base here (item.AddressOf register label) = []
-notes_of_item base here (item.Mark mark) = []
 notes_of_item base here (item.Note note) = record { note = note; at = address base here } ∷ []
+notes_of_item base here _ = []
 
-abbrev pub given : {A : Type 0} → (Item → List A) → Option Item → List A
-given gives None = []
-given gives (Some i) = gives i
-
--- what the first n items give, each at its place
-abbrev pub first_give : {A : Type 0} → (ℕ → Item → List A) → List Item → ℕ → List A
-first_give gives items zero = []
-first_give gives items (suc k) = first_give gives items k ++ given (gives (place items k)) (slice_get items k)
-
-abbrev pub all_give : {A : Type 0} → (ℕ → Item → List A) → List Item → List A
-all_give gives items = first_give gives items (length items)
+-- what items give, each at its place, the first of them at the place here
+abbrev pub items_give : {A : Type 0} → (ℕ → Item → List A) → ℕ → List Item → List A
+items_give gives here items = gives_from word_count gives here items
 
 abbrev pub layout : List Item → ℕ → Assembled
 layout items base =
     record {
-      code = all_give (words_of_item (place_of items) base) items;
-      labels = all_give (labels_of_item base) items;
-      notes = all_give (notes_of_item base) items;
+      code = items_give (words_of_item (place_of items) base) 0 items;
+      labels = items_give (labels_of_item base) 0 items;
+      notes = items_give (notes_of_item base) 0 items;
     }

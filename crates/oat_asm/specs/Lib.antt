@@ -1,3 +1,4 @@
+pub mod Giving
 pub mod Items
 pub mod Layout
 pub mod Expansion
@@ -5,4 +6,3 @@ pub mod ExpansionLaws
 pub mod NoteRows
 pub mod Laws
 pub mod Steps
-pub mod Worked

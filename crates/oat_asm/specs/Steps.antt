@@ -23,8 +23,6 @@ SetsLabel old new i here =
 -- what an item's words need, by the place of each label
 abbrev pub HasWords : (ℕ → ℕ) → Item → Type 0
 HasWords place_of (item.Inst inst) = IsInRange inst
-HasWords place_of (item.Label label) = ⊤
 HasWords place_of (item.BranchTo form label) = IsBranch form × (place_of label ≤ code_limit)
 HasWords place_of (item.AddressOf register label) = (register ≤ 30) × (place_of label ≤ code_limit)
-HasWords place_of (item.Mark mark) = ⊤
-HasWords place_of (item.Note note) = ⊤
+HasWords place_of _ = ⊤

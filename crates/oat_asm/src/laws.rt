@@ -2,12 +2,18 @@
 
 ghost use Rattle.oat_asm.specs.Laws.{
   ItemsFollowOneAnother,
+  PlacesRise,
+  LayoutsAreOfTwo,
   LabelsHaveThePlacesOfTheirItems,
+  LabelsStandBehindOthers,
+  WordsStandAtTheirPlaces,
+  BranchesReachPlaces,
   InstructionsStandAtTheirAddresses,
   BranchesLeadToTheirLabels,
   AddressesArePut,
   LabelsAreListed,
   NotesAreListed,
+  NotesAreInOrder,
 };
 ghost use Rattle.oat_asm.specs.ExpansionLaws.{
   ExpansionLeavesNoMark,
@@ -24,9 +30,34 @@ pub fn items_follow_one_another()
     ensures { ItemsFollowOneAnother }
 {}
 
+/// A later item has no lower place.
+pub fn places_rise()
+    ensures { PlacesRise }
+{}
+
+/// The layout of two lists of items is that of the first, and behind its words that of the second.
+pub fn layouts_are_of_two()
+    ensures { LayoutsAreOfTwo }
+{}
+
 /// The place of a label that stands once is that of its item.
 pub fn labels_have_the_places_of_their_items()
     ensures { LabelsHaveThePlacesOfTheirItems }
+{}
+
+/// Behind items among which it isn't, a label stands where it stands in the rest.
+pub fn labels_stand_behind_others()
+    ensures { LabelsStandBehindOthers }
+{}
+
+/// At the address of a place stands the word of that number.
+pub fn words_stand_at_their_places()
+    ensures { WordsStandAtTheirPlaces }
+{}
+
+/// A branch reaches from each place of code to each other.
+pub fn branches_reach_places()
+    ensures { BranchesReachPlaces }
 {}
 
 /// At the address of an instruction among the items stands that instruction.
@@ -50,14 +81,19 @@ pub fn addresses_are_put()
     fetches_by_the_table();
 }
 
-/// Each label is listed with its address.
+/// Labels are listed with the addresses of their items.
 pub fn labels_are_listed()
     ensures { LabelsAreListed }
 {}
 
-/// Each note is listed with its address.
+/// Notes are listed with the addresses of their items.
 pub fn notes_are_listed()
     ensures { NotesAreListed }
+{}
+
+/// Notes are listed in the order of their addresses.
+pub fn notes_are_in_order()
+    ensures { NotesAreInOrder }
 {}
 
 /// No mark is left in an expansion.

@@ -3,7 +3,7 @@
 ghost use Rattle.std.specs.Prelude.{◌≡◌, ◌++◌, ◌^◌, ◌<◌, ◌≤◌, IfOk, OnOk};
 ghost use Rattle.oat_a64.specs.Step.{code_base};
 ghost use Rattle.oat_asm.specs.Items.{address, words_needed, code_limit};
-ghost use Rattle.oat_asm.specs.Layout.{labels_of_item, notes_of_item, all_give};
+ghost use Rattle.oat_asm.specs.Layout.{labels_of_item, notes_of_item, items_give};
 
 use crate::assembled::{LabelAt, NoteAt};
 use crate::item::Item;
@@ -33,7 +33,7 @@ pub(crate) fn address(base: u64, words: u64) -> u64
 pub(crate) fn labels(alloc: Global, items: &[Item], base: u64) -> Result<Vec<LabelAt>, AllocError>
     requires small { words_needed items.now ≤ code_limit }
     requires base { base ≡ code_base }
-    ensures { IfOk result (λ labels. labels.items ≡ all_give (labels_of_item base) items.now) }
+    ensures { IfOk result (λ labels. labels.items ≡ items_give (labels_of_item base) 0 items.now) }
 {
     let mut labels = Vec::new(alloc);
     let mut here = 0;
@@ -65,7 +65,7 @@ fn push_label(
 pub(crate) fn notes(alloc: Global, items: &[Item], base: u64) -> Result<Vec<NoteAt>, AllocError>
     requires small { words_needed items.now ≤ code_limit }
     requires base { base ≡ code_base }
-    ensures { IfOk result (λ notes. notes.items ≡ all_give (notes_of_item base) items.now) }
+    ensures { IfOk result (λ notes. notes.items ≡ items_give (notes_of_item base) 0 items.now) }
 {
     let mut notes = Vec::new(alloc);
     let mut here = 0;

@@ -13,7 +13,7 @@ ghost use Rattle.oat_asm.specs.Items.{
   BranchesAreInRange,
   AddressesHaveRegisters,
 };
-ghost use Rattle.oat_asm.specs.Layout.{branch, distance, puts, words_of_item, all_give};
+ghost use Rattle.oat_asm.specs.Layout.{branch, distance, puts, words_of_item, items_give};
 ghost use Rattle.oat_asm.specs.Steps.{place_in, HasPlaces, HasWords};
 
 use crate::branch_form::BranchForm;
@@ -37,7 +37,7 @@ pub(crate) fn code(
     requires base { base ≡ code_base }
     requires small { words_needed items.now ≤ code_limit }
     requires places { HasPlaces items.now places.now }
-    ensures { IfOk result (λ code. code.items ≡ all_give (words_of_item (place_of items.now) base) items.now) }
+    ensures { IfOk result (λ code. code.items ≡ items_give (words_of_item (place_of items.now) base) 0 items.now) }
 {
     let mut code = Vec::new(alloc);
     let mut here = 0;

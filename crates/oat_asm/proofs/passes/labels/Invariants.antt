@@ -1,11 +1,11 @@
-use Rattle.std.proofs.Common.{◌≡◌}
-use Rattle.oat_asm.specs.Items.{place}
-use Rattle.oat_asm.specs.Layout.{labels_of_item, first_give}
+use Rattle.std.proofs.Common.{◌≡◌, ◌+◌, ◌++◌, drop}
+use Rattle.oat_asm.specs.Items.{words_needed}
+use Rattle.oat_asm.specs.Layout.{labels_of_item, items_give}
 use Rattle.oat_asm.proofs.passes.labels.Given as goal
 
 abbrev pub invariant-loop-item : goal.invariant-loop-item
 invariant-loop-item l =
     record {
-      here : l.here ≡ place l.items l.item-index;
-      so_far : l.labels.items ≡ first_give (labels_of_item l.base) l.items l.item-index;
+      words : l.here + words_needed (drop l.item-index l.items) ≡ words_needed l.items;
+      whole : l.labels.items ++ items_give (labels_of_item l.base) l.here (drop l.item-index l.items) ≡ items_give (labels_of_item l.base) 0 l.items;
     }

@@ -1,6 +1,6 @@
-use Rattle.std.proofs.Common.{◌≡◌}
-use Rattle.oat_asm.specs.Items.{place}
+use Rattle.std.proofs.Common.{◌≡◌, ◌+◌, drop}
+use Rattle.oat_asm.specs.Items.{words_needed}
 use Rattle.oat_asm.proofs.passes.words_needed.Given as goal
 
 abbrev pub invariant-loop-item : goal.invariant-loop-item
-invariant-loop-item l = l.words ≡ place l.items l.item-index
+invariant-loop-item l = l.words + words_needed (drop l.item-index l.items) ≡ words_needed l.items

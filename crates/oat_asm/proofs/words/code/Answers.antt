@@ -2,7 +2,7 @@ use Rattle.std.proofs.Common.{◌++◌, ap, ◌∙◌}
 use Rattle.std.proofs.lemmas.List.Elements.{Contains-get_or}
 use Rattle.oat_asm.specs.Items.{place_of}
 use Rattle.oat_asm.specs.Layout.{words_of_item}
-use Rattle.oat_asm.proofs.Places.{next_place, next_give}
+use Rattle.oat_asm.proofs.Loops.{words_on, gives_on}
 use Rattle.oat_asm.proofs.ItemWords.{has_words, same_words}
 use Rattle.oat_asm.proofs.words.code.Goals as goal
 
@@ -17,7 +17,8 @@ loop-item-preserved c =
     let it = c.args.items.now in
     let test = c.loop-item-test.true in
     let inv = c.loop-item.invariant in
+    let same = same_words it c.args.places.now c.args.base c.loop-item.here r.labels r.places _ (Contains-get_or it c.loop-item.item-index _ test) in
     record {
-      here = next_place _ _ _ _ _ test inv.here c.word_count-here.ensures;
-      so_far = next_give (words_of_item (place_of it) c.args.base) _ _ _ _ _ _ test inv.here inv.so_far (c.in_ok-push_words.ensures ∙ ap (λ w. c.loop-item.code.items ++ w) (same_words it c.args.places.now c.args.base c.loop-item.here r.labels r.places _ (Contains-get_or it c.loop-item.item-index _ test)));
+      words = words_on _ _ _ _ _ _ test c.word_count-here.ensures inv.words;
+      whole = gives_on (words_of_item (place_of it) c.args.base) _ _ _ _ _ _ _ _ test c.word_count-here.ensures inv.whole (c.in_ok-push_words.ensures ∙ ap (λ w. c.loop-item.code.items ++ w) same);
     }
