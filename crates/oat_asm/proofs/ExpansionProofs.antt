@@ -1,5 +1,5 @@
 -- What holds of each item of an expansion: one table says what each mark's group has, and all else follows.
-use Rattle.std.proofs.Common.{◌≡◌, ℕ, ◌+◌, ◌/◌, ◌%◌, ◌^◌, ◌<◌, ◌≤◌, Bool, false, List, [], ◌∷◌, refl, ap, ◌∙◌, inl, inr, cond, arith}
+use Rattle.std.proofs.Common.{◌≡◌, ℕ, ◌/◌, ◌%◌, ◌^◌, ◌<◌, ◌≤◌, Bool, false, List, [], ◌∷◌, refl, ap, ◌∙◌, inl, inr, cond, arith}
 use Rattle.std.specs.Prelude.{Contains, ⊤}
 use Rattle.std.specs.List.{count_by, AllByRecursion}
 use Rattle.std.proofs.lemmas.List.Elements.{Contains-append_cases, Contains-append_right, Contains-append_left, All-contains, All-from_recursion}

@@ -10,14 +10,14 @@ use Rattle.oat_a64.specs.declared.inst.Inst.TheVariants.{Movz, Movk}
 use Rattle.oat_a64.specs.Table.{IsInRange, word_of}
 use Rattle.oat_a64.specs.Fetch.{inst_of}
 use Rattle.oat_a64.specs.Laws.{FetchesByTheTable}
-use Rattle.oat_a64.specs.Step.{code_base, word_at, instruction_at, branch_target}
+use Rattle.oat_a64.specs.Step.{code_base, instruction_at, branch_target}
 use Rattle.oat_asm.specs.declared.item.Item.{Item}
 use Rattle.oat_asm.specs.declared.item.Item.TheVariants as item
 use Rattle.oat_asm.specs.declared.note.Note.{Note}
 use Rattle.oat_asm.specs.declared.assembled.LabelAt.{LabelAt}
 use Rattle.oat_asm.specs.declared.assembled.NoteAt.{NoteAt}
 use Rattle.oat_asm.specs.Items.{word_count, words_needed, place, place_of, address, code_limit, is_label, StandsOnce}
-use Rattle.oat_asm.specs.Layout.{branch, distance, words_of_item, labels_of_item, notes_of_item, items_give, layout}
+use Rattle.oat_asm.specs.Layout.{branch, distance, words_of_item, labels_of_item, notes_of_item, items_give}
 use Rattle.oat_asm.specs.Laws.{code_of, item_address, ItemsFollowOneAnother, PlacesRise, LayoutsAreOfTwo, LabelsHaveThePlacesOfTheirItems, LabelsStandBehindOthers, WordsStandAtTheirPlaces, BranchesReachPlaces, InstructionsStandAtTheirAddresses, BranchesLeadToTheirLabels, AddressesArePut, LabelsAreListed, NotesAreListed, NotesAreInOrder}
 use Rattle.oat_asm.proofs.Giving.{before_next, before_grows, before_within, gives-append, GivenBy, given_by, gives_at, reads_at}
 use Rattle.oat_asm.proofs.Ranges.{ahead, behind, branch_in_range}

@@ -1,4 +1,4 @@
-use Rattle.std.proofs.Common.{◌+◌, arith}
+use Rattle.std.proofs.Common.{arith}
 use Rattle.oat_asm.specs.Layout.{labels_of_item}
 use Rattle.oat_asm.proofs.Loops.{words_on, gives_on}
 use Rattle.oat_asm.proofs.passes.labels.Goals as goal

@@ -1,4 +1,4 @@
-use Rattle.std.proofs.Common.{◌+◌, arith}
+use Rattle.std.proofs.Common.{arith}
 use Rattle.oat_asm.proofs.Loops.{needs_at_most_two, words_on}
 use Rattle.oat_asm.proofs.passes.words_needed.Goals as goal
 
