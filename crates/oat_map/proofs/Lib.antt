@@ -1,5 +1,6 @@
 pub mod RowLemmas
 pub mod StackLemmas
-pub mod TargetLemmas
+mod TargetLemmas
 pub mod WalkLemmas
-pub mod WorkedLemmas
+mod WorkedLemmas
+mod Turning

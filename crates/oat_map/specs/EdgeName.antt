@@ -7,7 +7,7 @@ use Rattle.oat_map.specs.declared.row.Row.TheVariants.{Jump, Branch, Call, ICall
 use Rattle.oat_map.specs.declared.edge.Edge.{Edge}
 use Rattle.oat_map.specs.declared.edge.Edge.TheVariants as edges
 use Rattle.oat_map.specs.declared.map.Map.{Map}
-use Rattle.oat_map.specs.Rows.{address_of, after, entries_of, starts_of}
+use Rattle.oat_map.specs.Rows.{address_of, is_returned_to, entries_of, starts_of}
 
 -- a place: the entry of the function, written `f`, or one of its blocks, written `f.b`
 pub record PlaceName : Type 0 where
@@ -58,13 +58,13 @@ place_name flow place =
     option_or (option_map (λ function. record { function = function.name; block = None })
     (find (λ function. function.entry == place) flow.functions)) (block_name flow place)
 
-abbrev pub is_transfer : Row → Bool
-is_transfer (Jump at to) = true
-is_transfer (Branch at taken other) = true
-is_transfer (Call at to) = true
-is_transfer (ICall at params) = true
-is_transfer (Ret at) = true
-is_transfer _ = false
+abbrev pub is_numbered : Row → Bool
+is_numbered (Jump at to) = true
+is_numbered (Branch at taken other) = true
+is_numbered (Call at to) = true
+is_numbered (ICall at params) = true
+is_numbered (Ret at) = true
+is_numbered _ = false
 
 abbrev pub is_same_place : Option ℕ → Option ℕ → Bool
 is_same_place None None = true
@@ -75,7 +75,7 @@ is_same_place _ _ = false
 -- and a lower address
 abbrev pub is_numbered_before : Map → ℕ → Row → Bool
 is_numbered_before flow address row =
-    is_transfer row && nat_lt (address_of row) address && is_same_place (place_of flow (address_of row)) (place_of flow address)
+    is_numbered row && nat_lt (address_of row) address && is_same_place (place_of flow (address_of row)) (place_of flow address)
 
 -- the site of the row at an address
 abbrev pub site : Map → ℕ → Site
@@ -84,15 +84,9 @@ site flow address = record {
   number = count_by (is_numbered_before flow address) flow.rows;
 }
 
--- the row that calls and has this return site
-abbrev pub returns_to : ℕ → Row → Bool
-returns_to back (Call at to) = after (Call at to) == back
-returns_to back (ICall at params) = after (ICall at params) == back
-returns_to back _ = false
-
 -- a return site is named by its call; an address that is none, by itself
 abbrev pub call_site : Map → ℕ → Site
-call_site flow back = site flow (unwrap_or (option_map address_of (find (returns_to back) flow.rows)) back)
+call_site flow back = site flow (unwrap_or (option_map address_of (find (is_returned_to back) flow.rows)) back)
 
 abbrev pub name_of : Map → Edge → EdgeName
 name_of flow (edges.Jump from to) = jump (site flow from) (place_name flow to)

@@ -2,6 +2,8 @@ pub mod EdgeName
 pub mod Name
 pub mod Rows
 pub mod Stack
+pub mod StackLaws
+pub mod TurnLaws
 pub mod Turns
 pub mod Walk
 pub mod Worked

@@ -80,3 +80,13 @@ pub record IsIndirectTarget (functions : List Function) (params target : ℕ) : 
 -- whether the function has its entry there, and may be called by an indirect call with so many parameters
 abbrev pub is_called_at : ℕ → ℕ → Function → Bool
 is_called_at params target function = (function.entry == target) && (function.params == params) && function.referenced
+
+-- whether the row is a call
+abbrev pub is_call : Row → Bool
+is_call (Call at to) = true
+is_call (ICall at params) = true
+is_call _ = false
+
+-- whether the row is a call with this return site
+abbrev pub is_returned_to : ℕ → Row → Bool
+is_returned_to to row = is_call row && (after row == to)

@@ -1,5 +1,9 @@
 -- What an edge does to the calls that are open, and paths that go back as they called.
-use Rattle.std.specs.Prelude.{◌≡◌, List, [], ◌∷◌, ◌++◌}
+use Rattle.std.specs.Prelude.{◌≡◌, ℕ, List, [], ◌∷◌, ◌++◌}
+use Rattle.oat_map.specs.declared.row.Row.TheVariants.{Call, ICall}
+use Rattle.oat_map.specs.declared.edge.Edge.{Edge}
+use Rattle.oat_map.specs.declared.edge.Edge.TheVariants as edges
+use Rattle.oat_map.specs.Rows.{after}
 
 -- An edge opens a call that is to return to `back`, goes back there, or leaves the open calls as they are; a stray edge does what no path may do.
 pub data Turn (P : Type 0) : Type 0 where
@@ -19,3 +23,11 @@ Turned calls strays Rest = ⊥
 abbrev pub GoesBack : {E P : Type 0} → (E → Turn P) → List P → List E → Type 0
 GoesBack turn calls [] = calls ≡ []
 GoesBack turn calls (edge ∷ path) = Turned calls (turn edge) (λ later. GoesBack turn later path)
+
+-- the edges of a map, with the return sites of their calls
+abbrev pub turn_of : Edge → Turn ℕ
+turn_of (edges.Call from to) = pushes (after (Call from to))
+turn_of (edges.ICall from to) = pushes (after (ICall from 0))
+turn_of (edges.Ret from to) = pops to
+turn_of (edges.Stray from to) = strays
+turn_of _ = stays

@@ -43,8 +43,8 @@ calls_path = edges.Call 0x10018 0x10084 ∷ edges.Ret 0x10094 0x1001C ∷ edges.
     ∷ edges.ICall 0x10034 0x1009C ∷ edges.Ret 0x100A0 0x1003C ∷ edges.Branch 0x10058 true 0x10064 ∷ edges.Jump 0x10068 0x1006C
     ∷ edges.End 2 ∷ []
 
-abbrev pub entry_of : List ℕ → Option PlaceName
-entry_of function = Some (record { function = function; block = None })
+abbrev pub entry_named : List ℕ → Option PlaceName
+entry_named function = Some (record { function = function; block = None })
 
 abbrev pub work_block : List ℕ → Option PlaceName
 work_block label = Some (record { function = codes "work"; block = Some label })
@@ -53,7 +53,7 @@ abbrev pub site_in : Option PlaceName → ℕ → Site
 site_in place number = record { place = place; number = number }
 
 abbrev pub calls_names : List EdgeName
-calls_names = let work = entry_of (codes "work") in let helper = entry_of (codes "helper") in let up = entry_of (codes "up") in
+calls_names = let work = entry_named (codes "work") in let helper = entry_named (codes "helper") in let up = entry_named (codes "up") in
     call (site_in work 0) helper ∷ return (site_in helper 0) (site_in work 0)
     ∷ call (site_in work 1) helper ∷ return (site_in helper 0) (site_in work 1)
     ∷ icall (site_in work 2) up ∷ return (site_in up 0) (site_in work 2)

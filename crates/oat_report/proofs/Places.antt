@@ -5,7 +5,7 @@ use Rattle.std.proofs.lemmas.List.Sums.{fold-append}
 use mathlib.Core.Path.{fun_ext}
 use Rattle.oat_map.specs.declared.map.Map.{Map}
 use Rattle.oat_map.specs.Rows.{address_of, entries_of, starts_of}
-use Rattle.oat_map.specs.EdgeName.{place_of, places, later_of, is_same_place, is_numbered_before, is_transfer}
+use Rattle.oat_map.specs.EdgeName.{place_of, places, later_of, is_same_place, is_numbered_before, is_numbered}
 use Rattle.oat_report.specs.Counting.{is_not_above, is_counted}
 
 abbrev pub greatest : Option ℕ → List ℕ → ℕ → Option ℕ
@@ -49,7 +49,7 @@ is_below : (b a : ℕ) → nat_lt b a ≡ true → b < a
 is_below b a test = grind arith
 
 pub is_numbered_before-counted : (flow : Map) (a : ℕ) → is_numbered_before flow a ≡ is_counted (place_of flow a) a
-is_numbered_before-counted flow a = fun_ext (λ row. only_where (is_transfer row) (nat_lt (address_of row) a) _ _ (λ test. is_same_place-lower flow a (address_of row) (is_below _ _ test)))
+is_numbered_before-counted flow a = fun_ext (λ row. only_where (is_numbered row) (nat_lt (address_of row) a) _ _ (λ test. is_same_place-lower flow a (address_of row) (is_below _ _ test)))
 
 pub place_of-parts : (flow : Map) (a : ℕ)
     → place_of flow a ≡ greatest (greatest None (entries_of flow.functions) a) (starts_of flow.blocks) a

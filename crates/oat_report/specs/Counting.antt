@@ -2,7 +2,7 @@
 use Rattle.std.specs.Prelude.{ℕ, Bool, true, ◌&&◌, Option, None, Some, nat_le, nat_lt}
 use Rattle.oat_map.specs.declared.row.Row.{Row}
 use Rattle.oat_map.specs.Rows.{address_of}
-use Rattle.oat_map.specs.EdgeName.{is_transfer}
+use Rattle.oat_map.specs.EdgeName.{is_numbered}
 
 -- the place isn't above the address
 abbrev pub is_not_above : Option ℕ → ℕ → Bool
@@ -10,4 +10,4 @@ is_not_above None address = true
 is_not_above (Some place) address = nat_le place address
 
 abbrev pub is_counted : Option ℕ → ℕ → Row → Bool
-is_counted place address row = is_transfer row && nat_lt (address_of row) address && is_not_above place (address_of row)
+is_counted place address row = is_numbered row && nat_lt (address_of row) address && is_not_above place (address_of row)

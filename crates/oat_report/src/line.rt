@@ -2,8 +2,8 @@
 
 ghost use Rattle.std.specs.Prelude.{◌≡◌, ◌++◌, ◌↔◌, IsTrue, OnOk, IfOk, find, option_map, unwrap_or, codes};
 ghost use Rattle.std.specs.Fmt.{decimal};
-ghost use Rattle.oat_map.specs.Rows.{address_of};
-ghost use Rattle.oat_map.specs.EdgeName.{place_name, block_name, function_below, site, call_site, returns_to};
+ghost use Rattle.oat_map.specs.Rows.{address_of, is_returned_to};
+ghost use Rattle.oat_map.specs.EdgeName.{place_name, block_name, function_below, site, call_site};
 ghost use Rattle.oat_report.specs.PathLine.{place_text, site_text, space, line_of, IsOfRow};
 
 use crate::place::{block_at, function_at, last_below, number_in_place, place_at_or_below};
@@ -56,14 +56,14 @@ fn put_site(out: &mut Vec<u8>, map: &Map, address: u64) -> Result<(), AllocError
 
 /// Whether a row calls and is returned to at `back`.
 fn is_returned_to(row: &Row, back: u64) -> bool
-    ensures { result ≡ returns_to back row.now }
+    ensures { result ≡ is_returned_to back row.now }
 {
     matches!(row, Row::Call { .. } | Row::ICall { .. }) && row.after() == back
 }
 
 /// The address of the call that is returned to at `back`, or `back` where there is none.
 fn call_of(rows: &[Row], back: u64) -> u64
-    ensures { result ≡ unwrap_or (option_map address_of (find (returns_to back) rows.now)) back }
+    ensures { result ≡ unwrap_or (option_map address_of (find (is_returned_to back) rows.now)) back }
 {
     match rows.iter().find(|row| is_returned_to(row, back)) {
         Some(row) => row.address(),

@@ -3,7 +3,7 @@
 ghost use Rattle.std.specs.Prelude.{◌≡◌, ◌↔◌, ◌++◌, ◌<◌, ◌≤◌, IsTrue, Option, Some, OnOk, MatchOption, count_by, filter, fold, nat_le, None, if◌then◌else◌, ◌==◌, find, reverse, nat_lt};
 ghost use Rattle.std.specs.Option.{option_copied};
 ghost use Rattle.oat_map.specs.Rows.{entries_of, starts_of};
-ghost use Rattle.oat_map.specs.EdgeName.{place_of, places, later_of, place_name, function_below, is_numbered_before, is_transfer, call_site, site};
+ghost use Rattle.oat_map.specs.EdgeName.{place_of, places, later_of, place_name, function_below, is_numbered_before, is_numbered, call_site, site};
 ghost use Rattle.oat_report.specs.Counting.{is_counted, is_not_above};
 
 use oat_map::{Block, Function, Map, Name, Row};
@@ -50,8 +50,8 @@ pub fn place_at_or_below(map: &Map, address: u64) -> Option<u64>
     greatest_start(map.blocks.as_slice(), entry, address)
 }
 
-fn is_transfer(row: &Row) -> bool
-    ensures { result ≡ is_transfer row.now }
+fn is_numbered(row: &Row) -> bool
+    ensures { result ≡ is_numbered row.now }
 {
     matches!(
         row,
@@ -67,7 +67,7 @@ fn is_transfer(row: &Row) -> bool
 fn is_counted(row: &Row, place: Option<u64>, address: u64) -> bool
     ensures { result ≡ is_counted place address row.now }
 {
-    is_transfer(row) && row.address() < address && place.is_none_or(|place| place <= row.address())
+    is_numbered(row) && row.address() < address && place.is_none_or(|place| place <= row.address())
 }
 
 fn count_rows(rows: &[Row], place: Option<u64>, address: u64) -> usize

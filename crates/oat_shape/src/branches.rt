@@ -2,8 +2,7 @@ ghost use Rattle.std.specs.Prelude.{◌↔◌, IsTrue, ℕ};
 ghost use Rattle.oat_a64.specs.declared.inst.Inst.TheVariants.{B, Bl, Cbnz, Brk};
 ghost use Rattle.oat_shape.specs.Groups.{Branches, SkipsOne, Stands};
 
-use crate::code::{branch_target, instruction_at};
-use oat_a64::Inst;
+use oat_a64::{Inst, branch_target, instruction_at};
 
 /// Whether a B at `address` leads there.
 pub(crate) fn jumps(code: &[u32], address: u64, to: u64) -> bool

@@ -3,9 +3,8 @@ ghost use Rattle.oat_a64.specs.Fetch.{inst_of};
 ghost use Rattle.oat_a64.specs.Step.{code_base};
 ghost use Rattle.oat_shape.specs.Lowest.{Lowest, EachAt};
 
-use crate::code::CODE_BASE;
 use crate::lowest::note;
-use oat_a64::decode;
+use oat_a64::{CODE_BASE, decode};
 
 /// Shape rule S1: the lowest word that doesn't decode.
 pub(crate) fn lowest_undecoded(code: &[u32]) -> Option<u64>

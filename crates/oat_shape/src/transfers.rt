@@ -4,10 +4,9 @@ ghost use Rattle.oat_shape.specs.Lowest.{Lowest, EachAt};
 ghost use Rattle.oat_shape.specs.Parts.{AreApart, AreWithin, StandsInGroup};
 ghost use Rattle.oat_shape.specs.Shape.{is_measured, is_transfer};
 
-use crate::code::CODE_BASE;
 use crate::covers::is_covered;
 use crate::lowest::note;
-use oat_a64::{Inst, decode};
+use oat_a64::{CODE_BASE, Inst, decode};
 use oat_map::Row;
 
 /// Shape rule S3, of words: the lowest transfer instruction or measured call outside all groups.
