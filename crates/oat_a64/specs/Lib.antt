@@ -2,3 +2,4 @@ pub mod Table
 pub mod Fetch
 pub mod Laws
 pub mod Step
+pub mod Kinds

@@ -10,9 +10,10 @@ use Rattle.oat_map.specs.declared.edge.Edge.TheVariants as edges
 use Rattle.oat_map.specs.declared.row.Row.TheVariants as rows
 use Rattle.oat_image.specs.declared.image.Image.{Image}
 use Rattle.oat_measure.specs.Monitor.{ends, defines, uses, call_of}
-use Rattle.oat_shape.specs.Groups.{Stands, global_address}
-use Rattle.oat_shape.specs.Run.{Entry}
-use Rattle.oat_shape.specs.Window.{made_call}
+use Rattle.oat_shape.specs.Groups.{Stands}
+use Rattle.oat_mem.specs.DataMemory.{global_address}
+use Rattle.oat_journal.specs.Run.{Entry}
+use Rattle.oat_journal.specs.Window.{made_call}
 use Rattle.oat_attest.specs.Headline.{AllReadByLoad}
 use Rattle.oat_attest.proofs.Lists.{contains-get}
 use Rattle.oat_attest.proofs.Laid.{IsLaid}

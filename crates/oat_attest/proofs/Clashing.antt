@@ -21,11 +21,11 @@ use Rattle.oat_map.specs.declared.row.Row.{Row}
 use Rattle.oat_map.specs.declared.row.Row.TheVariants as rows
 use Rattle.oat_map.specs.Walk.{Step, passed, moved, edge_of, path_of, return_of, returns_of, return_site_of, Returns, RowGoes, Leads, Walk}
 use Rattle.oat_measure.specs.Monitor.{Call, begins, ends, bit, target, returns, defines, uses, call_of}
-use Rattle.oat_shape.specs.Run.{Entry}
-use Rattle.oat_shape.specs.Journal.{IsEntryBounded}
-use Rattle.oat_shape.specs.Window.{made_call, returned, returns_of_run}
-use Rattle.oat_device.specs.Measured.{dev, body_of, window_of}
-use Rattle.oat_device.proofs.Traces.{windows_are_traces, runs_report_their_window}
+use Rattle.oat_journal.specs.Run.{Entry}
+use Rattle.oat_journal.specs.Journal.{IsEntryBounded}
+use Rattle.oat_journal.specs.Window.{made_call, returned, returns_of_run}
+use Rattle.oat_journal.specs.Measured.{dev, body_of, window_of}
+use Rattle.oat_journal.proofs.Traces.{windows_are_traces, runs_report_their_window}
 use Rattle.oat_verify.specs.Verdict.{Accepts, head_of, subject_of}
 use Rattle.oat_attest.specs.Headline.{opening_of, returns_of_window, ClashOfUnequalReturns}
 

@@ -14,9 +14,9 @@ use Rattle.oat_map.specs.declared.row.Row.TheVariants as rows
 use Rattle.oat_image.specs.declared.image.Image.{Image}
 use Rattle.oat_measure.specs.Monitor.{bit, target, returns, uses, ends as stops, call_of}
 use Rattle.oat_shape.specs.Groups.{Stands}
-use Rattle.oat_shape.specs.Run.{Entry}
-use Rattle.oat_shape.specs.Journal.{takes_input}
-use Rattle.oat_shape.specs.Window.{edge_over}
+use Rattle.oat_journal.specs.Run.{Entry}
+use Rattle.oat_journal.specs.Journal.{takes_input}
+use Rattle.oat_journal.specs.Window.{edge_over}
 use Rattle.oat_attest.specs.Headline.{AllReadByLoad}
 use Rattle.oat_attest.proofs.Laid.{IsLaid}
 use Rattle.oat_attest.proofs.Trails.{Runs, machine, moved_to, GoesOn, entry_by, pop, Shown, took, told, trail, loads-cons, Crossed}

@@ -8,10 +8,10 @@ use Rattle.oat_chain.proofs.Messages.{decided}
 use Rattle.oat_image.specs.declared.image.Image.{Image}
 use Rattle.oat_map.specs.declared.edge.Edge.{Edge}
 use Rattle.oat_map.specs.Walk.{returns_of}
-use Rattle.oat_shape.specs.Uses.{IsSound}
-use Rattle.oat_device.specs.Measured.{dev, body_of, uses_of}
-use Rattle.oat_device.proofs.Sealing.{sound-uses}
-use Rattle.oat_device.proofs.Reports.{runs_report_exactly}
+use Rattle.oat_journal.specs.Uses.{IsSound}
+use Rattle.oat_journal.specs.Measured.{dev, body_of, uses_of}
+use Rattle.oat_journal.proofs.Sealing.{sound-uses}
+use Rattle.oat_journal.proofs.Reports.{runs_report_exactly}
 use Rattle.oat_verify.specs.Verdict.{Accepts, subject_of}
 use Rattle.oat_attest.proofs.Joining.{same_path}
 use Rattle.oat_attest.proofs.Clashing.{clash_of_unequal_returns}

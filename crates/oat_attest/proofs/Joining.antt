@@ -16,15 +16,15 @@ use Rattle.oat_image.specs.declared.image.Image.{Image}
 use Rattle.oat_measure.specs.Monitor.{Call, ends, uses}
 use Rattle.oat_blob.specs.Body.{Body}
 use Rattle.oat_blob.proofs.OneLayout.{one_body}
-use Rattle.oat_shape.specs.Run.{Entry, Given, start_memory}
-use Rattle.oat_shape.specs.Groups.{global_address}
+use Rattle.oat_journal.specs.Run.{Entry, Given, start_memory}
+use Rattle.oat_mem.specs.DataMemory.{global_address}
 use Rattle.oat_mem.specs.DataMemory.{word_in}
-use Rattle.oat_shape.specs.Journal.{IsMade}
-use Rattle.oat_shape.specs.Window.{made_call, executed_path, returned, recorded_bit, bits_of_run, recorded_target, targets_of_run}
-use Rattle.oat_shape.specs.Uses.{CheckedUse, defined_value, use_behind, uses_behind}
-use Rattle.oat_device.specs.Measured.{Run, dev, body_of, window_of, start_cells}
-use Rattle.oat_device.specs.Trace.{IsQuiet, IsTrace}
-use Rattle.oat_device.proofs.Traces.{windows_are_traces, runs_report_their_window}
+use Rattle.oat_journal.specs.Journal.{IsMade}
+use Rattle.oat_journal.specs.Window.{made_call, executed_path, returned, recorded_bit, bits_of_run, recorded_target, targets_of_run}
+use Rattle.oat_journal.specs.Uses.{CheckedUse, defined_value, use_behind, uses_behind}
+use Rattle.oat_journal.specs.Measured.{Run, dev, body_of, window_of, start_cells}
+use Rattle.oat_journal.specs.Trace.{IsQuiet, IsTrace}
+use Rattle.oat_journal.proofs.Traces.{windows_are_traces, runs_report_their_window}
 use Rattle.oat_verify.specs.Verdict.{Accepts, subject_of}
 use Rattle.oat_attest.specs.Headline.{IsSetting, opening_of, IsReported, path_of_run, returns_of_window, PartsAt, PassesCells, SamePath, Lockstep}
 use Rattle.oat_attest.proofs.Laid.{IsLaid, laid, end_of, IsClear}

@@ -16,8 +16,11 @@ use Rattle.oat_image.specs.declared.image.Image.{Image}
 use Rattle.oat_image.specs.Grammar.{IsWellFormed, IsRow, IsIndex}
 use Rattle.oat_shape.specs.Groups.{Stands, IsGroup}
 use Rattle.oat_shape.specs.MapRules.{LeadsToPlaces}
-use Rattle.oat_shape.specs.Shape.{IsShaped, is_transfer, is_measured, Covers, IsPlaceOrSite}
-use Rattle.oat_shape.specs.Window.{is_over, row_over}
+use Rattle.oat_shape.specs.Shape.{IsShaped, Covers, IsPlaceOrSite}
+use Rattle.oat_a64.specs.Kinds.{is_measured}
+use Rattle.oat_a64.specs.Kinds.{is_transfer}
+use Rattle.oat_map.specs.Rows.{row_over}
+use Rattle.oat_map.specs.Rows.{is_over}
 use Rattle.oat_attest.proofs.Lists.{contains-get, get-contains, each, found-only}
 
 -- the address behind a row's group

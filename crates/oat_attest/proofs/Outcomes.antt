@@ -12,8 +12,8 @@ use Rattle.oat_map.specs.Rows.{next}
 use Rattle.oat_map.specs.Walk.{Step, moved, edge_of, path_of, bit_of, bits_of, target_of, targets_of, return_of, returns_of, Returns, RowGoes}
 use Rattle.oat_image.specs.declared.image.Image.{Image}
 use Rattle.oat_measure.specs.Monitor.{Call, uses}
-use Rattle.oat_shape.specs.Run.{Entry}
-use Rattle.oat_shape.specs.Window.{returned, recorded_bit, recorded_target}
+use Rattle.oat_journal.specs.Run.{Entry}
+use Rattle.oat_journal.specs.Window.{returned, recorded_bit, recorded_target}
 use Rattle.oat_attest.specs.Headline.{AllReadByLoad, PassesCells, IsReturn, cell_of}
 use Rattle.oat_attest.proofs.Trails.{Runs, moved_to, Shown, trail, edge_taken, seen_of, edges_taken, seen, Crossed}
 

@@ -13,8 +13,9 @@ use Rattle.oat_map.specs.declared.row.Row.TheVariants.{Jump, Branch, Call, ICall
 use Rattle.oat_map.specs.Rows.{after, entries_of, IsIndirectTarget}
 use Rattle.oat_map.specs.Walk.{Step, passed, moved, return_site_of, Returns, RowGoes}
 use Rattle.oat_image.specs.declared.image.Image.{Image}
-use Rattle.oat_shape.specs.Shape.{is_call, IsReturnSite}
-use Rattle.oat_shape.specs.Window.{is_target, is_returned_to}
+use Rattle.oat_shape.specs.Shape.{IsReturnSite}
+use Rattle.oat_map.specs.Rows.{is_call}
+use Rattle.oat_journal.specs.Window.{is_target, is_returned_to}
 use Rattle.oat_attest.proofs.Lists.{contains-get, get-contains}
 use Rattle.oat_attest.proofs.Laid.{IsLaid, IsClear}
 

@@ -16,10 +16,11 @@ use Rattle.oat_map.specs.Rows.{address_of, next}
 use Rattle.oat_image.specs.declared.image.Image.{Image}
 use Rattle.oat_measure.specs.Monitor.{Call as MonitorCall, ends, uses, call_of, call_numbered}
 use Rattle.oat_shape.specs.Groups.{Stands, IsGroup}
-use Rattle.oat_shape.specs.Run.{Entry, pc_of}
-use Rattle.oat_shape.specs.Journal.{IsMade, takes_input}
-use Rattle.oat_shape.specs.Shape.{is_transfer, is_measured}
-use Rattle.oat_shape.specs.Window.{made_call, edge_of}
+use Rattle.oat_journal.specs.Run.{Entry, pc_of}
+use Rattle.oat_journal.specs.Journal.{IsMade, takes_input}
+use Rattle.oat_a64.specs.Kinds.{is_measured}
+use Rattle.oat_a64.specs.Kinds.{is_transfer}
+use Rattle.oat_journal.specs.Window.{made_call, edge_of}
 use Rattle.oat_attest.proofs.Laid.{IsLaid, IsNext, IsClear}
 use Rattle.oat_attest.proofs.Trails.{GoesOn, Runs, last, more, moved_to, took, told, trail, loads-cons, Crossed}
 

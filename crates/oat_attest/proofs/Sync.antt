@@ -11,8 +11,8 @@ use Rattle.oat_map.specs.Rows.{address_of, next}
 use Rattle.oat_map.specs.Walk.{Step, passed, moved, path_of, bits_of, targets_of, Returns, RowGoes, Leads}
 use Rattle.oat_image.specs.declared.image.Image.{Image}
 use Rattle.oat_measure.specs.Monitor.{bit, target, returns}
-use Rattle.oat_shape.specs.Run.{Entry}
-use Rattle.oat_shape.specs.Window.{edge_over, is_target, is_returned_to, returned, recorded_bit, recorded_target}
+use Rattle.oat_journal.specs.Run.{Entry}
+use Rattle.oat_journal.specs.Window.{edge_over, is_target, is_returned_to, returned, recorded_bit, recorded_target}
 use Rattle.oat_attest.specs.Headline.{IsReturn}
 use Rattle.oat_attest.proofs.Laid.{IsLaid, IsClear}
 use Rattle.oat_attest.proofs.Trails.{Shown, took, told, trail, edges_taken, seen, Crossed, crossed-then}

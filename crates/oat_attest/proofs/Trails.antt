@@ -9,9 +9,9 @@ use Rattle.oat_map.specs.declared.map.Map.{Map}
 use Rattle.oat_image.specs.declared.image.Image.{Image}
 use Rattle.oat_measure.specs.Monitor.{Call, ends, uses, call_of}
 use Rattle.oat_shape.specs.Groups.{Stands}
-use Rattle.oat_shape.specs.Run.{Entry}
-use Rattle.oat_shape.specs.Journal.{IsMade, takes_input}
-use Rattle.oat_shape.specs.Window.{made_call, edge_of}
+use Rattle.oat_journal.specs.Run.{Entry}
+use Rattle.oat_journal.specs.Journal.{IsMade, takes_input}
+use Rattle.oat_journal.specs.Window.{made_call, edge_of}
 use Rattle.oat_attest.specs.Headline.{AllReadByLoad}
 
 -- ---- runs

@@ -19,12 +19,13 @@ use Rattle.oat_mem.specs.DataMemory.{word_in}
 use Rattle.oat_a64.specs.declared.inst.Inst.TheVariants.{Ldr}
 use Rattle.oat_measure.specs.Monitor.{uses}
 use Rattle.oat_measure.specs.declared.opening.Opening.{Opening}
-use Rattle.oat_shape.specs.Shape.{IsShaped, BeginsAt}
-use Rattle.oat_shape.specs.Groups.{global_address}
-use Rattle.oat_shape.specs.Run.{Entry, Given}
-use Rattle.oat_shape.specs.Window.{executed_path, returns_of_run, made_call}
-use Rattle.oat_shape.specs.Uses.{IsSound}
-use Rattle.oat_device.specs.Measured.{Run, dev, opening, IsSealed, body_of, window_of, uses_of, first_unsound}
+use Rattle.oat_shape.specs.Shape.{IsShaped}
+use Rattle.oat_map.specs.Rows.{BeginsAt}
+use Rattle.oat_mem.specs.DataMemory.{global_address}
+use Rattle.oat_journal.specs.Run.{Entry, Given}
+use Rattle.oat_journal.specs.Window.{executed_path, returns_of_run, made_call}
+use Rattle.oat_journal.specs.Uses.{IsSound}
+use Rattle.oat_journal.specs.Measured.{Run, dev, opening, IsSealed, body_of, window_of, uses_of, first_unsound}
 use Rattle.oat_verify.specs.Verdict.{Accepts, subject_of, head_of}
 
 -- ---- what a run and an accepted path are compared by

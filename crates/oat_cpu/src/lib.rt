@@ -11,3 +11,4 @@ mod tests;
 mod value;
 
 pub use cpu::Cpu;
+pub use oat_a64::{Event, FaultKind};

@@ -1,8 +1,3 @@
-pub mod Sealing
-pub mod Reports
-pub mod OneJump
-pub mod Traces
-pub mod Turns
 pub mod WritesDue
 pub mod Spacing
 pub mod Rooms

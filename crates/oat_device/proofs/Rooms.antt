@@ -14,13 +14,13 @@ use Rattle.oat_case.specs.declared.case.Write.{Write}
 use Rattle.oat_case.specs.Limits.{IsInLimits, RisesFrom}
 use Rattle.oat_measure.specs.declared.engine.Engine.{Engine}
 use Rattle.oat_measure.specs.Monitor.{Call, call_numbered}
-use Rattle.oat_shape.specs.Run.{Running, found, makes, told, called, takes, turn}
+use Rattle.oat_journal.specs.Run.{Running, found, makes, told, called, takes, turn}
 use Rattle.oat_device.specs.Records.{bits_taken, targets_taken}
 use Rattle.oat_device.specs.declared.bare.BareRun.{BareRun}
 use Rattle.oat_device.specs.declared.course.Course.{Course}
 use Rattle.oat_device.specs.Standing.{HasRoom, IsReady, IsSpaced, opening_of, spare_bits, spare_targets}
-use Rattle.oat_device.specs.Turns.{call_told}
-use Rattle.oat_device.proofs.Turns.{turn-going}
+use Rattle.oat_journal.specs.Progress.{call_told}
+use Rattle.oat_journal.proofs.Progress.{turn-going}
 
 -- an instruction that takes a record of one kind, and leads on
 abbrev pub Takes : List ℕ → ℕ → ℕ → ℕ → ℕ → Type 0

@@ -18,18 +18,18 @@ use Rattle.oat_measure.specs.declared.engine.Engine.TheVariants as engine
 use Rattle.oat_measure.specs.declared.opening.Opening.{Opening}
 use Rattle.oat_measure.specs.Measurement.{State, booted, measured, sealed}
 use Rattle.oat_measure.specs.Monitored.{Monitored}
-use Rattle.oat_shape.specs.declared.end.DeviceEnd.{DeviceEnd}
-use Rattle.oat_shape.specs.declared.end.DeviceEnd.TheVariants.{OutOfSteps}
+use Rattle.oat_journal.specs.declared.end.DeviceEnd.{DeviceEnd}
+use Rattle.oat_journal.specs.declared.end.DeviceEnd.TheVariants.{OutOfSteps}
 use Rattle.oat_shape.specs.MapRules.{S7}
-use Rattle.oat_shape.specs.Run.{found, makes, poked, start_memory, turn, turn_of}
+use Rattle.oat_journal.specs.Run.{found, makes, poked, start_memory, turn, turn_of}
 use Rattle.oat_shape.specs.Shape.{Holds, IsShaped}
 use Rattle.oat_shape.proofs.Scans.{at_contains}
 use Rattle.oat_device.specs.declared.course.Course.{Course}
 use Rattle.oat_device.specs.Bare.{DoesFrom, running_of}
-use Rattle.oat_device.specs.Measured.{Run, dev, start_cells, opening, body_of, IsSealed}
+use Rattle.oat_journal.specs.Measured.{Run, dev, start_cells, opening, body_of, IsSealed}
 use Rattle.oat_device.specs.Standing.{IsOpening, IsReady, Stands, end_of, opening_of, progress_of, reported, state_of}
-use Rattle.oat_device.specs.Turns.{Progress, after_turns, behind, call_told, first_of, going_on, next_of, progress_of_run}
-use Rattle.oat_device.proofs.Turns.{Ends, turns_are_the_run}
+use Rattle.oat_journal.specs.Progress.{Progress, after_turns, behind, call_told, first_of, going_on, next_of, progress_of_run}
+use Rattle.oat_journal.proofs.Progress.{Ends, turns_are_the_run}
 
 -- ---- the one opening
 

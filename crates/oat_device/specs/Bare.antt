@@ -2,7 +2,7 @@
 use Rattle.std.specs.Prelude.{◌≡◌, ◌+◌, ◌≤◌, ℕ, List, vec_len, vec_capacity}
 use Rattle.oat_case.specs.declared.case.Write.{Write}
 use Rattle.oat_cpu.specs.Processor.{machine_of}
-use Rattle.oat_shape.specs.Run.{Running, poked}
+use Rattle.oat_journal.specs.Run.{Running, poked}
 use Rattle.oat_device.specs.declared.bare.BareRun.{BareRun}
 
 abbrev pub running_of : BareRun → Running

@@ -16,13 +16,14 @@ use Rattle.oat_measure.specs.declared.opening.Opening.{Opening}
 use Rattle.oat_measure.specs.Measurement.{State, booted, sealed}
 use Rattle.oat_measure.specs.Monitored.{Monitored, state_at}
 use Rattle.oat_measure.specs.Transitions.{engine_shown, engine_state}
-use Rattle.oat_shape.specs.declared.end.DeviceEnd.{DeviceEnd}
-use Rattle.oat_shape.specs.declared.end.DeviceEnd.TheVariants.{OutOfSteps}
-use Rattle.oat_shape.specs.Shape.{IsShaped, BeginsAt}
+use Rattle.oat_journal.specs.declared.end.DeviceEnd.{DeviceEnd}
+use Rattle.oat_journal.specs.declared.end.DeviceEnd.TheVariants.{OutOfSteps}
+use Rattle.oat_shape.specs.Shape.{IsShaped}
+use Rattle.oat_map.specs.Rows.{BeginsAt}
 use Rattle.oat_device.specs.declared.course.Course.{Course}
 use Rattle.oat_device.specs.Bare.{DoesFrom, running_of}
-use Rattle.oat_device.specs.Measured.{Run, dev, opening, body_of}
-use Rattle.oat_device.specs.Turns.{Progress, progress_of_run}
+use Rattle.oat_journal.specs.Measured.{Run, dev, opening, body_of}
+use Rattle.oat_journal.specs.Progress.{Progress, progress_of_run}
 
 -- What the window of a session's operation is opened for, on an image: it opens at the SVC of that operation's Begin group.
 abbrev pub IsOpening : Image → Session → Opening → Type 0

@@ -3,7 +3,7 @@ ghost use Rattle.std.specs.Prelude.{◌≡◌, ◌+◌, ◌<◌, ◌≤◌, ◌^
 ghost use Rattle.std.specs.List.{AllByRecursion};
 ghost use Rattle.oat_a64.specs.Step.{step};
 ghost use Rattle.oat_case.specs.Limits.{IsInLimits, RisesFrom};
-ghost use Rattle.oat_shape.specs.Run.{called, ended, found, goes_on, puts, takes, told, trap_of, turn};
+ghost use Rattle.oat_journal.specs.Run.{called, ended, found, goes_on, puts, takes, told, trap_of, turn};
 ghost use Rattle.oat_device.specs.Bare.{HasSame, DoesFrom, running_of};
 
 use crate::writes::make_due;
@@ -12,7 +12,7 @@ use oat_case::Write;
 use oat_cpu::Cpu;
 use oat_map::TrapKind;
 use oat_mem::Memory;
-use oat_shape::DeviceEnd;
+use oat_journal::DeviceEnd;
 
 /// A bare run at the moment before an instruction.
 #[derive(Drop)]
@@ -114,7 +114,7 @@ impl<'a> BareRun<'a> {
     }
 
     /// Makes the writes that are due and the next instruction, and tells what that told.
-    #[tactic(auto, unfolding(oat_shape::specs::Run::turn))]
+    #[tactic(auto, unfolding(oat_journal::specs::Run::turn))]
     pub fn turn(&mut self) -> Event
         requires going { self.old.end ≡ None }
         requires countable { self.old.made < 2 ^ 63 }

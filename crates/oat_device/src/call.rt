@@ -1,7 +1,7 @@
 ghost use Rattle.std.specs.Prelude.{◌≡◌, option_map};
 ghost use Rattle.oat_cpu.specs.Processor.{regs_of};
 ghost use Rattle.oat_measure.specs.Monitor.{call_numbered};
-ghost use Rattle.oat_device.specs.Turns.{call_of};
+ghost use Rattle.oat_device.specs.Calls.{call_of};
 
 use oat_cpu::Cpu;
 

@@ -8,7 +8,8 @@ ghost use Rattle.oat_measure.specs.Measurement.{measured};
 ghost use Rattle.oat_device.specs.Bare.{DoesFrom};
 ghost use Rattle.oat_device.specs.Records.{bits_taken, targets_taken};
 ghost use Rattle.oat_device.specs.Standing.{IsReady, OfItsRun, Stands, end_of, opening_of, progress_of, spare_bits, spare_targets, state_of};
-ghost use Rattle.oat_device.specs.Turns.{behind, call_of, call_told, next_of};
+ghost use Rattle.oat_journal.specs.Progress.{behind, call_told, next_of};
+ghost use Rattle.oat_device.specs.Calls.{call_of};
 
 use crate::bare::BareRun;
 use crate::call::{MonitorCall, call_numbered};
@@ -16,7 +17,7 @@ use crate::monitor::told;
 use oat_a64::Event;
 use oat_cpu::Cpu;
 use oat_measure::Engine;
-use oat_shape::DeviceEnd;
+use oat_journal::DeviceEnd;
 
 #[derive(Drop)]
 pub struct Course<'a> {

@@ -4,8 +4,8 @@ ghost use Rattle.oat_case.specs.Limits.{IsWellFormed};
 ghost use Rattle.oat_image.specs.declared.image.Image.{Image as ImageGiven};
 ghost use Rattle.oat_measure.specs.declared.engine.Engine.TheVariants as EngineState;
 ghost use Rattle.oat_measure.specs.Measurement.{sealed};
-ghost use Rattle.oat_shape.specs.Shape.{IsOperation};
-ghost use Rattle.oat_device.specs.Measured.{IsSealed, body_of};
+ghost use Rattle.oat_map.specs.Rows.{IsOperation};
+ghost use Rattle.oat_journal.specs.Measured.{IsSealed, body_of};
 ghost use Rattle.oat_device.specs.Standing.{OfItsRun, Stands, end_of, reported, state_of};
 
 use crate::bare::BareRun;
@@ -14,7 +14,8 @@ use crate::start::{opening, start_cells, start_memory};
 use oat_case::Case;
 use oat_cpu::Cpu;
 use oat_measure::{Engine, Sealed, Unmeasured};
-use oat_shape::{DeviceEnd, Shaped};
+use oat_journal::DeviceEnd;
+use oat_shape::{Shaped};
 use std::alloc::{AllocError, Global};
 use std::marker::Model;
 

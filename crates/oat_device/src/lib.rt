@@ -5,7 +5,6 @@ mod bare;
 mod call;
 mod course;
 mod device;
-pub mod laws;
 mod monitor;
 mod start;
 #[cfg(test)]
@@ -14,3 +13,4 @@ mod writes;
 
 pub use call::{MonitorCall, call_numbered};
 pub use device::Device;
+pub use oat_journal::{DeviceEnd, StopKind};

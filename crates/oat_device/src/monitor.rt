@@ -5,11 +5,12 @@ ghost use Rattle.oat_measure.specs.Monitor as calls;
 ghost use Rattle.oat_measure.specs.Monitored.{Keeps, state_at};
 ghost use Rattle.oat_measure.specs.Transitions.{engine_shown, engine_state};
 ghost use Rattle.oat_device.specs.Records.{bits_taken, targets_taken};
-ghost use Rattle.oat_device.specs.Turns.{call_of, kept, stop_of};
+ghost use Rattle.oat_journal.specs.Progress.{kept, stop_of};
+ghost use Rattle.oat_device.specs.Calls.{call_of};
 
 use crate::call::MonitorCall;
 use oat_measure::{Begun, Ended, Engine, Measuring, Sealed, Unmeasured};
-use oat_shape::StopKind;
+use oat_journal::StopKind;
 
 fn told_before(mut before: Unmeasured, call: MonitorCall) -> Engine
     ensures state { measured before.opening (state_at unmeasured before) (Some (call_of call)) ≡ Ok (engine_state result) }

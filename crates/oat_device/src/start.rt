@@ -3,9 +3,9 @@ ghost use Rattle.std.specs.Prelude.{◌≡◌, ◌≤◌, IfOk, length};
 ghost use Rattle.oat_image.specs.Grammar.{IsWellFormed};
 ghost use Rattle.oat_measure.specs.Monitored.{cells_of};
 ghost use Rattle.oat_mem.specs.DataMemory.{byte_at};
-ghost use Rattle.oat_shape.specs.Run.{start_memory};
-ghost use Rattle.oat_shape.specs.Shape.{IsOperation};
-ghost use Rattle.oat_device.specs.Measured.{start_cells};
+ghost use Rattle.oat_journal.specs.Run.{start_memory};
+ghost use Rattle.oat_map.specs.Rows.{IsOperation};
+ghost use Rattle.oat_journal.specs.Measured.{start_cells};
 ghost use Rattle.oat_device.specs.Standing.{IsOpening};
 
 use oat_case::Session;

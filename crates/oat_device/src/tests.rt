@@ -1,6 +1,6 @@
 ghost use Rattle.std.specs.Prelude.{IfOk, IsTrue};
 ghost use Rattle.oat_case.specs.Limits.{IsWellFormed};
-ghost use Rattle.oat_shape.specs.Shape.{IsOperation};
+ghost use Rattle.oat_map.specs.Rows.{IsOperation};
 
 use crate::Device;
 use oat_blob::Violation;
@@ -8,7 +8,8 @@ use oat_case::{Case, read_case};
 use oat_chain::{Chain, begin_record};
 use oat_image::read_image;
 use oat_measure::Sealed;
-use oat_shape::{DeviceEnd, Shaped, check_shape};
+use oat_journal::DeviceEnd;
+use oat_shape::{Shaped, check_shape};
 use std::alloc::{AllocError, Global};
 use std::process::Abort;
 

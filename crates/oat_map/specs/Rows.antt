@@ -1,13 +1,14 @@
 -- The rows of a control-flow map: the words of their groups (one A64 instruction each, 4 bytes as
 -- the Arm A64 manual has it), the address behind a group, and the row that stands next behind an
 -- address. Addresses are numbers of 64 bits, and their sums are taken modulo 2 ^ 64.
-use Rattle.std.specs.Prelude.{ℕ, ◌≡◌, ◌+◌, ◌*◌, ◌%◌, ◌^◌, ◌≤◌, Bool, true, false, ◌==◌, ◌&&◌, List, map, find, nat_le, Option, Some, Contains}
+use Rattle.std.specs.Prelude.{ℕ, ◌≡◌, ◌+◌, ◌*◌, ◌%◌, ◌^◌, ◌≤◌, Bool, true, false, ◌==◌, ◌&&◌, List, map, find, nat_le, nat_lt, Option, Some, Contains}
 use Rattle.std.specs.Option.{option_map}
 use Rattle.std.specs.List.Sorted.{IsStrictlyIncreasing}
 use Rattle.oat_map.specs.declared.row.Row.{Row}
 use Rattle.oat_map.specs.declared.row.Row.TheVariants.{Jump, Branch, Call, ICall, Ret, Begin, End, UseCell, DefCell, Check}
 use Rattle.oat_map.specs.declared.map.Function.{Function}
 use Rattle.oat_map.specs.declared.map.Block.{Block}
+use Rattle.oat_map.specs.declared.map.Map.{Map}
 
 -- the address of the first word of the row's group
 abbrev pub address_of : Row → ℕ
@@ -90,3 +91,18 @@ is_call _ = false
 -- whether the row is a call with this return site
 abbrev pub is_returned_to : ℕ → Row → Bool
 is_returned_to to row = is_call row && (after row == to)
+
+-- the row in whose group an address lies
+abbrev pub is_over : ℕ → Row → Bool
+is_over address row = nat_le (address_of row) address && nat_lt address (address_of row + 4 * word_count row)
+
+abbrev pub row_over : List Row → ℕ → Option Row
+row_over rows address = find (is_over address) rows
+
+-- The operations of a map are those that a row begins.
+abbrev pub IsOperation : Map → ℕ → Type 0
+IsOperation m op = (at : ℕ) × Contains m.rows (Begin at op)
+
+-- where the window of an operation opens: the SVC in the group of its Begin row
+abbrev pub BeginsAt : Map → ℕ → ℕ → Type 0
+BeginsAt m op begin_at = (at : ℕ) × Contains m.rows (Begin at op) × (begin_at ≡ at + 4)

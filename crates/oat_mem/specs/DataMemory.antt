@@ -1,5 +1,5 @@
 -- The device's data memory: bytes by address in two regions, and the little-endian words of 8 bytes in them, as the Arm A64 manual's memory accesses read and write them.
-use Rattle.std.specs.Prelude.{◌≡◌, ℕ, ◌+◌, ◌-◌, ◌%◌, ◌^◌, ◌<◌, ◌≤◌, ◌⊎◌, Bool, ◌&&◌, ◌||◌, ◌==◌, nat_le, nat_lt, if◌then◌else◌, List, [], ◌∷◌, length, slice_index}
+use Rattle.std.specs.Prelude.{◌≡◌, ℕ, ◌+◌, ◌-◌, ◌*◌, ◌%◌, ◌^◌, ◌<◌, ◌≤◌, ◌⊎◌, Bool, ◌&&◌, ◌||◌, ◌==◌, nat_le, nat_lt, if◌then◌else◌, List, [], ◌∷◌, length, slice_index}
 use Rattle.std.specs.Int.{w64, to_le_bytes, from_le_bytes}
 
 -- the global data
@@ -8,6 +8,10 @@ global_base = 0x4000_0000
 
 abbrev pub global_size : ℕ
 global_size = 524288
+
+-- the address of a word of global data
+abbrev pub global_address : ℕ → ℕ
+global_address index = global_base + 8 * index
 
 -- the stack, which ends just below 0x8000_0000
 abbrev pub stack_base : ℕ

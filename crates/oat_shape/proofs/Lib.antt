@@ -5,9 +5,6 @@ pub mod GroupLemmas
 pub mod Searches
 pub mod RowRules
 pub mod NameRules
-pub mod Turns
-pub mod Linkage
-pub mod Bounds
 pub mod WorkedShapesRules
 pub mod PlaceRules
 pub mod Refusals

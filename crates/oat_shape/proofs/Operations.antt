@@ -10,7 +10,8 @@ use Rattle.oat_map.specs.declared.row.Row.{Row}
 use Rattle.oat_map.specs.declared.row.Row.TheVariants.{Begin}
 use Rattle.oat_map.specs.Rows.{after, begins, start}
 use Rattle.oat_shape.specs.Parts.{AreWithin}
-use Rattle.oat_shape.specs.Shape.{BeginsAt, IsOperation}
+use Rattle.oat_map.specs.Rows.{BeginsAt}
+use Rattle.oat_map.specs.Rows.{IsOperation}
 use Rattle.oat_shape.proofs.Scans.{at_contains, contains_at}
 use Rattle.oat_shape.proofs.RowRules.{begins-true, begins-itself}
 

@@ -15,7 +15,8 @@ use Rattle.oat_image.specs.declared.image.Image.{Image}
 use Rattle.oat_image.specs.Grammar.{IsWellFormed, IsRow}
 use Rattle.oat_shape.specs.Groups.{IsGroup}
 use Rattle.oat_shape.specs.MapRules.{S2}
-use Rattle.oat_shape.specs.Shape.{Holds, is_call, IsReturnSite, IsPlaceOrSite, S3}
+use Rattle.oat_shape.specs.Shape.{Holds, IsReturnSite, IsPlaceOrSite, S3}
+use Rattle.oat_map.specs.Rows.{is_call}
 use Rattle.oat_shape.specs.Lowest.{Lowest, EachAt, lower}
 use Rattle.oat_shape.specs.Parts.{AreApart, AreIndices, AreWithin, IsCovered, StandsInGroup}
 use Rattle.oat_shape.proofs.Scans.{lowest_same, lowest_both, at_contains, contains_at}

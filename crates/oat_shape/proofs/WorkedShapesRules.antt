@@ -17,8 +17,11 @@ use Rattle.oat_map.specs.Rows.{address_of, word_count, after, entries_of, starts
 use Rattle.oat_image.specs.declared.image.Image.{Image}
 use Rattle.oat_shape.specs.Groups.{IsGroup}
 use Rattle.oat_shape.specs.MapRules.{S2, S4, S7, S8, LeadsToPlaces, IsPaired}
-use Rattle.oat_shape.specs.Shape.{Covers, LiesInside, is_call, is_transfer, is_measured, IsPlaceOrSite, S1, S3, S5, S6, Holds}
-use Rattle.oat_shape.specs.Window.{is_over}
+use Rattle.oat_shape.specs.Shape.{Covers, LiesInside, IsPlaceOrSite, S1, S3, S5, S6, Holds}
+use Rattle.oat_map.specs.Rows.{is_call}
+use Rattle.oat_a64.specs.Kinds.{is_measured}
+use Rattle.oat_a64.specs.Kinds.{is_transfer}
+use Rattle.oat_map.specs.Rows.{is_over}
 
 -- ---- lists
 

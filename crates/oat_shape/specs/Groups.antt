@@ -1,6 +1,6 @@
 -- Groups: which instructions stand at a row's address (docs/FORMATS.md, "Rows and their groups").
 use Rattle.std.specs.Prelude.{◌≡◌, ◌+◌, ◌*◌, ◌/◌, ◌%◌, ◌^◌, ◌⊎◌, ℕ, ℤ, pos, List, slice_get, Some}
-use Rattle.oat_mem.specs.DataMemory.{global_base}
+use Rattle.oat_mem.specs.DataMemory.{global_address}
 use Rattle.oat_a64.specs.declared.inst.Inst.{Inst}
 use Rattle.oat_a64.specs.declared.inst.Inst.TheVariants.{Movz, Movk, Ldr, Str, B, Bl, BCond, Cbnz, Blr, Ret, Svc, Brk}
 use Rattle.oat_a64.specs.Step.{instruction_at, branch_target}
@@ -14,10 +14,6 @@ Stands code address inst = instruction_at code address ≡ Some inst
 -- a branch of this form stands at the address and leads there
 abbrev pub Branches : List ℕ → ℕ → (ℤ → Inst) → ℕ → Type 0
 Branches code address form to = (offset : ℤ) × Stands code address (form offset) × (branch_target address offset ≡ to)
-
--- the address of a word of global data
-abbrev pub global_address : ℕ → ℕ
-global_address index = global_base + 8 * index
 
 -- two moves put an address into X11
 abbrev pub MovesAddress : List ℕ → ℕ → ℕ → Type 0

@@ -4,8 +4,4 @@ pub mod Groups
 pub mod Shape
 pub mod Lowest
 pub mod Refusal
-pub mod Run
-pub mod Journal
-pub mod Window
-pub mod Uses
 pub mod WorkedShapes

@@ -13,9 +13,12 @@ use Rattle.oat_map.specs.declared.row.Row.{Row}
 use Rattle.oat_map.specs.declared.row.Row.TheVariants.{Begin, End}
 use Rattle.oat_map.specs.Rows.{address_of, after}
 use Rattle.oat_image.specs.declared.image.Image.{Image}
-use Rattle.oat_shape.specs.Groups.{Stands, MovesAddress, global_address}
+use Rattle.oat_shape.specs.Groups.{Stands, MovesAddress}
+use Rattle.oat_mem.specs.DataMemory.{global_address}
 use Rattle.oat_shape.specs.MapRules.{S7, S8}
-use Rattle.oat_shape.specs.Shape.{Covers, LiesInside, Holds, S5, S6, Tests, is_measured, is_transfer}
+use Rattle.oat_shape.specs.Shape.{Covers, LiesInside, Holds, S5, S6, Tests}
+use Rattle.oat_a64.specs.Kinds.{is_measured}
+use Rattle.oat_a64.specs.Kinds.{is_transfer}
 
 -- ---- rows and their groups
 

@@ -1,32 +1,16 @@
 -- The shape of an image: eight rules, tested in their order (docs/FORMATS.md, "Shape"). Each says what has to hold at one address; the lowest address where one fails is the one that a refusal names.
 use Rattle.std.specs.Prelude.{◌≡◌, ◌+◌, ◌*◌, ◌<◌, ◌≤◌, ◌⊎◌, ℕ, Bool, true, false, ◌&&◌, ◌||◌, nat_le, IsTrue, List, Some, IsSome, slice_get, Contains}
 use Rattle.oat_a64.specs.declared.inst.Inst.{Inst}
-use Rattle.oat_a64.specs.declared.inst.Inst.TheVariants.{B, Bl, BCond, Cbz, Cbnz, Blr, Ret, Svc}
 use Rattle.oat_a64.specs.Fetch.{inst_of}
+use Rattle.oat_a64.specs.Kinds.{is_measured, is_transfer}
 use Rattle.oat_a64.specs.Step.{code_base, word_at, instruction_at}
 use Rattle.oat_map.specs.declared.map.Map.{Map}
 use Rattle.oat_map.specs.declared.row.Row.{Row}
 use Rattle.oat_map.specs.declared.row.Row.TheVariants as rows
-use Rattle.oat_map.specs.Rows.{address_of, word_count, after, entries_of, starts_of}
+use Rattle.oat_map.specs.Rows.{address_of, word_count, after, entries_of, is_call, starts_of}
 use Rattle.oat_image.specs.declared.image.Image.{Image}
 use Rattle.oat_shape.specs.Groups.{IsGroup}
 use Rattle.oat_shape.specs.MapRules.{S2, S4, S7, S8}
-
--- an instruction by which control may leave the next address
-abbrev pub is_transfer : Inst → Bool
-is_transfer (B offset) = true
-is_transfer (Bl offset) = true
-is_transfer (BCond cond offset) = true
-is_transfer (Cbz rt offset) = true
-is_transfer (Cbnz rt offset) = true
-is_transfer (Blr rn) = true
-is_transfer (Ret rn) = true
-is_transfer _ = false
-
--- a monitor call that the measurement sees
-abbrev pub is_measured : Inst → Bool
-is_measured (Svc number) = nat_le 1 number && nat_le number 7
-is_measured _ = false
 
 -- an address lies in a row's group
 abbrev pub Covers : Row → ℕ → Type 0
@@ -35,11 +19,6 @@ Covers row address = (address_of row ≤ address) × (address < address_of row +
 -- an address lies in a row's group, behind its first byte
 abbrev pub LiesInside : Row → ℕ → Type 0
 LiesInside row address = (address_of row < address) × (address < address_of row + 4 * word_count row)
-
-abbrev pub is_call : Row → Bool
-is_call (rows.Call at to) = true
-is_call (rows.ICall at params) = true
-is_call _ = false
 
 -- the address behind the group of a call
 abbrev pub IsReturnSite : List Row → ℕ → Type 0
@@ -103,11 +82,3 @@ IsBroken i broken at =
     Tests (S6 i) 6 (
     Tests (S7 i.map) 7 (
     Tests (S8 i.map) 8 ⊥ broken at) broken at) broken at) broken at) broken at) broken at) broken at) broken at
-
--- The operations of a map are those that a row begins.
-abbrev pub IsOperation : Map → ℕ → Type 0
-IsOperation m op = (at : ℕ) × Contains m.rows (rows.Begin at op)
-
--- where the window of an operation opens: the SVC in the group of its Begin row
-abbrev pub BeginsAt : Map → ℕ → ℕ → Type 0
-BeginsAt m op begin_at = (at : ℕ) × Contains m.rows (rows.Begin at op) × (begin_at ≡ at + 4)

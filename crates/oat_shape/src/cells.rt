@@ -1,6 +1,7 @@
 ghost use Rattle.std.specs.Prelude.{◌≡◌, ◌↔◌, ◌<◌, ◌≤◌, ◌^◌, IsTrue, slice_get};
 ghost use Rattle.oat_map.specs.declared.row.Row.TheVariants.{DefCell, UseCell};
-ghost use Rattle.oat_shape.specs.Groups.{IsGroup, MovesAddress, global_address};
+ghost use Rattle.oat_shape.specs.Groups.{IsGroup, MovesAddress};
+ghost use Rattle.oat_mem.specs.DataMemory.{global_address};
 ghost use Rattle.oat_shape.specs.Parts.{AreIndices, IsDefineGroup, IsUseGroup};
 
 use crate::code::stands;

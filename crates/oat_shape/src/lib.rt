@@ -1,4 +1,4 @@
-//! The shape of images, and what a run on one is.
+//! The shape of images.
 #![tactic(auto)]
 
 mod apart;
@@ -7,7 +7,6 @@ mod cells;
 mod code;
 mod covers;
 mod decoding;
-mod end;
 mod fault;
 mod groups;
 pub mod laws;
@@ -24,6 +23,5 @@ mod tests;
 mod transfers;
 pub mod worked;
 
-pub use end::{DeviceEnd, StopKind};
 pub use fault::{ShapeFault, ShapeRefusal};
 pub use shaped::{Shaped, check_shape};

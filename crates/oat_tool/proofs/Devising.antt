@@ -13,8 +13,10 @@ use Rattle.oat_measure.specs.declared.opening.Opening.{Opening}
 use Rattle.oat_image.specs.declared.image.Image.{Image}
 use Rattle.oat_case.specs.declared.case.Case.{Case}
 use Rattle.oat_shape.specs.MapRules.{S7}
-use Rattle.oat_shape.specs.Shape.{Holds, IsOperation, BeginsAt}
-use Rattle.oat_device.specs.Measured.{Run, body_of}
+use Rattle.oat_shape.specs.Shape.{Holds}
+use Rattle.oat_map.specs.Rows.{BeginsAt}
+use Rattle.oat_map.specs.Rows.{IsOperation}
+use Rattle.oat_journal.specs.Measured.{Run, body_of}
 use Rattle.oat_device.specs.Standing.{IsOpening}
 use Rattle.oat_tool.specs.Outcome.{Outcome, line}
 use Rattle.oat_tool.specs.Devises.{Devises, Runs, ShowsRun, sealed, unsealed, opening_of, run_of, run_lines}

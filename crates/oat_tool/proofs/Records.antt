@@ -11,9 +11,9 @@ use Rattle.oat_measure.specs.declared.opening.Opening.{Opening}
 use Rattle.oat_measure.specs.Monitor.{Call, begins, ends, bit, target, returns, defines, uses, opens}
 use Rattle.oat_measure.specs.Measurement.{State, Stage, unmeasured, measuring, sealed, Stop, Measured, booted, inside, before, after, behind as joined, measured, measures}
 use Rattle.oat_measure.specs.Monitored.{Monitored}
-use Rattle.oat_shape.specs.Run.{Running, Entry, started, entry, turn, from_entry, journal_from, journal}
-use Rattle.oat_shape.specs.Window.{made_call}
-use Rattle.oat_device.specs.Measured.{dev, run_until, start_cells, body_of}
+use Rattle.oat_journal.specs.Run.{Running, Entry, started, entry, turn, from_entry, journal_from, journal}
+use Rattle.oat_journal.specs.Window.{made_call}
+use Rattle.oat_journal.specs.Measured.{dev, run_until, start_cells, body_of}
 use Rattle.oat_device.specs.Standing.{reported}
 use Rattle.oat_tool.specs.Devises.{opening_of, run_of}
 

@@ -9,7 +9,8 @@ use Rattle.oat_image.specs.Grammar.{IsImageText}
 use Rattle.oat_image.specs.Reading as reading
 use Rattle.oat_image.specs.ImageReading.{image_at}
 use Rattle.oat_image.proofs.Images.{image_again}
-use Rattle.oat_shape.specs.Shape.{IsShaped, IsOperation}
+use Rattle.oat_shape.specs.Shape.{IsShaped}
+use Rattle.oat_map.specs.Rows.{IsOperation}
 use Rattle.oat_shape.proofs.Refusals.{shape_is_decided}
 use Rattle.oat_case.specs.declared.case.Case.{Case}
 use Rattle.oat_case.specs.declared.fault.CaseFault.{CaseFault}

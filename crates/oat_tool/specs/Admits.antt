@@ -3,7 +3,8 @@
 use Rattle.std.specs.Prelude.{ℕ, List}
 use Rattle.oat_image.specs.declared.image.Image.{Image}
 use Rattle.oat_image.specs.Grammar.{IsImageText}
-use Rattle.oat_shape.specs.Shape.{IsShaped, IsOperation}
+use Rattle.oat_shape.specs.Shape.{IsShaped}
+use Rattle.oat_map.specs.Rows.{IsOperation}
 use Rattle.oat_case.specs.declared.case.Case.{Case}
 use Rattle.oat_case.specs.Grammar.{IsCaseText}
 use Rattle.oat_tool.specs.Outcome.{Outcome}

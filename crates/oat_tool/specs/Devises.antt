@@ -6,9 +6,9 @@ use Rattle.oat_measure.specs.declared.opening.Opening.{Opening}
 use Rattle.oat_blob.specs.Layout.{IsBlobOf}
 use Rattle.oat_image.specs.declared.image.Image.{Image}
 use Rattle.oat_image.specs.Grammar.{image_text}
-use Rattle.oat_shape.specs.Shape.{BeginsAt}
+use Rattle.oat_map.specs.Rows.{BeginsAt}
 use Rattle.oat_case.specs.declared.case.Case.{Case}
-use Rattle.oat_device.specs.Measured.{Run, dev, opening, IsSealed, body_of}
+use Rattle.oat_journal.specs.Measured.{Run, dev, opening, IsSealed, body_of}
 use Rattle.oat_device.specs.Standing.{end_of}
 use Rattle.oat_tool.specs.Outcome.{Outcome, line}
 use Rattle.oat_tool.specs.RunText.{run_text}

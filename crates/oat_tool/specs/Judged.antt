@@ -5,7 +5,7 @@ use Rattle.oat_image.specs.declared.image.Image.{Image}
 use Rattle.oat_map.specs.declared.edge.Edge.{Edge}
 use Rattle.oat_case.specs.declared.case.Case.{Case}
 use Rattle.oat_case.specs.declared.case.Session.{Session}
-use Rattle.oat_shape.specs.Shape.{BeginsAt}
+use Rattle.oat_map.specs.Rows.{BeginsAt}
 use Rattle.oat_verify.specs.declared.verdict.Verdict.{Verdict}
 use Rattle.oat_verify.specs.declared.verdict.Verdict.TheVariants.{Accept}
 use Rattle.oat_verify.specs.Verdict.{subject_of, IsVerdict}

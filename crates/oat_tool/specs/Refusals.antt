@@ -7,7 +7,8 @@ use Rattle.oat_image.specs.declared.image.Image.{Image}
 use Rattle.oat_image.specs.declared.fault.ImageFault.{ImageFault}
 use Rattle.oat_image.specs.FaultText as image
 use Rattle.oat_image.specs.ImageReading.{image_at}
-use Rattle.oat_shape.specs.Shape.{IsBroken, IsOperation}
+use Rattle.oat_shape.specs.Shape.{IsBroken}
+use Rattle.oat_map.specs.Rows.{IsOperation}
 use Rattle.oat_case.specs.declared.fault.CaseFault.{CaseFault}
 use Rattle.oat_case.specs.FaultText as case
 use Rattle.oat_case.specs.Reading.{case_of}

@@ -1,7 +1,7 @@
 ghost use Rattle.std.specs.Prelude.{◌<◌, ◌≤◌, ◌^◌, length, IfOk};
 ghost use Rattle.oat_blob.specs.Layout.{IsBlobOf};
 ghost use Rattle.oat_case.specs.Limits.{IsWellFormed};
-ghost use Rattle.oat_shape.specs.Shape.{IsOperation};
+ghost use Rattle.oat_map.specs.Rows.{IsOperation};
 ghost use Rattle.oat_device.specs.Standing.{reported};
 ghost use Rattle.oat_tool.specs.Devises.{Devises, Runs};
 ghost use Rattle.oat_tool.specs.Pages.{outcome_of, Works};

@@ -2,7 +2,8 @@ ghost use Rattle.std.specs.Prelude.{◌≡◌, ◌≢◌, ◌≤◌, length, IfO
 ghost use Rattle.oat_image.specs.declared.fault.ImageFault.TheVariants as image;
 ghost use Rattle.oat_image.specs.FaultText as image_text;
 ghost use Rattle.oat_image.specs.Grammar.{IsImageText, IsWellFormed};
-ghost use Rattle.oat_shape.specs.Shape.{IsShaped, IsOperation};
+ghost use Rattle.oat_shape.specs.Shape.{IsShaped};
+ghost use Rattle.oat_map.specs.Rows.{IsOperation};
 ghost use Rattle.oat_case.specs.declared.fault.CaseFault.TheVariants as case;
 ghost use Rattle.oat_case.specs.FaultText as case_text;
 ghost use Rattle.oat_case.specs.Grammar.{IsCaseText};

@@ -1,5 +1,5 @@
 ghost use Rattle.std.specs.Prelude.{◌≤◌, length, IfOk};
-ghost use Rattle.oat_shape.specs.Shape.{IsOperation};
+ghost use Rattle.oat_map.specs.Rows.{IsOperation};
 ghost use Rattle.oat_verify.specs.Verdict.{subject_of};
 ghost use Rattle.oat_tool.specs.Verifies.{Verifies, Concludes};
 ghost use Rattle.oat_tool.specs.Pages.{outcome_of, Works};

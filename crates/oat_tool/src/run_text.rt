@@ -9,7 +9,7 @@ use crate::page::{Page, Status};
 use crate::texts::put_long_address;
 use oat_a64::FaultKind;
 use oat_map::TrapKind;
-use oat_shape::{DeviceEnd, StopKind};
+use oat_journal::{DeviceEnd, StopKind};
 use std::alloc::{AllocError, Global};
 
 fn trap_name(kind: TrapKind) -> &'static str

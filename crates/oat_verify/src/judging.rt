@@ -4,7 +4,7 @@ ghost use Rattle.oat_chain.specs.Chain.{chain};
 ghost use Rattle.oat_chain.specs.Standing.{StandsFor};
 ghost use Rattle.oat_map.specs.Walk.{returns_of};
 ghost use Rattle.oat_blob.specs.Layout.{covered_of};
-ghost use Rattle.oat_shape.specs.Shape.{IsOperation};
+ghost use Rattle.oat_map.specs.Rows.{IsOperation};
 ghost use Rattle.oat_verify.specs.Verdict.{subject_of, Judges, Replays, Settles, IsVerdict};
 
 use crate::verdict::{Cause, Verdict};

@@ -1,6 +1,6 @@
 use Rattle.std.proofs.Common.{◌≡◌, ◌≤◌, take, length}
 use Rattle.std.specs.Prelude.{vec_len, vec_capacity}
-use Rattle.oat_shape.specs.Run.{start_memory}
+use Rattle.oat_journal.specs.Run.{start_memory}
 use Rattle.oat_device.proofs.Starting.{words_of}
 use Rattle.oat_device.proofs.start.start_cells.Given as goal
 

@@ -1,8 +1,8 @@
 use Rattle.std.proofs.Common.{rules, ◌≡◌, ◌≤◌, ◌<◌, Option, Some, None, refl, sym, ap, ◌∙◌, arith}
 use Rattle.std.specs.Option.{is_some}
 use Rattle.std.proofs.lemmas.Bool.{false≢true}
-use Rattle.oat_device.specs.Measured.{dev}
-use Rattle.oat_device.specs.Turns.{Progress}
+use Rattle.oat_journal.specs.Measured.{dev}
+use Rattle.oat_journal.specs.Progress.{Progress}
 use Rattle.oat_device.proofs.Runs.{Turned, OnItsWay, way-first, way-next, whole, again, end-is, run-is, is-none}
 use Rattle.oat_device.proofs.course.Course.run.Goals as goal
 use Rattle.oat_device.proofs.course.Course.run.Goals.{else-loop-test, then-loop-test+then-is_some}

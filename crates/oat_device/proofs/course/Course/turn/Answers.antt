@@ -3,7 +3,7 @@ use Rattle.oat_cpu.specs.Processor.{regs_of}
 use Rattle.oat_device.specs.Bare.{running_of}
 use Rattle.oat_device.specs.Records.{bits_taken, targets_taken}
 use Rattle.oat_device.specs.Standing.{spare_bits, spare_targets}
-use Rattle.oat_device.specs.Turns.{call_of}
+use Rattle.oat_device.specs.Calls.{call_of}
 use Rattle.oat_device.proofs.Rooms.{Takes, Kept, room-for, turn-takes, ready-next}
 use Rattle.oat_device.proofs.course.Course.turn.Goals as goal
 

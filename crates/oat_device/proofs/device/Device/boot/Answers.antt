@@ -8,10 +8,10 @@ use Rattle.oat_image.specs.declared.image.Image.{Image}
 use Rattle.oat_measure.specs.Measurement.{booted}
 use Rattle.oat_measure.specs.Monitored.{cells_of}
 use Rattle.oat_mem.specs.DataMemory.{byte_at}
-use Rattle.oat_shape.specs.Run.{poked, start_memory}
-use Rattle.oat_device.specs.Measured.{start_cells}
+use Rattle.oat_journal.specs.Run.{poked, start_memory}
+use Rattle.oat_journal.specs.Measured.{start_cells}
 use Rattle.oat_device.specs.Standing.{IsSpaced}
-use Rattle.oat_device.specs.Turns.{first_of}
+use Rattle.oat_journal.specs.Progress.{first_of}
 use Rattle.oat_device.proofs.Runs.{starts, first-run}
 use Rattle.oat_device.proofs.Spacing.{bits_spaced, targets_spaced}
 use Rattle.oat_device.proofs.device.Device.boot.Goals as goal

@@ -1,6 +1,6 @@
 use Rattle.std.proofs.Common.{◌≡◌, ap, ◌∙◌}
 use Rattle.oat_device.specs.declared.course.Course.{Course}
-use Rattle.oat_device.specs.Turns.{Progress}
+use Rattle.oat_journal.specs.Progress.{Progress}
 use Rattle.oat_device.proofs.Runs.{run-is}
 use Rattle.oat_device.proofs.device.Device.outputs.Goals as goal
 

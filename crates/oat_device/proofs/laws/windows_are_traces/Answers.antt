@@ -1,5 +1,0 @@
-use Rattle.oat_device.proofs.Traces.{windows_are_traces}
-use Rattle.oat_device.proofs.laws.windows_are_traces.Goals as goal
-
-pub returns : goal.returns
-returns c = windows_are_traces

@@ -1,0 +1,9 @@
+pub mod Run
+pub mod Journal
+pub mod Window
+pub mod Uses
+pub mod Measured
+pub mod Violations
+pub mod Trace
+pub mod Progress
+pub mod Worked

@@ -1,0 +1,92 @@
+-- The measured run (`dev`): the bare run of an image with the measurement step applied to its journal's monitor calls (docs/DEFINITIONS.md, "Measured run").
+use Rattle.std.specs.Prelude.{◌≡◌, ℕ, ℤ, List, [], ◌∷◌, map, nat_eq, if◌then◌else◌, Option, Some, None, option_map, slice_get}
+use Rattle.oat_blob.specs.declared.body.Violation.{Violation}
+use Rattle.oat_blob.specs.Body.{Body}
+use Rattle.oat_case.specs.declared.case.Session.{Session}
+use Rattle.oat_case.specs.declared.case.Write.{Write}
+use Rattle.oat_image.specs.declared.image.Image.{Image}
+use Rattle.oat_mem.specs.DataMemory.{word_in}
+use Rattle.oat_measure.specs.declared.opening.Opening.{Opening}
+use Rattle.oat_measure.specs.Measurement.{State, Stop, nested, wrong_end, sealed, Cells, Measured, booted, measures}
+use Rattle.oat_measure.specs.Monitored.{head_of}
+use Rattle.oat_journal.specs.declared.end.DeviceEnd.{DeviceEnd}
+use Rattle.oat_journal.specs.declared.end.DeviceEnd.TheVariants.{Stopped}
+use Rattle.oat_journal.specs.declared.end.StopKind.{StopKind}
+use Rattle.oat_journal.specs.declared.end.StopKind.TheVariants.{Nested, WrongEnd}
+use Rattle.oat_mem.specs.DataMemory.{global_address}
+use Rattle.oat_journal.specs.Run.{Running, Entry, bare, journal, start_memory}
+use Rattle.oat_journal.specs.Window.{made_call, window, ahead}
+use Rattle.oat_journal.specs.Uses.{CheckedUse, uses_behind}
+
+-- what a window is opened for: the session's nonce and operation, the image's digest, and where the operation's window opens
+abbrev pub opening : Session → List ℕ → ℕ → Opening
+opening session digest begin_at = record { nonce = session.nonce; op = session.op; digest = digest; begin_at = begin_at }
+
+-- a cell holds the word of global data whose index the image gives it
+abbrev pub start_cells : Image → Cells
+start_cells image = λ cell. option_map (λ index. word_in (start_memory image.words) (global_address index)) (slice_get image.cells cell)
+
+abbrev pub stop_kind : Stop → StopKind
+stop_kind nested = Nested
+stop_kind wrong_end = WrongEnd
+
+pub record Run : Type 0 where
+  pub running : Running
+  pub state : State
+  pub end : Option DeviceEnd
+  -- the entries of the instructions that the monitor let the run make
+  pub journal : List Entry
+
+abbrev pub run_until : Image → List ℤ → List Write → ℕ → Measured → Option Stop → Run
+run_until image inputs writes n measured None = record {
+  running = bare image inputs writes n;
+  state = measured.state;
+  end = (bare image inputs writes n).end;
+  journal = journal image inputs writes n;
+}
+run_until image inputs writes n measured (Some stop) = record {
+  running = bare image inputs writes measured.taken;
+  state = measured.state;
+  end = Some (Stopped (stop_kind stop));
+  journal = journal image inputs writes measured.taken;
+}
+
+-- The measured run of at most n instructions: where the monitor stops it after m of them, the bare run of m with that end.
+abbrev pub dev : Image → Opening → List ℤ → List Write → ℕ → Run
+dev image o inputs writes n =
+    let measured = measures o (booted (start_cells image)) (map made_call (journal image inputs writes n)) in
+    run_until image inputs writes n measured measured.stop
+
+abbrev pub IsSealed : Run → Type 0
+IsSealed run = run.state.stage ≡ sealed
+
+-- the body that a sealed run reports
+abbrev pub body_of : Opening → State → Body
+body_of o s = record {
+  head = head_of o s;
+  bits = s.bits;
+  targets = s.targets;
+}
+
+-- the window of a run
+abbrev pub window_of : Opening → Run → List Entry
+window_of o run = window made_call o.op o.begin_at run.journal
+
+-- the checked uses of the window, behind all calls that the run made before it
+abbrev pub uses_of : Image → Opening → Run → List CheckedUse
+uses_of image o run =
+    uses_behind (start_cells image) (map made_call (ahead made_call o.op o.begin_at run.journal)) (map made_call (window_of o run))
+
+-- the violation of the first use that isn't sound
+abbrev pub first_unsound : List CheckedUse → Option Violation
+first_unsound [] = None
+first_unsound (first ∷ others) =
+    if nat_eq first.defined first.found then first_unsound others
+    else Some (record { cell = first.cell; expected = first.defined; found = first.found })
+
+-- Exact violations: the violation that a sealed run reports is that of the first checked use that wasn't sound, whatever was given and written.
+abbrev pub RunsReportExactly : Type 0
+RunsReportExactly =
+    (image : Image) (o : Opening) (inputs : List ℤ) (writes : List Write) (n : ℕ)
+    → IsSealed (dev image o inputs writes n)
+    → (dev image o inputs writes n).state.violation ≡ first_unsound (uses_of image o (dev image o inputs writes n))

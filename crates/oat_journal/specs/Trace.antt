@@ -1,0 +1,47 @@
+-- What holds of the window of a sealed run, whatever was given and written: it is a trace of the code, and the run reports it (docs/DEFINITIONS.md, "Window" and "Measured run").
+use Rattle.std.specs.Prelude.{◌≡◌, ◌+◌, ℕ, ℤ, List, [], ◌∷◌, ◌++◌, Option, Some, slice_get}
+use Rattle.oat_a64.specs.Step.{next_pc}
+use Rattle.oat_case.specs.declared.case.Write.{Write}
+use Rattle.oat_chain.specs.Chain.{begin_record, chain}
+use Rattle.oat_image.specs.declared.image.Image.{Image}
+use Rattle.oat_measure.specs.declared.opening.Opening.{Opening}
+use Rattle.oat_measure.specs.Monitor.{Call, begins, ends}
+use Rattle.oat_journal.specs.Run.{Entry, Given, pc_of}
+use Rattle.oat_journal.specs.Journal.{IsMade, IsEntryBounded, Follows}
+use Rattle.oat_journal.specs.Window.{made_call, returns_of_run, bits_of_run, targets_of_run}
+use Rattle.oat_journal.specs.Measured.{Run, dev, IsSealed, window_of}
+
+-- an instruction neither begins nor ends an operation
+abbrev pub IsQuiet : Option Call → Type 0
+IsQuiet (Some (begins op at)) = ⊥
+IsQuiet (Some (ends op)) = ⊥
+IsQuiet _ = Unit {0}
+
+-- Instructions one behind the other from an address on, of which the last is the end that seals, and none before it begins or ends an operation.
+pub record IsTrace (code : List ℕ) (op from : ℕ) (window : List Entry) : Type 0 where
+  pub made : (k : ℕ) (e : Entry) → slice_get window k ≡ Some e → IsMade code e × IsEntryBounded e
+  pub linked : (k : ℕ) (e next : Entry) → slice_get window k ≡ Some e → slice_get window (k + 1) ≡ Some next → Follows e next
+  pub starts : (e : Entry) → slice_get window 0 ≡ Some e → pc_of e ≡ from
+  pub front : List Entry
+  pub last : Entry
+  pub whole : window ≡ front ++ last ∷ []
+  pub seals : made_call last ≡ Some (ends op)
+  pub quiet : (k : ℕ) (e : Entry) → slice_get front k ≡ Some e → IsQuiet (made_call e)
+
+-- The window of a sealed run is a trace, from behind the SVC that opened it.
+abbrev pub WindowsAreTraces : Type 0
+WindowsAreTraces =
+    (image : Image) (o : Opening) (inputs : List ℤ) (writes : List Write) (n : ℕ) → Given inputs writes
+    → IsSealed (dev image o inputs writes n)
+    → IsTrace image.code o.op (next_pc o.begin_at) (window_of o (dev image o inputs writes n))
+
+-- A sealed run holds the chain of its window's returns, its branch bits and its indirect targets.
+pub record ReportsItsWindow (o : Opening) (run : Run) : Type 0 where
+  pub hash : run.state.hash ≡ chain (begin_record o.nonce o.op o.digest) (returns_of_run (window_of o run))
+  pub bits : run.state.bits ≡ bits_of_run (window_of o run)
+  pub targets : run.state.targets ≡ targets_of_run (window_of o run)
+
+abbrev pub RunsReportTheirWindow : Type 0
+RunsReportTheirWindow =
+    (image : Image) (o : Opening) (inputs : List ℤ) (writes : List Write) (n : ℕ)
+    → IsSealed (dev image o inputs writes n) → ReportsItsWindow o (dev image o inputs writes n)

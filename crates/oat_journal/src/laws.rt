@@ -1,0 +1,57 @@
+//! Laws of journals and of measured runs, each the contract of a function that does nothing.
+ghost use Rattle.oat_journal.specs.Journal.{JournalIsBounded, JournalIsLinked, JournalIsMade};
+ghost use Rattle.oat_journal.specs.Measured.{RunsReportExactly};
+ghost use Rattle.oat_journal.specs.Progress.{TurnsAreTheRun};
+ghost use Rattle.oat_journal.specs.Trace.{RunsReportTheirWindow, WindowsAreTraces};
+ghost use Rattle.oat_journal.specs.Worked.{OneJumpIsMeasured};
+ghost use Rattle.oat_journal.specs.Violations.{NoViolationIsSound, ViolationsAreExact};
+
+/// Each entry of a journal is an instruction of the code, and left what the machine step leaves.
+pub fn journal_is_made()
+    ensures { JournalIsMade }
+{}
+
+/// Each entry finds the registers that the one before it left, whatever was written between them.
+pub fn journal_is_linked()
+    ensures { JournalIsLinked }
+{}
+
+/// Registers have 64 bits and memory has bytes in each entry, whatever was given and written.
+pub fn journal_is_bounded()
+    ensures { JournalIsBounded }
+{}
+
+/// A sealed state holds the violation of the first use of its window that wasn't sound.
+pub fn violations_are_exact()
+    ensures { ViolationsAreExact }
+{}
+
+/// Each use in the window of a sealed state without a violation found the last defined value.
+pub fn no_violation_is_sound()
+    ensures { NoViolationIsSound }
+{}
+
+/// The violation that a sealed run reports is that of the first checked use that wasn't sound, whatever was given and written.
+pub fn runs_report_exactly()
+    ensures { RunsReportExactly }
+{}
+
+/// The window of a sealed run is a trace of its code from behind the call that opened it, whatever was given and written.
+pub fn windows_are_traces()
+    ensures { WindowsAreTraces }
+{}
+
+/// A sealed run holds the chain of its window's returns, its branch bits and its indirect targets.
+pub fn runs_report_their_window()
+    ensures { RunsReportTheirWindow }
+{}
+
+/// The smallest image with a jump, run by the definitions: it seals within five instructions, shows the jump and the end, and the sixth halts it.
+pub fn one_jump_is_measured()
+    ensures { OneJumpIsMeasured }
+{}
+
+/// Turn by turn a run comes to the measured run, for every number of turns.
+pub fn turns_are_the_run()
+    ensures { TurnsAreTheRun }
+{}

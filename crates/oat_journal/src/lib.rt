@@ -1,0 +1,7 @@
+//! Runs of an image: the bare run and its journal, the window of an operation, and the measured run.
+#![tactic(auto)]
+
+mod end;
+pub mod laws;
+
+pub use end::{DeviceEnd, StopKind};

@@ -1,5 +1,0 @@
-use Rattle.oat_shape.proofs.Bounds.{journal_is_bounded}
-use Rattle.oat_shape.proofs.laws.journal_is_bounded.Goals as goal
-
-pub returns : goal.returns
-returns c = journal_is_bounded

@@ -1,5 +1,0 @@
-use Rattle.oat_shape.proofs.Linkage.{journal_is_linked}
-use Rattle.oat_shape.proofs.laws.journal_is_linked.Goals as goal
-
-pub returns : goal.returns
-returns c = journal_is_linked
