@@ -10,9 +10,9 @@ use crate::writes::make_due;
 use oat_a64::Event;
 use oat_case::Write;
 use oat_cpu::Cpu;
+use oat_journal::DeviceEnd;
 use oat_map::TrapKind;
 use oat_mem::Memory;
-use oat_journal::DeviceEnd;
 
 /// A bare run at the moment before an instruction.
 #[derive(Drop)]

@@ -16,8 +16,8 @@ use crate::call::{MonitorCall, call_numbered};
 use crate::monitor::told;
 use oat_a64::Event;
 use oat_cpu::Cpu;
-use oat_measure::Engine;
 use oat_journal::DeviceEnd;
+use oat_measure::Engine;
 
 #[derive(Drop)]
 pub struct Course<'a> {

@@ -13,9 +13,9 @@ use crate::course::Course;
 use crate::start::{opening, start_cells, start_memory};
 use oat_case::Case;
 use oat_cpu::Cpu;
-use oat_measure::{Engine, Sealed, Unmeasured};
 use oat_journal::DeviceEnd;
-use oat_shape::{Shaped};
+use oat_measure::{Engine, Sealed, Unmeasured};
+use oat_shape::Shaped;
 use std::alloc::{AllocError, Global};
 use std::marker::Model;
 

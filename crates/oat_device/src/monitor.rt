@@ -9,8 +9,8 @@ ghost use Rattle.oat_journal.specs.Progress.{kept, stop_of};
 ghost use Rattle.oat_device.specs.Calls.{call_of};
 
 use crate::call::MonitorCall;
-use oat_measure::{Begun, Ended, Engine, Measuring, Sealed, Unmeasured};
 use oat_journal::StopKind;
+use oat_measure::{Begun, Ended, Engine, Measuring, Sealed, Unmeasured};
 
 fn told_before(mut before: Unmeasured, call: MonitorCall) -> Engine
     ensures state { measured before.opening (state_at unmeasured before) (Some (call_of call)) ≡ Ok (engine_state result) }

@@ -8,8 +8,8 @@ ghost use Rattle.oat_tool.specs.Pages.{outcome_of};
 use crate::page::{Page, Status};
 use crate::texts::put_long_address;
 use oat_a64::FaultKind;
-use oat_map::TrapKind;
 use oat_journal::{DeviceEnd, StopKind};
+use oat_map::TrapKind;
 use std::alloc::{AllocError, Global};
 
 fn trap_name(kind: TrapKind) -> &'static str
