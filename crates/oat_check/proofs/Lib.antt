@@ -2,10 +2,12 @@ mod Bounds
 mod Cells
 mod Checking
 mod Cutting
+mod FirstIn
 mod Frames
 mod Keeping
 mod Lines
 mod Locals
+mod Numbers
 mod Places
 mod Short
 mod Sourcing

@@ -4,6 +4,7 @@ pub mod Keeping
 pub mod Lines
 pub mod Naming
 pub mod Operators
+pub mod Places
 pub mod RuleLaws
 pub mod Rules
 pub mod RunLaws

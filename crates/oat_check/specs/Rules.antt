@@ -1,7 +1,7 @@
 -- The checking rules, and the first that a program breaks, with its place (docs/FORMATS.md, "Checking").
 use Rattle.std.specs.Prelude.{◌≡◌, ℕ, suc, Bool, true, false, not, ◌&&◌, ◌||◌, nat_eq, nat_lt, if◌then◌else◌, List, [], ◌∷◌, length, take, slice_get, Option, Some, None}
 use Rattle.std.specs.Option.{option_map, option_or}
-use Rattle.std.specs.List.{sum_by, list_any}
+use Rattle.std.specs.List.{sum_by, list_any, list_all, zip}
 use Rattle.oat_ir.specs.declared.program.Program.{Program}
 use Rattle.oat_ir.specs.declared.program.GlobalItem.{GlobalItem}
 use Rattle.oat_ir.specs.declared.program.GlobalItem.TheVariants.{Scalar, FnScalar, Array, CriticalArray}
@@ -65,8 +65,7 @@ abbrev pub holds_number : Func → ℕ → Bool
 holds_number f x = are_alike (local_ty f x) (Some I64)
 
 abbrev pub hold_numbers : Func → List ℕ → Bool
-hold_numbers f [] = true
-hold_numbers f (x ∷ xs) = holds_number f x && hold_numbers f xs
+hold_numbers f xs = list_all (holds_number f) xs
 
 -- x has a type fn/K, and K is this number
 abbrev pub refers_with : Func → ℕ → ℕ → Bool
@@ -94,13 +93,11 @@ abbrev pub parameters : Func → List Local
 parameters f = take f.params f.locals
 
 abbrev pub takes_numbers : List Local → Bool
-takes_numbers [] = true
-takes_numbers (param ∷ params) = one_ty param.ty I64 && takes_numbers params
+takes_numbers params = list_all (λ param. one_ty param.ty I64) params
 
 -- these locals have the types of the parameters, one by one
 abbrev pub are_as : Func → List ℕ → List Local → Bool
-are_as f (x ∷ xs) (param ∷ params) = are_alike (local_ty f x) (Some param.ty) && are_as f xs params
-are_as f _ _ = true
+are_as f xs params = list_all (λ pair. are_alike (local_ty f pair.0) (Some pair.1.ty)) (zip xs params)
 
 -- ---- the rules on one line of function f
 
@@ -114,9 +111,13 @@ abbrev pub calls_operation : Program → Func → CodeLine → Bool
 calls_operation p f (instruction (Call x g args)) = is_func p is_operation g && not (is_main f)
 calls_operation p f _ = false
 
--- a reference of main, of an operation, or of a function with a parameter that isn't a number
+-- main, an operation, or a function with a parameter that isn't a number
+abbrev pub is_no_target : Func → Bool
+is_no_target callee = is_main callee || is_operation callee || not (takes_numbers (parameters callee))
+
+-- a reference of a function that may have none
 abbrev pub refers_amiss : Program → CodeLine → Bool
-refers_amiss p (instruction (RefTo x g)) = is_func p (λ callee. is_main callee || is_operation callee || not (takes_numbers (parameters callee))) g
+refers_amiss p (instruction (RefTo x g)) = is_func p is_no_target g
 refers_amiss p _ = false
 
 -- a type fn/K, where K is another number

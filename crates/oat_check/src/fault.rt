@@ -1,3 +1,5 @@
+use oat_ir::Program;
+
 /// The kinds of checking rules.
 #[derive(Clone, Copy, Debug, PartialEq, Eq)]
 pub enum CheckKind {
@@ -36,4 +38,12 @@ pub enum CheckFault {
     },
     /// There was no memory for the check.
     Memory,
+}
+
+/// A program that breaks a checking rule.
+#[derive(Debug, Drop)]
+pub struct CheckRefusal {
+    /// The program, as it was handed in.
+    pub program: Program,
+    pub fault: CheckFault,
 }
