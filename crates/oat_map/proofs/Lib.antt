@@ -1,3 +1,4 @@
+pub mod NameTests
 pub mod RowLemmas
 pub mod StackLemmas
 mod TargetLemmas

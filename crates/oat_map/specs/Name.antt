@@ -1,6 +1,7 @@
 -- What a name is: the form that program texts and image texts give to functions and labels (docs/FORMATS.md).
-use Rattle.std.specs.Prelude.{ℕ, ◌≡◌, ◌≤◌, ◌⊎◌, List, length, slice_index, All}
-use Rattle.std.specs.Char.{IsAsciiAlphanumeric, IsAsciiDigit}
+use Rattle.std.specs.Prelude.{ℕ, ◌≡◌, ◌≤◌, ◌⊎◌, Bool, not, ◌&&◌, ◌||◌, ◌==◌, nat_lt, List, length, slice_index, All, Option, Some, None, if◌then◌else◌}
+use Rattle.std.specs.Char.{IsAsciiAlphanumeric, IsAsciiDigit, is_ascii_alphanumeric, is_ascii_digit}
+use Rattle.std.specs.List.{list_all}
 
 abbrev pub underscore : ℕ
 underscore = 95
@@ -15,3 +16,15 @@ pub record IsName (text : List ℕ) : Type 0 where
   pub short : length text ≤ 32
   pub word : All IsNameByte text
   pub no_number : ¬ IsAsciiDigit (slice_index text 0)
+
+-- ---- the same as one test
+
+abbrev pub is_name_byte : ℕ → Bool
+is_name_byte c = is_ascii_alphanumeric c || c == underscore
+
+abbrev pub is_name : List ℕ → Bool
+is_name text = nat_lt 0 (length text) && nat_lt (length text) 33 && list_all is_name_byte text && not (is_ascii_digit (slice_index text 0))
+
+-- the name that a text spells
+abbrev pub read_name : List ℕ → Option (List ℕ)
+read_name text = if is_name text then Some text else None

@@ -1,5 +1,5 @@
 ghost use Rattle.std.specs.Prelude.{◌≡◌, ◌↔◌, IsTrue, IsSome, IfSome, length, take};
-ghost use Rattle.oat_map.specs.Name.{IsName, IsNameByte};
+ghost use Rattle.oat_map.specs.Name.{IsName, IsNameByte, read_name};
 
 use std::marker::Model;
 
@@ -28,6 +28,7 @@ impl Name {
     pub fn new(text: &[u8]) -> Option<Name>
         ensures exact { IsSome result ↔ IsName text.now }
         ensures same { IfSome result (λ name. name ≡ text.now) }
+        ensures read { result ≡ read_name text.now }
     {
         if is_name(text) {
             Some(Name::from_name(text))

@@ -1,4 +1,4 @@
-mod Examples
 pub mod Programs
 mod Said
+mod Tables
 mod Spelled

@@ -9,6 +9,7 @@ use Rattle.std.proofs.lemmas.Fmt.{decimal_digit, decimal_nonempty}
 use Rattle.std.proofs.lemmas.List.Elements.{recursion_from_All}
 use Rattle.std.proofs.lemmas.List.Folds.{list_all-append}
 use Rattle.oat_lines.specs.Decimal.{is_decimal_digit, numeral_of, leads_with_zero}
+use Rattle.oat_lines.specs.Integer.{is_i64}
 use Rattle.oat_lines.specs.Fields.{is_visible}
 use Rattle.oat_lines.specs.Lines.{is_comment}
 use Rattle.oat_lines.proofs.Decimals.{decimal_digits, decimal_again}
@@ -17,7 +18,7 @@ use Rattle.oat_map.specs.Name.{IsName, IsNameByte}
 use Rattle.oat_ir.specs.declared.func.Ty.{Ty}
 use Rattle.oat_ir.specs.declared.func.Ty.TheVariants.{I64, Fn}
 use Rattle.oat_ir.specs.WellFormed.{IsTy}
-use Rattle.oat_text.specs.Words.{Word, Said, Keyword, Named, Typed, Parameter, Number, Integer, Says, word_of, is_i64, ty_text, reference_text}
+use Rattle.oat_text.specs.Words.{Word, Said, Keyword, Named, Typed, Parameter, Number, Integer, Says, word_of, ty_text, reference_text}
 use Rattle.oat_text.proofs.Spelled.{IsPlain}
 
 pub record IsSayable (said : Said) : Type 0 where

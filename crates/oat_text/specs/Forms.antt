@@ -1,92 +1,114 @@
--- The table of lines of a program text: what may stand behind each first word (docs/FORMATS.md, "Program text").
-use Rattle.std.specs.Prelude.{List, [], ◌∷◌, ◌++◌, map, find, replicate, codes, Option, Some, None, option_map}
+-- The table of lines of a program text: what stands behind each first word (docs/FORMATS.md, "Program text").
+use Rattle.std.specs.Prelude.{ℕ, List, [], ◌∷◌, find, codes, Option}
 use Rattle.std.specs.Str.{bytes_eq}
-use Rattle.oat_ir.specs.declared.instr.BinOp.TheVariants.{Add, Sub, Mul, And, Or, Xor, Shl, Shr, Sar, Eq, Ne, Lt, Le, Ltu, Leu, Div, Rem, Divu, Remu}
+use Rattle.oat_text.specs.declared.form.LineForm.{LineForm}
+use Rattle.oat_text.specs.declared.form.LineForm.TheVariants as line
+use Rattle.oat_text.specs.declared.form.GlobalForm.{GlobalForm}
+use Rattle.oat_text.specs.declared.form.GlobalForm.TheVariants as globals
+use Rattle.oat_text.specs.declared.form.FuncForm.{FuncForm}
+use Rattle.oat_text.specs.declared.form.FuncForm.TheVariants as funcs
+use Rattle.oat_text.specs.declared.form.InstrForm.{InstrForm}
+use Rattle.oat_text.specs.declared.form.InstrForm.TheVariants as instrs
+use Rattle.oat_text.specs.declared.form.TermForm.{TermForm}
+use Rattle.oat_text.specs.declared.form.TermForm.TheVariants as terms
+use Rattle.oat_text.specs.declared.form.WordKind.{WordKind}
+use Rattle.oat_text.specs.declared.form.WordKind.TheVariants.{Named, Typed, Parameter, Start, Integer, Count}
+use Rattle.oat_text.specs.declared.form.TheConstants.{FORMS}
 use Rattle.oat_text.specs.Words.{Word}
 use Rattle.oat_text.specs.Grammar.{op_keyword}
 
--- what stands at a place of a line
-pub data Place : Type 0 where
-  NewName : Place
-  LocalName : Place
-  BlockName : Place
-  GlobalName : Place
-  FuncName : Place
-  TypePlace : Place
-  ParameterPlace : Place
-  -- the start of a scalar, or the type of a function scalar
-  StartPlace : Place
-  IntegerPlace : Place
-  LengthPlace : Place
-  OperationPlace : Place
+-- ---- first words
 
--- what a line is there for
-pub data Kind : Type 0 where
-  GlobalLine : Kind
-  FuncLine : Kind
-  OperationLine : Kind
-  MainLine : Kind
-  LocalLine : Kind
-  BlockLine : Kind
-  EndLine : Kind
-  InstrLine : Kind
-  TermLine : Kind
+abbrev pub global_word : GlobalForm → Word
+global_word globals.Plain = codes "global"
+global_word globals.Critical = codes "critical"
+global_word globals.Array = codes "array"
+global_word globals.Criticals = codes "criticals"
 
--- Behind its first word a line has words at these places, and up to four further ones where more of a kind may follow.
-pub record Form : Type 0 where
-  pub kind : Kind
-  pub places : List Place
-  pub more : Option Place
+abbrev pub func_word : FuncForm → Word
+func_word funcs.Plain = codes "func"
+func_word funcs.Operation = codes "operation"
+func_word funcs.Main = codes "main"
 
-abbrev pub just : Kind → List Place → Form
-just kind places = record { kind = kind; places = places; more = None }
+abbrev pub instr_word : InstrForm → Word
+instr_word instrs.Const = codes "const"
+instr_word instrs.Copy = codes "copy"
+instr_word (instrs.Binary op) = op_keyword op
+instr_word instrs.Load = codes "load"
+instr_word instrs.Store = codes "store"
+instr_word instrs.LoadX = codes "loadx"
+instr_word instrs.StoreX = codes "storex"
+instr_word instrs.RefTo = codes "ref"
+instr_word instrs.Call = codes "call"
+instr_word instrs.ICall = codes "icall"
+instr_word instrs.Input = codes "in"
+instr_word instrs.Output = codes "out"
 
-abbrev pub with_more : Kind → List Place → Place → Form
-with_more kind places more = record { kind = kind; places = places; more = Some more }
+abbrev pub term_word : TermForm → Word
+term_word terms.Jump = codes "jump"
+term_word terms.Branch = codes "branch"
+term_word terms.Ret = codes "ret"
+term_word terms.Halt = codes "halt"
 
-abbrev pub op_words : List Word
-op_words = map op_keyword (Add ∷ Sub ∷ Mul ∷ And ∷ Or ∷ Xor ∷ Shl ∷ Shr ∷ Sar ∷ Eq ∷ Ne ∷ Lt ∷ Le ∷ Ltu ∷ Leu ∷ Div ∷ Rem ∷ Divu ∷ Remu ∷ [])
-
-abbrev pub op_forms : List (Word × Form)
-op_forms = map (λ word. (word, just InstrLine (LocalName ∷ LocalName ∷ LocalName ∷ []))) op_words
-
-abbrev pub forms : List (Word × Form)
-forms =
-    (codes "global", just GlobalLine (NewName ∷ StartPlace ∷ []))
-    ∷ (codes "critical", just GlobalLine (NewName ∷ IntegerPlace ∷ []))
-    ∷ (codes "array", just GlobalLine (NewName ∷ LengthPlace ∷ []))
-    ∷ (codes "func", with_more FuncLine (NewName ∷ []) ParameterPlace)
-    ∷ (codes "operation", with_more OperationLine (OperationPlace ∷ NewName ∷ []) ParameterPlace)
-    ∷ (codes "main", just MainLine [])
-    ∷ (codes "local", just LocalLine (NewName ∷ TypePlace ∷ []))
-    ∷ (codes "block", just BlockLine (NewName ∷ []))
-    ∷ (codes "end", just EndLine [])
-    ∷ (codes "const", just InstrLine (LocalName ∷ IntegerPlace ∷ []))
-    ∷ (codes "copy", just InstrLine (LocalName ∷ LocalName ∷ []))
-    ∷ (codes "load", just InstrLine (LocalName ∷ GlobalName ∷ []))
-    ∷ (codes "store", just InstrLine (GlobalName ∷ LocalName ∷ []))
-    ∷ (codes "loadx", just InstrLine (LocalName ∷ GlobalName ∷ LocalName ∷ []))
-    ∷ (codes "storex", just InstrLine (GlobalName ∷ LocalName ∷ LocalName ∷ []))
-    ∷ (codes "ref", just InstrLine (LocalName ∷ FuncName ∷ []))
-    ∷ (codes "call", with_more InstrLine (LocalName ∷ FuncName ∷ []) LocalName)
-    ∷ (codes "icall", with_more InstrLine (LocalName ∷ LocalName ∷ []) LocalName)
-    ∷ (codes "in", just InstrLine (LocalName ∷ []))
-    ∷ (codes "out", just InstrLine (LocalName ∷ []))
-    ∷ (codes "jump", just TermLine (BlockName ∷ []))
-    ∷ (codes "branch", just TermLine (LocalName ∷ BlockName ∷ BlockName ∷ []))
-    ∷ (codes "ret", just TermLine (LocalName ∷ []))
-    ∷ (codes "halt", just TermLine [])
-    ∷ op_forms
+abbrev pub spelled : LineForm → Word
+spelled (line.Global form) = global_word form
+spelled (line.Func form) = func_word form
+spelled line.Local = codes "local"
+spelled line.Block = codes "block"
+spelled line.End = codes "end"
+spelled (line.Instr form) = instr_word form
+spelled (line.Term form) = term_word form
 
 -- the form that a first word begins
-abbrev pub form_of : Word → Option Form
-form_of word = option_map (λ row. row.1) (find (λ row. bytes_eq word row.0) forms)
+abbrev pub form_of : Word → Option LineForm
+form_of word = find (λ form. bytes_eq word (spelled form)) FORMS
 
--- the further places, as many as there may be
-abbrev pub further : Option Place → List Place
-further None = []
-further (Some place) = replicate 4 place
+-- ---- the words behind the first one
 
--- all places of a line, with the further ones
-abbrev pub places_of : Form → List Place
-places_of form = form.places ++ further form.more
+abbrev pub global_kinds : GlobalForm → List WordKind
+global_kinds globals.Plain = Named ∷ Start ∷ []
+global_kinds globals.Critical = Named ∷ Integer ∷ []
+global_kinds globals.Array = Named ∷ Count 65536 ∷ []
+global_kinds globals.Criticals = Named ∷ Count 4096 ∷ []
+
+abbrev pub func_kinds : FuncForm → List WordKind
+func_kinds funcs.Plain = Named ∷ Parameter ∷ Parameter ∷ Parameter ∷ Parameter ∷ []
+func_kinds funcs.Operation = Count 65535 ∷ Named ∷ Parameter ∷ Parameter ∷ Parameter ∷ Parameter ∷ []
+func_kinds funcs.Main = []
+
+abbrev pub instr_kinds : InstrForm → List WordKind
+instr_kinds instrs.Const = Named ∷ Integer ∷ []
+instr_kinds instrs.Copy = Named ∷ Named ∷ []
+instr_kinds (instrs.Binary op) = Named ∷ Named ∷ Named ∷ []
+instr_kinds instrs.Load = Named ∷ Named ∷ []
+instr_kinds instrs.Store = Named ∷ Named ∷ []
+instr_kinds instrs.LoadX = Named ∷ Named ∷ Named ∷ []
+instr_kinds instrs.StoreX = Named ∷ Named ∷ Named ∷ []
+instr_kinds instrs.RefTo = Named ∷ Named ∷ []
+instr_kinds instrs.Call = Named ∷ Named ∷ Named ∷ Named ∷ Named ∷ Named ∷ []
+instr_kinds instrs.ICall = Named ∷ Named ∷ Named ∷ Named ∷ Named ∷ Named ∷ []
+instr_kinds instrs.Input = Named ∷ []
+instr_kinds instrs.Output = Named ∷ []
+
+abbrev pub term_kinds : TermForm → List WordKind
+term_kinds terms.Jump = Named ∷ []
+term_kinds terms.Branch = Named ∷ Named ∷ Named ∷ []
+term_kinds terms.Ret = Named ∷ []
+term_kinds terms.Halt = []
+
+abbrev pub kinds_of : LineForm → List WordKind
+kinds_of (line.Global form) = global_kinds form
+kinds_of (line.Func form) = func_kinds form
+kinds_of line.Local = Named ∷ Typed ∷ []
+kinds_of line.Block = Named ∷ []
+kinds_of line.End = []
+kinds_of (line.Instr form) = instr_kinds form
+kinds_of (line.Term form) = term_kinds form
+
+-- how many of these may be wanting at the end: up to four parameters or arguments
+abbrev pub optional : LineForm → ℕ
+optional (line.Func funcs.Plain) = 4
+optional (line.Func funcs.Operation) = 4
+optional (line.Instr instrs.Call) = 4
+optional (line.Instr instrs.ICall) = 4
+optional _ = 0

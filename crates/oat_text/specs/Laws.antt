@@ -1,6 +1,7 @@
 -- What is printed for a program is a text of it (docs/FORMATS.md, "Program text").
 use Rattle.std.specs.Prelude.{IsTrue}
 use Rattle.std.specs.List.{All}
+use Rattle.oat_lines.specs.Integer.{is_i64}
 use Rattle.oat_map.specs.Name.{IsName}
 use Rattle.oat_ir.specs.declared.program.Program.{Program}
 use Rattle.oat_ir.specs.declared.program.GlobalItem.{GlobalItem}
@@ -10,7 +11,6 @@ use Rattle.oat_ir.specs.declared.func.BlockIr.{BlockIr}
 use Rattle.oat_ir.specs.declared.instr.Instr.{Instr}
 use Rattle.oat_ir.specs.declared.instr.Instr.TheVariants.{Const}
 use Rattle.oat_ir.specs.WellFormed.{IsProgram}
-use Rattle.oat_text.specs.Words.{is_i64}
 use Rattle.oat_text.specs.Grammar.{IsProgramText, program_text}
 
 -- ---- what values of the Rust types have, and lists of numbers needn't: names are names, and numbers have 64 bits

@@ -1,8 +1,9 @@
+pub mod Bodies
 pub mod FaultText
-pub mod Faults
 pub mod Forms
 pub mod Grammar
 pub mod Laws
+pub mod Outline
+pub mod Passes
+pub mod Readings
 pub mod Words
-pub mod Worked
-pub mod WorkedLoop

@@ -1,25 +1,15 @@
 -- What a word of a program text says, and which words say it (docs/FORMATS.md, "Program text"). Keywords, names and types
 -- have one spelling; numbers may have leading zeros, and -0 is 0.
-use Rattle.std.specs.Prelude.{ℕ, ℤ, pos, negsuc, neg_ℤ, ◌≡◌, ◌^◌, Bool, IsTrue, nat_lt, List, ◌++◌, drop, codes, decimal, Option, Some, option_map, if◌then◌else◌}
+use Rattle.std.specs.Prelude.{ℕ, ℤ, ◌≡◌, IsTrue, List, ◌++◌, codes, decimal, Some}
 use Rattle.std.specs.Fmt.{signed_decimal}
-use Rattle.std.specs.Str.Parse.{starts_with_minus}
 use Rattle.oat_lines.specs.Decimal.{numeral_of}
+use Rattle.oat_lines.specs.Integer.{integer_of, is_i64}
 use Rattle.oat_map.specs.Name.{IsName}
 use Rattle.oat_ir.specs.declared.func.Ty.{Ty}
 use Rattle.oat_ir.specs.declared.func.Ty.TheVariants.{I64, Fn}
 
 abbrev pub Word : Type 0
 Word = List ℕ
-
--- digits, or digits behind a minus
-abbrev pub integer_of : Word → Option ℤ
-integer_of word =
-    if starts_with_minus word then option_map (λ n. neg_ℤ (pos n)) (numeral_of (drop 1 word)) else option_map (λ n. pos n) (numeral_of word)
-
--- a number of 64 bits in two's complement
-abbrev pub is_i64 : ℤ → Bool
-is_i64 (pos n) = nat_lt n (2 ^ 63)
-is_i64 (negsuc n) = nat_lt n (2 ^ 63)
 
 -- the word of a reference of a function with so many parameters
 abbrev pub reference_text : ℕ → Word

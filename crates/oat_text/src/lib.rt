@@ -2,9 +2,12 @@
 #![tactic(auto)]
 
 mod fault;
+mod form;
+mod head;
 pub mod laws;
+mod table;
 
-pub use fault::TextFault;
+pub use fault::{TextFault, TextFaultKind};
 
 #[cfg(test)]
 mod tests;

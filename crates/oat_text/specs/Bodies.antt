@@ -1,0 +1,221 @@
+-- The program that a text stands for, from what its lines declare, or else the first line that names something that isn't
+-- declared: the second pass (docs/FORMATS.md, "Program text").
+use Rattle.std.specs.Prelude.{ℕ, List, [], ◌∷◌, ◌++◌, length, position, drop, zip, map, nat_le, Option, None, slice_get, option_map, option_and_then, Result, Ok}
+use Rattle.std.specs.Option.{ok_or}
+use Rattle.std.specs.Str.{bytes_eq}
+use Rattle.oat_lines.specs.Faults.{at}
+use Rattle.oat_lines.specs.Lines.{lines_of}
+use Rattle.oat_lines.specs.Reading.{◌>>=◌, guard}
+use Rattle.oat_ir.specs.declared.program.Program.{Program}
+use Rattle.oat_ir.specs.declared.program.GlobalItem.{GlobalItem}
+use Rattle.oat_ir.specs.declared.func.Func.{Func}
+use Rattle.oat_ir.specs.declared.func.Local.{Local}
+use Rattle.oat_ir.specs.declared.func.BlockIr.{BlockIr}
+use Rattle.oat_ir.specs.declared.instr.BinOp.{BinOp}
+use Rattle.oat_ir.specs.declared.instr.Instr.{Instr}
+use Rattle.oat_ir.specs.declared.instr.Instr.TheVariants.{Const, Copy, Binary, Load, Store, LoadX, StoreX, RefTo, Call, ICall, Input, Output}
+use Rattle.oat_ir.specs.declared.instr.Term.{Term}
+use Rattle.oat_ir.specs.declared.instr.Term.TheVariants.{Jump, Branch, Ret, Halt}
+use Rattle.oat_ir.specs.Distinct.{global_name}
+use Rattle.oat_text.specs.declared.form.LineForm.{LineForm}
+use Rattle.oat_text.specs.declared.form.LineForm.TheVariants as line
+use Rattle.oat_text.specs.declared.form.InstrForm.{InstrForm}
+use Rattle.oat_text.specs.declared.form.InstrForm.TheVariants as instrs
+use Rattle.oat_text.specs.declared.form.TermForm.{TermForm}
+use Rattle.oat_text.specs.declared.form.TermForm.TheVariants as terms
+use Rattle.oat_text.specs.declared.fault.TextFaultKind.{TextFaultKind}
+use Rattle.oat_text.specs.declared.fault.TextFaultKind.TheVariants.{Number, Unknown}
+use Rattle.oat_text.specs.declared.head.Head.{Head}
+use Rattle.oat_text.specs.Words.{Word}
+use Rattle.oat_text.specs.Forms.{form_of}
+use Rattle.oat_text.specs.Passes.{OrFault, numbered, over}
+use Rattle.oat_text.specs.Readings.{i64_of}
+use Rattle.oat_text.specs.Outline.{Outline, itself, local_name, name_at, outline_of}
+
+-- ---- names
+
+-- the names that an instruction may use
+pub record Scope : Type 0 where
+  pub globals : List GlobalItem
+  pub funcs : List Word
+  pub locals : List Local
+  pub labels : List Word
+
+-- the index of the thing of this name
+abbrev pub number_of : {X : Type 0} → (X → Word) → List X → Word → Option ℕ
+number_of called items word = position (λ item. bytes_eq word (called item)) items
+
+abbrev pub global_number : Scope → List Word → ℕ → Result ℕ TextFaultKind
+global_number s words k = ok_or (option_and_then (number_of global_name s.globals) (slice_get words k)) Unknown
+
+abbrev pub func_number : Scope → List Word → ℕ → Result ℕ TextFaultKind
+func_number s words k = ok_or (option_and_then (number_of itself s.funcs) (slice_get words k)) Unknown
+
+abbrev pub local_number : Scope → List Word → ℕ → Result ℕ TextFaultKind
+local_number s words k = ok_or (option_and_then (number_of local_name s.locals) (slice_get words k)) Unknown
+
+abbrev pub label_number : Scope → List Word → ℕ → Result ℕ TextFaultKind
+label_number s words k = ok_or (option_and_then (number_of itself s.labels) (slice_get words k)) Unknown
+
+-- ---- instructions and terminators
+
+unfoldable pub arguments : Scope → List Word → Result (List ℕ) TextFaultKind
+arguments s [] = Ok []
+arguments s (word ∷ words) = do
+  x ← ok_or (number_of local_name s.locals word) Unknown
+  xs ← arguments s words
+  Ok (x ∷ xs)
+
+-- at most four
+unfoldable pub args_of : Scope → List Word → Result (List ℕ) TextFaultKind
+args_of s words = do
+  few ← guard (nat_le (length words) 4) Unknown
+  arguments s words
+
+unfoldable pub binary_of : Scope → BinOp → List Word → Result Instr TextFaultKind
+binary_of s op words = do
+  x ← local_number s words 0
+  y ← local_number s words 1
+  z ← local_number s words 2
+  Ok (Binary op x y z)
+
+unfoldable pub const_of : Scope → List Word → Result Instr TextFaultKind
+const_of s words = do
+  x ← local_number s words 0
+  value ← ok_or (option_and_then i64_of (slice_get words 1)) Number
+  Ok (Const x value)
+
+unfoldable pub loadx_of : Scope → List Word → Result Instr TextFaultKind
+loadx_of s words = do
+  x ← local_number s words 0
+  array ← global_number s words 1
+  i ← local_number s words 2
+  Ok (LoadX x array i)
+
+unfoldable pub storex_of : Scope → List Word → Result Instr TextFaultKind
+storex_of s words = do
+  array ← global_number s words 0
+  i ← local_number s words 1
+  x ← local_number s words 2
+  Ok (StoreX array i x)
+
+unfoldable pub call_of : Scope → List Word → Result Instr TextFaultKind
+call_of s words = do
+  x ← local_number s words 0
+  func ← func_number s words 1
+  args ← args_of s (drop 2 words)
+  Ok (Call x func args)
+
+unfoldable pub icall_of : Scope → List Word → Result Instr TextFaultKind
+icall_of s words = do
+  x ← local_number s words 0
+  y ← local_number s words 1
+  args ← args_of s (drop 2 words)
+  Ok (ICall x y args)
+
+unfoldable pub instr_of : Scope → InstrForm → List Word → Result Instr TextFaultKind
+instr_of s instrs.Const words = const_of s words
+instr_of s instrs.Copy words = do
+  x ← local_number s words 0
+  y ← local_number s words 1
+  Ok (Copy x y)
+instr_of s (instrs.Binary op) words = binary_of s op words
+instr_of s instrs.Load words = do
+  x ← local_number s words 0
+  global ← global_number s words 1
+  Ok (Load x global)
+instr_of s instrs.Store words = do
+  global ← global_number s words 0
+  x ← local_number s words 1
+  Ok (Store global x)
+instr_of s instrs.LoadX words = loadx_of s words
+instr_of s instrs.StoreX words = storex_of s words
+instr_of s instrs.RefTo words = do
+  x ← local_number s words 0
+  func ← func_number s words 1
+  Ok (RefTo x func)
+instr_of s instrs.Call words = call_of s words
+instr_of s instrs.ICall words = icall_of s words
+instr_of s instrs.Input words = do
+  x ← local_number s words 0
+  Ok (Input x)
+instr_of s instrs.Output words = do
+  x ← local_number s words 0
+  Ok (Output x)
+
+unfoldable pub term_of : Scope → TermForm → List Word → Result Term TextFaultKind
+term_of s terms.Jump words = do
+  to ← label_number s words 0
+  Ok (Jump to)
+term_of s terms.Branch words = do
+  x ← local_number s words 0
+  first ← label_number s words 1
+  second ← label_number s words 2
+  Ok (Branch x first second)
+term_of s terms.Ret words = do
+  x ← local_number s words 0
+  Ok (Ret x)
+term_of s terms.Halt words = Ok Halt
+
+-- ---- the text
+
+-- what the lines so far give: the blocks of the functions that have ended, and those of the present one
+pub record Bodies : Type 0 where
+  pub outline : Outline
+  pub ended : List (List BlockIr)
+  pub blocks : List BlockIr
+  -- the block that has begun
+  pub label : Option Word
+  pub instrs : List Instr
+
+abbrev pub no_bodies : Outline → Bodies
+no_bodies outline = record { outline = outline; ended = []; blocks = []; label = None; instrs = [] }
+
+-- the names in the present function
+abbrev pub scope_of : Outline → Head → Scope
+scope_of o head = record { globals = o.globals; funcs = o.funcs; locals = head.locals; labels = head.labels }
+
+abbrev pub scope_in : Bodies → Result Scope TextFaultKind
+scope_in b = ok_or (option_map (scope_of b.outline) (slice_get b.outline.heads (length b.ended))) Unknown
+
+unfoldable pub instr_line : Bodies → InstrForm → List Word → Result Bodies TextFaultKind
+instr_line b form words = do
+  scope ← scope_in b
+  instr ← instr_of scope form words
+  Ok (record b { instrs = b.instrs ++ instr ∷ [] })
+
+unfoldable pub term_line : Bodies → TermForm → List Word → Result Bodies TextFaultKind
+term_line b form words = do
+  scope ← scope_in b
+  term ← term_of scope form words
+  label ← ok_or b.label Unknown
+  Ok (record b { blocks = b.blocks ++ (record { label = label; instrs = b.instrs; term = term }) ∷ []; label = None; instrs = [] })
+
+unfoldable pub line_of : Bodies → LineForm → List Word → Result Bodies TextFaultKind
+line_of b line.Block words = Ok (record b { label = name_at words 0 })
+line_of b (line.Instr form) words = instr_line b form words
+line_of b (line.Term form) words = term_line b form words
+line_of b line.End words = Ok (record b { ended = b.ended ++ b.blocks ∷ []; blocks = [] })
+line_of b _ words = Ok b
+
+-- a line that counts, by its words
+unfoldable pub body_line : ℕ → Bodies → List Word → OrFault Bodies
+body_line n b [] = Ok b
+body_line n b (first ∷ words) = at n (ok_or (form_of first) Unknown >>= λ form. line_of b form words)
+
+abbrev pub bodies_of : Outline → List ℕ → OrFault Bodies
+bodies_of outline text = over body_line (no_bodies outline) (numbered 1 (lines_of text))
+
+-- a function, from its name, what it declares, and its blocks
+abbrev pub func_from : Word × (Head × List BlockIr) → Func
+func_from f = record { name = f.0; role = f.1.0.role; params = f.1.0.params; locals = f.1.0.locals; blocks = f.1.1 }
+
+abbrev pub program_from : Outline → List (List BlockIr) → Program
+program_from outline bodies = record { globals = outline.globals; funcs = map func_from (zip outline.funcs (zip outline.heads bodies)) }
+
+-- the program, or the first fault with its line
+abbrev pub program_of : List ℕ → OrFault Program
+program_of text = do
+  outline ← outline_of text
+  bodies ← bodies_of outline text
+  Ok (program_from outline bodies.ended)

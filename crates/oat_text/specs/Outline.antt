@@ -1,0 +1,198 @@
+-- What the lines of a program text declare, or else the fault of its first bad line, but for names of nothing that is declared:
+-- the first pass (docs/FORMATS.md, "Program text"). A line's faults are looked for in the order Token, Expected, Number, Duplicate.
+use Rattle.std.specs.Prelude.{ℕ, ◌+◌, ◌==◌, ◌&&◌, Bool, true, false, not, List, [], ◌∷◌, ◌++◌, length, drop, codes, Option, slice_get, option_and_then, Result, Ok, if◌then◌else◌}
+use Rattle.std.specs.List.{list_all, list_any}
+use Rattle.std.specs.Option.{ok_or}
+use Rattle.std.specs.Str.{bytes_eq}
+use Rattle.oat_lines.specs.declared.fault.Fault.TheVariants.{At}
+use Rattle.oat_lines.specs.Faults.{at}
+use Rattle.oat_lines.specs.Lines.{lines_of}
+use Rattle.oat_lines.specs.Reading.{◌>>=◌, guard}
+use Rattle.oat_map.specs.Name.{read_name}
+use Rattle.oat_ir.specs.declared.program.GlobalItem.{GlobalItem}
+use Rattle.oat_ir.specs.declared.program.GlobalItem.TheVariants.{Scalar, FnScalar, Array, CriticalArray}
+use Rattle.oat_ir.specs.declared.func.Role.{Role}
+use Rattle.oat_ir.specs.declared.func.Role.TheVariants.{Plain, Operation, Main}
+use Rattle.oat_ir.specs.declared.func.Local.{Local}
+use Rattle.oat_ir.specs.Distinct.{global_name}
+use Rattle.oat_text.specs.declared.form.LineForm.{LineForm}
+use Rattle.oat_text.specs.declared.form.LineForm.TheVariants as line
+use Rattle.oat_text.specs.declared.form.GlobalForm.{GlobalForm}
+use Rattle.oat_text.specs.declared.form.GlobalForm.TheVariants as globals
+use Rattle.oat_text.specs.declared.form.FuncForm.{FuncForm}
+use Rattle.oat_text.specs.declared.form.FuncForm.TheVariants as funcs
+use Rattle.oat_text.specs.declared.fault.TextFaultKind.{TextFaultKind}
+use Rattle.oat_text.specs.declared.fault.TextFaultKind.TheVariants.{Token, Expected, Number, Duplicate}
+use Rattle.oat_text.specs.declared.head.Head.{Head}
+use Rattle.oat_text.specs.declared.head.Stage.{Stage}
+use Rattle.oat_text.specs.declared.head.Stage.TheVariants.{Outside, Locals, Inside, Behind}
+use Rattle.oat_text.specs.Words.{Word}
+use Rattle.oat_text.specs.Forms.{form_of, kinds_of}
+use Rattle.oat_text.specs.Passes.{OrFault, numbered, over}
+use Rattle.oat_text.specs.Readings.{params_of, local_of, parameter_of, i64_of, count_of, begins_reference, is_printable, is_shaped, is_numbered, all_pass, has_number}
+
+-- what the lines so far declare
+pub record Outline : Type 0 where
+  pub globals : List GlobalItem
+  -- the numbers of the operations
+  pub operations : List ℕ
+  -- the names of the functions that have begun
+  pub funcs : List Word
+  -- the functions that have ended: role, parameters, locals and labels
+  pub heads : List Head
+  -- the function that hasn't
+  pub present : Head
+  pub stage : Stage
+
+abbrev pub no_head : Head
+no_head = record { role = Plain; params = 0; locals = []; labels = [] }
+
+abbrev pub nothing : Outline
+nothing = record { globals = []; operations = []; funcs = []; heads = []; present = no_head; stage = Outside }
+
+-- ---- the tests of a line
+
+-- a line of this form may stand there; globals stand before the first function
+abbrev pub stands : Stage → Bool → LineForm → Bool
+stands Outside first (line.Global form) = first
+stands Outside first (line.Func form) = true
+stands Locals first line.Local = true
+stands Locals first line.Block = true
+stands Inside first (line.Instr form) = true
+stands Inside first (line.Term form) = true
+stands Behind first line.Block = true
+stands Behind first line.End = true
+stands _ first _ = false
+
+unfoldable pub fitting : Stage → Bool → LineForm → List Word → Result LineForm TextFaultKind
+fitting stage first form words = do
+  shaped ← guard (all_pass is_shaped (kinds_of form) words) Token
+  placed ← guard (stands stage first form && has_number form words) Expected
+  numbered ← guard (all_pass is_numbered (kinds_of form) words) Number
+  Ok form
+
+-- the form of a line that passes all tests
+unfoldable pub tested : Stage → Bool → Word → List Word → Result LineForm TextFaultKind
+tested stage first word words = do
+  printed ← guard (list_all is_printable (word ∷ words)) Token
+  form ← ok_or (form_of word) Expected
+  fitting stage first form words
+
+-- ---- what a line declares
+
+-- with one more thing, whose name is new among them
+abbrev pub add : {X : Type 0} → ℕ → (X → Word) → List X → X → OrFault (List X)
+add n called items item = do
+  new ← guard (not (list_any (λ other. bytes_eq (called item) (called other)) items)) (At n Duplicate)
+  Ok (items ++ item ∷ [])
+
+abbrev pub itself : Word → Word
+itself name = name
+
+abbrev pub local_name : Local → Word
+local_name local = local.name
+
+abbrev pub name_at : List Word → ℕ → Option Word
+name_at words k = option_and_then read_name (slice_get words k)
+
+-- a scalar, or a scalar of references
+unfoldable pub scalar_of : Word → Word → Result GlobalItem TextFaultKind
+scalar_of name word =
+    if begins_reference word
+    then (ok_or (params_of word) Token >>= λ params. Ok (FnScalar name params))
+    else (ok_or (i64_of word) Number >>= λ start. Ok (Scalar name start false))
+
+unfoldable pub global_of : GlobalForm → Word → Word → Result GlobalItem TextFaultKind
+global_of globals.Plain name word = scalar_of name word
+global_of globals.Critical name word = ok_or (i64_of word) Number >>= λ start. Ok (Scalar name start true)
+global_of globals.Array name word = ok_or (count_of 65536 word) Number >>= λ len. Ok (Array name len)
+global_of globals.Criticals name word = ok_or (count_of 4096 word) Number >>= λ len. Ok (CriticalArray name len)
+
+unfoldable pub global_in : GlobalForm → List Word → Result GlobalItem TextFaultKind
+global_in form words = do
+  name ← ok_or (name_at words 0) Token
+  word ← ok_or (slice_get words 1) Expected
+  global_of form name word
+
+unfoldable pub add_parameters : ℕ → List Local → List Word → OrFault (List Local)
+add_parameters n locals [] = Ok locals
+add_parameters n locals (word ∷ words) = do
+  parameter ← ok_or (parameter_of word) (At n Token)
+  more ← add n local_name locals parameter
+  add_parameters n more words
+
+-- a function of this role and name, with these parameters
+unfoldable pub begin_func : ℕ → Outline → Role → Word → List Word → OrFault Outline
+begin_func n o role name words = do
+  names ← add n itself o.funcs name
+  locals ← add_parameters n [] words
+  Ok (record o { funcs = names; present = record { role = role; params = length locals; locals = locals; labels = [] }; stage = Locals })
+
+unfoldable pub begin_operation : ℕ → Outline → ℕ → Word → List Word → OrFault Outline
+begin_operation n o id name words = do
+  new ← guard (not (list_any (λ other. id == other) o.operations)) (At n Duplicate)
+  begin_func n (record o { operations = o.operations ++ id ∷ [] }) (Operation id) name words
+
+unfoldable pub func_line : ℕ → Outline → FuncForm → List Word → OrFault Outline
+func_line n o funcs.Plain words = ok_or (name_at words 0) (At n Token) >>= λ name. begin_func n o Plain name (drop 1 words)
+func_line n o funcs.Operation words = do
+  id ← ok_or (option_and_then (count_of 65535) (slice_get words 0)) (At n Number)
+  name ← ok_or (name_at words 1) (At n Token)
+  begin_operation n o id name (drop 2 words)
+func_line n o funcs.Main words = begin_func n o Main (codes "main") []
+
+unfoldable pub global_line : ℕ → Outline → GlobalForm → List Word → OrFault Outline
+global_line n o form words = do
+  item ← at n (global_in form words)
+  globals ← add n global_name o.globals item
+  Ok (record o { globals = globals })
+
+abbrev pub with_locals : Head → List Local → Head
+with_locals head locals = record head { locals = locals }
+
+abbrev pub with_labels : Head → List Word → Head
+with_labels head labels = record head { labels = labels }
+
+abbrev pub local_in : List Word → Option Local
+local_in words = option_and_then (λ name. option_and_then (local_of name) (slice_get words 1)) (slice_get words 0)
+
+unfoldable pub local_line : ℕ → Outline → List Word → OrFault Outline
+local_line n o words = do
+  local ← ok_or (local_in words) (At n Token)
+  locals ← add n local_name o.present.locals local
+  Ok (record o { present = with_locals o.present locals })
+
+unfoldable pub block_line : ℕ → Outline → List Word → OrFault Outline
+block_line n o words = do
+  label ← ok_or (name_at words 0) (At n Token)
+  labels ← add n itself o.present.labels label
+  Ok (record o { present = with_labels o.present labels; stage = Inside })
+
+unfoldable pub declare : ℕ → Outline → LineForm → List Word → OrFault Outline
+declare n o (line.Global form) words = global_line n o form words
+declare n o (line.Func form) words = func_line n o form words
+declare n o line.Local words = local_line n o words
+declare n o line.Block words = block_line n o words
+declare n o line.End words = Ok (record o { heads = o.heads ++ o.present ∷ []; present = no_head; stage = Outside })
+declare n o (line.Instr form) words = Ok o
+declare n o (line.Term form) words = Ok (record o { stage = Behind })
+
+-- a line that counts, by its words
+unfoldable pub outline_line : ℕ → Outline → List Word → OrFault Outline
+outline_line n o [] = Ok o
+outline_line n o (first ∷ words) = do
+  form ← at n (tested o.stage (length o.funcs == 0) first words)
+  declare n o form words
+
+-- ---- the text
+
+abbrev pub is_outside : Stage → Bool
+is_outside Outside = true
+is_outside _ = false
+
+-- at the end of the text no function is left open
+abbrev pub outline_of : List ℕ → OrFault Outline
+outline_of text = do
+  o ← over outline_line nothing (numbered 1 (lines_of text))
+  whole ← guard (is_outside o.stage) (At (1 + length (lines_of text)) Expected)
+  Ok o

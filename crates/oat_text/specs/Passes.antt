@@ -1,0 +1,24 @@
+-- Going over the lines of a program text (docs/FORMATS.md, "Program text").
+use Rattle.std.specs.Prelude.{ℕ, ◌+◌, List, [], ◌∷◌, Result, Ok, if◌then◌else◌}
+use Rattle.oat_lines.specs.declared.fault.Fault.{Fault}
+use Rattle.oat_lines.specs.Lines.{words_of, is_skipped}
+use Rattle.oat_lines.specs.Reading.{◌>>=◌}
+use Rattle.oat_text.specs.declared.fault.TextFaultKind.{TextFaultKind}
+use Rattle.oat_text.specs.Words.{Word}
+
+-- a value, or why there is none
+abbrev pub OrFault : Type 0 → Type 0
+OrFault X = Result X (Fault TextFaultKind)
+
+-- the words of the lines that count, each with the number of its line; the first line has number n
+unfoldable pub numbered : ℕ → List (List ℕ) → List (ℕ × List Word)
+numbered n [] = []
+numbered n (line ∷ lines) =
+    if is_skipped (words_of line) then numbered (n + 1) lines else (n, words_of line) ∷ numbered (n + 1) lines
+
+-- one after the other, each taken with what those before it have given
+unfoldable pub over : {S : Type 0} → (ℕ → S → List Word → OrFault S) → S → List (ℕ × List Word) → OrFault S
+over takes s [] = Ok s
+over takes s (line ∷ lines) = do
+  next ← takes line.0 s line.1
+  over takes next lines

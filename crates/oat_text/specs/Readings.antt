@@ -1,0 +1,81 @@
+-- What a word of a program text gives where a value of its kind is wanted, and the tests that a line's words have to pass
+-- (docs/FORMATS.md, "Program text").
+use Rattle.std.specs.Prelude.{ℕ, ℤ, ◌-◌, ◌&&◌, ◌||◌, Bool, true, List, ◌∷◌, length, take, nat_lt, codes, Option, Some, None, is_some, option_map, option_and_then, if◌then◌else◌}
+use Rattle.std.specs.List.{list_all}
+use Rattle.std.specs.Str.{bytes_eq}
+use Rattle.oat_lines.specs.Decimal.{numeral_of}
+use Rattle.oat_lines.specs.Fields.{cut, is_visible}
+use Rattle.oat_lines.specs.Integer.{integer_of, is_i64}
+use Rattle.oat_lines.specs.Reading.{between}
+use Rattle.oat_map.specs.Name.{is_name, read_name}
+use Rattle.oat_ir.specs.declared.func.Ty.{Ty}
+use Rattle.oat_ir.specs.declared.func.Ty.TheVariants.{I64, Fn}
+use Rattle.oat_ir.specs.declared.func.Local.{Local}
+use Rattle.oat_text.specs.declared.form.LineForm.{LineForm}
+use Rattle.oat_text.specs.declared.form.WordKind.{WordKind}
+use Rattle.oat_text.specs.declared.form.WordKind.TheVariants as kind
+use Rattle.oat_text.specs.Words.{Word}
+use Rattle.oat_text.specs.Forms.{kinds_of, optional}
+
+-- ---- values
+
+-- the number of parameters of a reference's type
+abbrev pub params_of : Word → Option ℕ
+params_of word =
+    if bytes_eq word (codes "fn/0") then Some 0
+    else if bytes_eq word (codes "fn/1") then Some 1
+    else if bytes_eq word (codes "fn/2") then Some 2
+    else if bytes_eq word (codes "fn/3") then Some 3
+    else if bytes_eq word (codes "fn/4") then Some 4
+    else None
+
+abbrev pub ty_of : Word → Option Ty
+ty_of word = if bytes_eq word (codes "i64") then Some I64 else option_map (λ params. Fn params) (params_of word)
+
+abbrev pub local_of : Word → Word → Option Local
+local_of name ty = option_and_then (λ n. option_map (λ t. record { name = n; ty = t }) (ty_of ty)) (read_name name)
+
+-- a name and a type, on both sides of the first colon
+abbrev pub parameter_of : Word → Option Local
+parameter_of word = option_and_then (λ p. local_of p.0 p.1) (cut 58 word)
+
+-- a number of 64 bits with a sign
+abbrev pub i64_of : Word → Option ℤ
+i64_of word = option_and_then (λ z. if is_i64 z then Some z else None) (integer_of word)
+
+-- a number from 1 to this one
+abbrev pub count_of : ℕ → Word → Option ℕ
+count_of most word = option_and_then (λ n. if between 1 most n then Some n else None) (numeral_of word)
+
+abbrev pub begins_reference : Word → Bool
+begins_reference word = bytes_eq (take 3 word) (codes "fn/")
+
+-- ---- tests
+
+-- ASCII that is printed
+abbrev pub is_printable : Word → Bool
+is_printable word = list_all (λ b. is_visible b && nat_lt b 127) word
+
+-- well formed, where a name, a type or a parameter is wanted
+abbrev pub is_shaped : WordKind → Word → Bool
+is_shaped kind.Named word = is_name word
+is_shaped kind.Typed word = is_some (ty_of word)
+is_shaped kind.Parameter word = is_some (parameter_of word)
+is_shaped kind.Start word = if begins_reference word then is_some (ty_of word) else true
+is_shaped _ word = true
+
+-- a number in its range, where one is wanted
+abbrev pub is_numbered : WordKind → Word → Bool
+is_numbered kind.Start word = begins_reference word || is_some (i64_of word)
+is_numbered kind.Integer word = is_some (i64_of word)
+is_numbered (kind.Count most) word = is_some (count_of most word)
+is_numbered _ word = true
+
+-- each word passes the test of its kind, as far as there are both
+abbrev pub all_pass : (WordKind → Word → Bool) → List WordKind → List Word → Bool
+all_pass test (kind ∷ kinds) (word ∷ words) = test kind word && all_pass test kinds words
+all_pass test _ _ = true
+
+-- there are as many words as there may be
+abbrev pub has_number : LineForm → List Word → Bool
+has_number form words = between (length (kinds_of form) - optional form) (length (kinds_of form)) (length words)
