@@ -1,5 +1,5 @@
 -- Runs start good, so each of their steps is lawful: the programs are a source as the end to end promise wants it.
-use Rattle.std.proofs.Common.{◌≡◌, ℕ, suc, Bool, true, false, cond, ◌||◌, List, [], ◌∷◌, Some, refl, ap, arith, ℤ}
+use Rattle.std.proofs.Common.{◌≡◌, ℕ, suc, Bool, true, false, cond, ◌||◌, List, [], ◌∷◌, Some, refl, ap, arith}
 use Rattle.std.specs.Prelude.{slice_get, is_some}
 use Rattle.std.specs.List.{list_any}
 use Rattle.oat_ir.specs.declared.program.Program.{Program}
@@ -12,14 +12,13 @@ use Rattle.std.specs.List.{sum_by}
 use Rattle.std.proofs.lemmas.Bool.{ltb-true}
 use Rattle.std.proofs.lemmas.List.Sums.{sum_by_more_le}
 use Rattle.std.proofs.lemmas.Option.{cond_some, slice_get_within, get_or_from_slice_get}
-use Rattle.oat_check.specs.Active.{cells_at, first_cells, operation_active}
 use Rattle.oat_check.specs.Globals.{of_global, size_in_words}
-use Rattle.oat_check.specs.Keeping.{IsConsistent, RunsStartConsistent, StepsAreLawful}
-use Rattle.oat_check.specs.Rules.{IsChecked, is_main}
+use Rattle.oat_check.specs.Keeping.{RunsStartConsistent, StepsAreLawful}
+use Rattle.oat_check.specs.Rules.{is_main}
 use Rattle.oat_check.specs.RunLaws.{WordsAreFew}
-use Rattle.oat_check.specs.Runs.{main_number, source_of}
+use Rattle.oat_check.specs.Runs.{main_number}
 use Rattle.oat_check.specs.Steps.{SourceState, at_line, current_line, silent, source_step}
-use Rattle.oat_events.specs.Source.{Finish, SourceKeeps}
+use Rattle.oat_events.specs.Source.{Finish}
 use Rattle.oat_check.proofs.Checking.{has_main, func_formed, keeps_rules}
 use Rattle.oat_check.proofs.Locals.{zero_value, first_globals}
 use Rattle.oat_check.proofs.Frames.{there}
@@ -54,20 +53,6 @@ steps_are_lawful p ok s g = step_lawful p ok s g
 -- an ended run stays as it is, and shows nothing
 pub ended_step : (p : Program) (s : SourceState) (why : Finish) → s.end ≡ Some why → source_step p s ≡ silent s
 ended_step p s why is = ap (λ o. cond (is_some o) (silent s) (at_line p s (current_line p s.frame))) is
-
-pub keeps : (p : Program) → IsChecked p → (inputs : List ℤ) → SourceKeeps (source_of p inputs) (first_cells p)
-keeps p ok inputs = record {
-  Good = IsConsistent p;
-  good = runs_start_consistent p ok inputs;
-  goes = λ s g. (step_lawful p ok s g).good;
-  stays = λ s why is. ap (λ n. n.state) (ended_step p s why is);
-  quiet = λ s why is. ap (λ n. n.shown) (ended_step p s why is);
-  active = operation_active p;
-  cells = cells_at p;
-  first_active = refl;
-  first_cells = refl;
-  passes = λ s g. (step_lawful p ok s g).passes;
-}
 
 pub words_are_few : WordsAreFew
 words_are_few p ok g i word at = by (slice_get p.globals g) refl where

@@ -1,10 +1,10 @@
 mod Bounds
 mod Cells
 mod Checking
-mod Cutting
 mod FirstIn
 mod Frames
 mod Keeping
+pub mod Kept
 mod Lines
 mod Locals
 mod Numbers

@@ -1,4 +1,4 @@
--- One law for each line: its source_step from a good state leads to one, and its events keep the rules.
+-- One law for each line: its step from a good state leads to one, and its events keep the rules.
 use Rattle.std.proofs.Common.{◌≡◌, ◌+◌, ◌-◌, ◌^◌, ◌<◌, ◌≤◌, ℕ, suc, Bool, true, false, not, cond, ◌&&◌, ◌||◌, List, [], ◌∷◌, length, inl, inr, Option, option_map, Some, None, refl, sym, ap, subst, ◌∙◌, arith, eqb, ℤ}
 use Rattle.std.specs.Prelude.{slice_get, is_some}
 use Rattle.std.specs.List.{list_any}
@@ -265,7 +265,7 @@ term_lawful p ok s g (Branch x first second) formed al = by (eqb (s.frame.locals
 term_lawful p ok s g (Ret x) formed al = gives_lawful p ok s g (s.frame.locals x) (value_of p s g x al.typed) s.callers refl
 term_lawful p ok s g Halt formed al = ends_lawful p s halted g
 
--- ---- a source_step
+-- ---- a step
 
 pub step_lawful : (p : Program) (ok : IsChecked p) (s : SourceState) (g : IsConsistent p s) → IsLawful p s (source_step p s)
 step_lawful p ok s g = by (is_some s.end) where

@@ -64,7 +64,7 @@ led-join b (loads cell value ∷ es) ys h k = led-join false es ys h k
 led-join b (stores cell value ∷ es) ys h k = led-join false es ys h k
 led-join b (outputs value ∷ es) ys h k = led-join false es ys h k
 
--- ---- a source_step
+-- ---- a step
 
 pub record IsShort (es : Es) : Type 0 where
   pub edges_few : edges es ≤ 1

@@ -43,7 +43,7 @@ not_operation p func g h hs may above = elim may as (λ _. operation_of p func �
   | inr op ↦ absurd (main_lowest p g.func h hs above op.0)
 ]
 
--- what the events of a source_step have to keep
+-- what the events of a step have to keep
 pub record Turns (before : Option (Active LinePlace)) (cells : Cells) (shown : List (SourceEvent LineEdge)) (later : Option (Active LinePlace)) : Type 0 where
   pub passes : Passes (op_of before) cells shown (op_of later) cells
   pub stacks : Stacks line_turn before shown later

@@ -1,0 +1,38 @@
+-- Laws of lists of events, of any edges.
+use Rattle.std.proofs.Common.{◌≡◌, ℕ, Bool, true, List, [], ◌++◌, Option, Some, None}
+use Rattle.std.specs.Prelude.{nat_lt, if◌then◌else◌, slice_get}
+use Rattle.std.specs.List.{filter_map}
+use Rattle.oat_map.specs.Turns.{Turn, GoesBack, stays}
+use Rattle.oat_events.specs.Cells.{Cells}
+use Rattle.oat_events.specs.Cuts.{cut_up}
+use Rattle.oat_events.specs.Events.{SourceEvent, Active, Passes, Stacks}
+use Rattle.oat_events.specs.Source.{edge_taken, stretch, has_completed, calls_done}
+use Rattle.oat_events.specs.Windows.{inside, is_closed}
+use Rattle.oat_events.proofs.Cutting.{cut_windows}
+use Rattle.oat_events.proofs.Stacking.{goes_back_in, calls_counted, stacks_join, passes_join}
+
+-- Taken up item by item, the windows that have closed are those of the whole list.
+pub windows_are_cut : {X : Type 0} (opens seals : X → Bool) (xs : List X) (s : ℕ)
+    → slice_get (cut_up opens seals xs).closed s ≡ if is_closed opens seals s xs then Some (inside opens seals s xs) else None
+windows_are_cut opens seals xs s = cut_windows opens seals xs s
+
+-- Where the rule of operations and cells holds of events and of what follows, it holds of both.
+pub passes_joined : {E : Type 0} (front rest : List (SourceEvent E)) (now middle later : Option ℕ) (cells between behind : Cells)
+    → Passes now cells front middle between → Passes middle between rest later behind → Passes now cells (front ++ rest) later behind
+passes_joined front rest now middle later cells between behind one two = passes_join front rest now middle later cells between behind one two
+
+-- And so for the rule of open calls.
+pub stacks_joined : {E P : Type 0} (turn : E → Turn P) (front rest : List (SourceEvent E)) (now middle later : Option (Active P))
+    → Stacks turn now front middle → Stacks turn middle rest later → Stacks turn now (front ++ rest) later
+stacks_joined turn front rest now middle later one two = stacks_join turn front rest now middle later one two
+
+-- The path of each call that has completed goes back as it called.
+pub paths_go_back : {E P : Type 0} (turn : E → Turn P) (finish : ℕ → E) → ((op : ℕ) → turn (finish op) ≡ stays)
+    → (es : List (SourceEvent E)) (later : Option (Active P)) → Stacks turn None es later
+    → (op s : ℕ) → has_completed op s es ≡ true → GoesBack turn [] (filter_map (edge_taken finish op) (stretch op s es))
+paths_go_back turn finish ends es later stacks op s completed = goes_back_in turn finish ends es later stacks op s completed
+
+-- The calls that have completed are the first ones.
+pub completed_calls_are_first : {E P : Type 0} (turn : E → Turn P) (es : List (SourceEvent E)) (later : Option (Active P)) → Stacks turn None es later
+    → (op s : ℕ) → has_completed op s es ≡ nat_lt s (calls_done op es)
+completed_calls_are_first turn es later stacks op s = calls_counted turn es later stacks op s

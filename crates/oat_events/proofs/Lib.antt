@@ -1,0 +1,4 @@
+mod Cutting
+pub mod EventLaws
+pub mod SourceLaws
+mod Stacking
