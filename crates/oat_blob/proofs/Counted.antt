@@ -12,7 +12,7 @@ use Rattle.oat_bits.specs.Bits.{bits_in}
 use Rattle.oat_bits.proofs.PackedForm.{length-bits_in, length-packed}
 use Rattle.oat_bits.proofs.Filling.{packed-bits_in, packed-filled}
 use Rattle.oat_blob.specs.Body.{AreBytes}
-use Rattle.oat_blob.specs.Parts.{AreBits, AreFewBits, AreFewTargets, AreTargets, IsBelow, IsFront, Stops, addresses_part}
+use Rattle.oat_blob.specs.Parts.{AreBits, AreFewBits, AreFewTargets, AreTargets, IsBelow, IsFront, Breaks, addresses_part}
 use Rattle.oat_blob.specs.Shown.{target_in, targets_in}
 use Rattle.oat_blob.proofs.Parts.{number_part_32}
 use Rattle.oat_blob.proofs.Reading.{length-targets_in}
@@ -38,7 +38,7 @@ packed_front count bytes block rest parted long below filling = record {
   spelled = parted ∙ ap (λ xs. xs ++ rest) (sym (packed-bits_in count block long below filling));
 }
 
-pub packed_wanting : (count : ℕ) (bytes : List ℕ) (left : ℕ) → All (λ byte. byte < 256) bytes → length bytes < (count + 7) / 8 → left ≡ 0 → Stops packed (AreBits count) bytes left
+pub packed_wanting : (count : ℕ) (bytes : List ℕ) (left : ℕ) → All (λ byte. byte < 256) bytes → length bytes < (count + 7) / 8 → left ≡ 0 → Breaks packed (AreBits count) bytes left
 packed_wanting count bytes left all short ends =
     let whole = filled_bytes ((count + 7) / 8) bytes all short in
     let none = zeros_at bytes ((count + 7) / 8 - length bytes) (count / 8) (omega arith) in
@@ -69,7 +69,7 @@ wrong_filling count bytes block rest front parted long last apart other more are
     apart filling
 
 pub packed_wrong : (count : ℕ) (bytes block rest : List ℕ) → bytes ≡ block ++ rest → length block ≡ (count + 7) / 8 → All (λ byte. byte < 256) block
-    → (slice_index block (count / 8) % 2 ^ (8 - count % 8) ≡ 0 → ⊥) → Stops packed (AreBits count) bytes (length rest + 1)
+    → (slice_index block (count / 8) % 2 ^ (8 - count % 8) ≡ 0 → ⊥) → Breaks packed (AreBits count) bytes (length rest + 1)
 packed_wrong count bytes block rest parted long below apart =
     let last = last_byte count block long apart in
     let front : List ℕ = take (count / 8) block in
@@ -131,7 +131,7 @@ addresses_front count bytes block rest parted long all =
     let both = targets_again count block all long in
     record { fitting = both.1; spelled = parted ∙ ap (λ xs. xs ++ rest) (sym both.0) }
 
-pub addresses_wanting : (count : ℕ) (bytes : List ℕ) (left : ℕ) → All (λ byte. byte < 256) bytes → length bytes < count * 8 → left ≡ 0 → Stops addresses_part (AreTargets count) bytes left
+pub addresses_wanting : (count : ℕ) (bytes : List ℕ) (left : ℕ) → All (λ byte. byte < 256) bytes → length bytes < count * 8 → left ≡ 0 → Breaks addresses_part (AreTargets count) bytes left
 addresses_wanting count bytes left all short ends =
     let whole = filled_bytes (count * 8) bytes all short in
     let both = targets_again count (filled (count * 8) bytes) whole.below whole.counted in
@@ -159,13 +159,13 @@ counted_code block size fits at counts = record {
 }
 
 pub count_stops : {Y : Type 0} (block : Y → List ℕ) (size : Y → ℕ) (fits : Y → Type 0) (at : ℕ → Y → Type 0) (bytes : List ℕ) (left : ℕ) → IsCounted size fits at
-    → Stops (to_be_bytes w32) (IsBelow 32) bytes left → Stops (counted_part block size) fits bytes left
+    → Breaks (to_be_bytes w32) (IsBelow 32) bytes left → Breaks (counted_part block size) fits bytes left
 count_stops {Y} block size fits at bytes left counts stops =
     recoded_stops (joined_part (to_be_bytes w32) block) (joined_fits (IsBelow 32) at) (counted_part block size) fits (λ p. p.1) (λ y. (size y, y)) bytes left (counted_code block size fits at counts)
     (stops_first (to_be_bytes w32) block (IsBelow 32) at bytes left counts.some stops)
 
 pub block_stops : {Y : Type 0} (block : Y → List ℕ) (size : Y → ℕ) (fits : Y → Type 0) (at : ℕ → Y → Type 0) (bytes middle : List ℕ) (count left : ℕ) → IsCounted size fits at
-    → IsFront (to_be_bytes w32) (IsBelow 32) bytes count middle → Stops block (at count) middle left → Stops (counted_part block size) fits bytes left
+    → IsFront (to_be_bytes w32) (IsBelow 32) bytes count middle → Breaks block (at count) middle left → Breaks (counted_part block size) fits bytes left
 block_stops {Y} block size fits at bytes middle count left counts front stops =
     recoded_stops (joined_part (to_be_bytes w32) block) (joined_fits (IsBelow 32) at) (counted_part block size) fits (λ p. p.1) (λ y. (size y, y)) bytes left (counted_code block size fits at counts)
     (stops_second (to_be_bytes w32) block (IsBelow 32) at bytes middle count left number_part_32 front stops)

@@ -1,4 +1,4 @@
--- Parts of a fixed length: arrays, numbers, the opening and a violation.
+-- Parts of a fixed length: arrays, numbers, the magic and a violation.
 use Rattle.std.proofs.Common.{◌≡◌, ℕ, zero, suc, ◌+◌, ◌-◌, ◌<◌, ◌≤◌, ◌^◌, ◌/◌, List, [], ◌∷◌, ◌++◌, Option, Some, None, length, take, drop, get_or, replicate, refl, ap, sym, ◌∙◌, arith, length-append, append_assoc, Fits, w8}
 use Rattle.std.proofs.lemmas.List.{append-nil, append_cancel_left, take_more, length-replicate, length-take-le, take-append-drop, take_all, take_at}
 use Rattle.std.proofs.lemmas.List.Elements.{All-append, All-cons, All-same, All-from_get_or, All-head, All-nil, All-replicate, All-tail, All-take}
@@ -7,8 +7,8 @@ use Rattle.std.specs.Int.{w16, w32, w64, to_be_bytes, from_be_bytes, byte_at, by
 use Rattle.std.specs.List.{All}
 use Rattle.oat_blob.specs.declared.body.Violation.{Violation}
 use Rattle.oat_blob.specs.Body.{AreBytes, IsViolation}
-use Rattle.oat_blob.specs.Layout.{opening, violation_part}
-use Rattle.oat_blob.specs.Parts.{IfViolation, IsBelow, IsCut, IsFront, IsOpening, Stops, plain_part, violation_fields}
+use Rattle.oat_blob.specs.Layout.{magic, violation_part}
+use Rattle.oat_blob.specs.Parts.{IfViolation, IsBelow, IsCut, IsFront, IsMagic, Breaks, plain_part, violation_fields}
 use Rattle.oat_blob.proofs.Parts.{number_part_32, number_part_64}
 use Rattle.oat_blob.proofs.Joined.{IsRecoded, joined_fits, joined_front, joined_part, recoded_front, recoded_stops, stops_first, stops_second}
 
@@ -44,7 +44,7 @@ filled_bytes count bytes all short =
 -- bytes that end within a part of so many
 pub wanting : {X : Type 0} (spell : X → List ℕ) (fits : X → Type 0) (read : List ℕ → X) (count : ℕ) (bytes : List ℕ) (left : ℕ)
     → ((x : X) → fits x → length (spell x) ≡ count) → fits (read (filled count bytes)) → spell (read (filled count bytes)) ≡ filled count bytes
-    → length bytes < count → left ≡ 0 → Stops spell fits bytes left
+    → length bytes < count → left ≡ 0 → Breaks spell fits bytes left
 wanting spell fits read count bytes left long fit again short none = record {
   front = bytes;
   behind = [];
@@ -57,7 +57,7 @@ wanting spell fits read count bytes left long fit again short none = record {
   halts = λ other rest fits same. let size = long other fits in too_short bytes (spell other) rest (omega arith) same;
 }
 
-pub array_stops : (count : ℕ) (bytes : List ℕ) → All (λ byte. byte < 256) bytes → length bytes < count → Stops plain_part (AreBytes count) bytes 0
+pub array_stops : (count : ℕ) (bytes : List ℕ) → All (λ byte. byte < 256) bytes → length bytes < count → Breaks plain_part (AreBytes count) bytes 0
 array_stops count bytes all short =
     wanting plain_part (AreBytes count) (λ bytes. bytes) count bytes 0 (λ x are. are.counted) (filled_bytes count bytes all short) refl short refl
 
@@ -127,49 +127,49 @@ number_64 = record {
   from_same = λ n fits. refl;
 }
 
-pub number_stops_16 : (bytes : List ℕ) (left : ℕ) → Stops plain_part (AreBytes 2) bytes left → Stops (to_be_bytes w16) (IsBelow 16) bytes left
+pub number_stops_16 : (bytes : List ℕ) (left : ℕ) → Breaks plain_part (AreBytes 2) bytes left → Breaks (to_be_bytes w16) (IsBelow 16) bytes left
 number_stops_16 bytes left = recoded_stops plain_part (AreBytes 2) (to_be_bytes w16) (IsBelow 16) (from_be_bytes w16) (to_be_bytes w16) bytes left number_16
 
-pub number_stops_32 : (bytes : List ℕ) (left : ℕ) → Stops plain_part (AreBytes 4) bytes left → Stops (to_be_bytes w32) (IsBelow 32) bytes left
+pub number_stops_32 : (bytes : List ℕ) (left : ℕ) → Breaks plain_part (AreBytes 4) bytes left → Breaks (to_be_bytes w32) (IsBelow 32) bytes left
 number_stops_32 bytes left = recoded_stops plain_part (AreBytes 4) (to_be_bytes w32) (IsBelow 32) (from_be_bytes w32) (to_be_bytes w32) bytes left number_32
 
-pub number_stops_64 : (bytes : List ℕ) (left : ℕ) → Stops plain_part (AreBytes 8) bytes left → Stops (to_be_bytes w64) (IsBelow 64) bytes left
+pub number_stops_64 : (bytes : List ℕ) (left : ℕ) → Breaks plain_part (AreBytes 8) bytes left → Breaks (to_be_bytes w64) (IsBelow 64) bytes left
 number_stops_64 bytes left = recoded_stops plain_part (AreBytes 8) (to_be_bytes w64) (IsBelow 64) (from_be_bytes w64) (to_be_bytes w64) bytes left number_64
 
 pub number_front_64 : (bytes rest field : List ℕ) → IsFront plain_part (AreBytes 8) bytes field rest → IsFront (to_be_bytes w64) (IsBelow 64) bytes (from_be_bytes w64 field) rest
 number_front_64 bytes rest field = recoded_front plain_part (AreBytes 8) (to_be_bytes w64) (IsBelow 64) (from_be_bytes w64) (to_be_bytes w64) bytes rest field number_64
 
--- ---- the opening
+-- ---- the magic
 
--- the bytes go on with another than the next letter of the opening, or end
-pub opening_stops : (bytes rest : List ℕ) (at : ℕ) → at < 5 → bytes ≡ take at opening ++ rest → ((behind : List ℕ) → rest ≡ get_or opening at 0 ∷ behind → ⊥) → Stops plain_part IsOpening bytes (length rest)
+-- the bytes go on with another than the next letter of the magic, or end
+pub opening_stops : (bytes rest : List ℕ) (at : ℕ) → at < 5 → bytes ≡ take at magic ++ rest → ((behind : List ℕ) → rest ≡ get_or magic at 0 ∷ behind → ⊥) → Breaks plain_part IsMagic bytes (length rest)
 opening_stops bytes rest at below same apart = record {
-  front = take at opening;
+  front = take at magic;
   behind = rest;
   parted = same;
   counted = refl;
-  value = opening;
-  more = drop at opening;
+  value = magic;
+  more = drop at magic;
   fitting = refl;
-  begins = take-append-drop at opening;
+  begins = take-append-drop at magic;
   halts = λ other more opens there.
-      let long : length (take at opening) ≡ at = length-take-le at opening (omega arith) in
-      let steps : suc (length (take at opening)) ≡ at + 1 = omega arith in
-      let one : take (suc (length (take at opening))) other ≡ take at opening ++ get_or opening at 0 ∷ [] =
-      ap (λ n. take n other) steps ∙ (ap (take (at + 1)) opens ∙ take_more opening at 0 (omega arith)) in
-      let goes_on : take at opening ++ rest ≡ take at opening ++ (get_or opening at 0 ∷ [] ++ more) =
-      sym same ∙ (there ∙ (ap (λ xs. xs ++ more) one ∙ append_assoc (take at opening) (get_or opening at 0 ∷ []) more)) in
-      apart more (append_cancel_left (take at opening) rest (get_or opening at 0 ∷ more) goes_on);
+      let long : length (take at magic) ≡ at = length-take-le at magic (omega arith) in
+      let steps : suc (length (take at magic)) ≡ at + 1 = omega arith in
+      let one : take (suc (length (take at magic))) other ≡ take at magic ++ get_or magic at 0 ∷ [] =
+      ap (λ n. take n other) steps ∙ (ap (take (at + 1)) opens ∙ take_more magic at 0 (omega arith)) in
+      let goes_on : take at magic ++ rest ≡ take at magic ++ (get_or magic at 0 ∷ [] ++ more) =
+      sym same ∙ (there ∙ (ap (λ xs. xs ++ more) one ∙ append_assoc (take at magic) (get_or magic at 0 ∷ []) more)) in
+      apart more (append_cancel_left (take at magic) rest (get_or magic at 0 ∷ more) goes_on);
 }
 
-pub opening_more : (bytes rest behind : List ℕ) (at byte : ℕ) → at < 5 → bytes ≡ take at opening ++ rest → rest ≡ byte ∷ behind → byte ≡ get_or opening at 0 → bytes ≡ take (at + 1) opening ++ behind
+pub opening_more : (bytes rest behind : List ℕ) (at byte : ℕ) → at < 5 → bytes ≡ take at magic ++ rest → rest ≡ byte ∷ behind → byte ≡ get_or magic at 0 → bytes ≡ take (at + 1) magic ++ behind
 opening_more bytes rest behind at byte below same next letter =
     same
-    ∙ (ap (λ xs. take at opening ++ xs) (next ∙ ap (λ b. b ∷ behind) letter)
-    ∙ (sym (append_assoc (take at opening) (get_or opening at 0 ∷ []) behind) ∙ ap (λ xs. xs ++ behind) (sym (take_more opening at 0 (omega arith)))))
+    ∙ (ap (λ xs. take at magic ++ xs) (next ∙ ap (λ b. b ∷ behind) letter)
+    ∙ (sym (append_assoc (take at magic) (get_or magic at 0 ∷ []) behind) ∙ ap (λ xs. xs ++ behind) (sym (take_more magic at 0 (omega arith)))))
 
-pub opening_front : (bytes rest : List ℕ) (at : ℕ) → 5 ≤ at → bytes ≡ take at opening ++ rest → IsFront plain_part IsOpening bytes opening rest
-opening_front bytes rest at past same = record { fitting = refl; spelled = same ∙ ap (λ xs. xs ++ rest) (take_all at opening (omega arith)) }
+pub opening_front : (bytes rest : List ℕ) (at : ℕ) → 5 ≤ at → bytes ≡ take at magic ++ rest → IsFront plain_part IsMagic bytes magic rest
+opening_front bytes rest at past same = record { fitting = refl; spelled = same ∙ ap (λ xs. xs ++ rest) (take_all at magic (omega arith)) }
 
 -- ---- a violation behind its flag
 
@@ -183,7 +183,7 @@ no_flag : (bytes : List ℕ) → ((rest : List ℕ) → bytes ≡ 0 ∷ rest →
 no_flag bytes not_0 not_1 None rest fits same = not_0 rest same
 no_flag bytes not_0 not_1 (Some violation) rest fits same = not_1 rest same
 
-pub flag_stops : (bytes : List ℕ) → ((rest : List ℕ) → bytes ≡ 0 ∷ rest → ⊥) → ((rest : List ℕ) → bytes ≡ 1 ∷ rest → ⊥) → Stops violation_part IfViolation bytes (length bytes)
+pub flag_stops : (bytes : List ℕ) → ((rest : List ℕ) → bytes ≡ 0 ∷ rest → ⊥) → ((rest : List ℕ) → bytes ≡ 1 ∷ rest → ⊥) → Breaks violation_part IfViolation bytes (length bytes)
 flag_stops bytes not_0 not_1 = record {
   front = [];
   behind = bytes;
@@ -197,7 +197,7 @@ flag_stops bytes not_0 not_1 = record {
 }
 
 -- no bytes
-pub ended : (bytes : List ℕ) → length bytes ≡ 0 → Stops violation_part IfViolation bytes 0
+pub ended : (bytes : List ℕ) → length bytes ≡ 0 → Breaks violation_part IfViolation bytes 0
 ended [] none = flag_stops [] (λ rest same. let some = ap length same in absurd (omega arith)) (λ rest same. let some = ap length same in absurd (omega arith))
 ended (b ∷ bytes) none = absurd (omega arith)
 
@@ -208,7 +208,7 @@ fields_halt bytes behind front same halts None rest fits there =
     absurd (omega arith)
 fields_halt bytes behind front same halts (Some violation) rest fits there = halts violation rest fits (ap (drop 1) (sym same ∙ there))
 
-pub fields_stop : (bytes behind : List ℕ) (left : ℕ) → bytes ≡ 1 ∷ behind → Stops violation_fields IsViolation behind left → Stops violation_part IfViolation bytes left
+pub fields_stop : (bytes behind : List ℕ) (left : ℕ) → bytes ≡ 1 ∷ behind → Breaks violation_fields IsViolation behind left → Breaks violation_part IfViolation bytes left
 fields_stop bytes behind left same fields = record {
   front = 1 ∷ fields.front;
   behind = fields.behind;
@@ -249,19 +249,19 @@ Numbers = joined_fits (IsBelow 64) (λ _. IsBelow 64)
 abbrev numbers_part : ℕ × ℕ → List ℕ
 numbers_part = joined_part (to_be_bytes w64) (to_be_bytes w64)
 
-of_fields : (bytes : List ℕ) (left : ℕ) → Stops pair_part Pair bytes left → Stops violation_fields IsViolation bytes left
+of_fields : (bytes : List ℕ) (left : ℕ) → Breaks pair_part Pair bytes left → Breaks violation_fields IsViolation bytes left
 of_fields bytes left = recoded_stops pair_part Pair violation_fields IsViolation (λ p. record { cell = p.0; expected = p.1.0; found = p.1.1 }) (λ v. (v.cell, (v.expected, v.found))) bytes left as_violation
 
-pub cell_stops : (bytes : List ℕ) (left : ℕ) → Stops (to_be_bytes w32) (IsBelow 32) bytes left → Stops violation_fields IsViolation bytes left
+pub cell_stops : (bytes : List ℕ) (left : ℕ) → Breaks (to_be_bytes w32) (IsBelow 32) bytes left → Breaks violation_fields IsViolation bytes left
 cell_stops bytes left stops = of_fields bytes left (stops_first (to_be_bytes w32) numbers_part (IsBelow 32) (λ _. Numbers) bytes left some_numbers stops)
 
-pub expected_stops : (bytes rest : List ℕ) (cell left : ℕ) → IsFront (to_be_bytes w32) (IsBelow 32) bytes cell rest → Stops (to_be_bytes w64) (IsBelow 64) rest left → Stops violation_fields IsViolation bytes left
+pub expected_stops : (bytes rest : List ℕ) (cell left : ℕ) → IsFront (to_be_bytes w32) (IsBelow 32) bytes cell rest → Breaks (to_be_bytes w64) (IsBelow 64) rest left → Breaks violation_fields IsViolation bytes left
 expected_stops bytes rest cell left front stops =
     of_fields bytes left (stops_second (to_be_bytes w32) numbers_part (IsBelow 32) (λ _. Numbers) bytes rest cell left number_part_32 front
     (stops_first (to_be_bytes w64) (to_be_bytes w64) (IsBelow 64) (λ _. IsBelow 64) rest left some_number stops))
 
 pub found_stops : (bytes rest behind : List ℕ) (cell expected left : ℕ) → IsFront (to_be_bytes w32) (IsBelow 32) bytes cell rest → IsFront (to_be_bytes w64) (IsBelow 64) rest expected behind
-    → Stops (to_be_bytes w64) (IsBelow 64) behind left → Stops violation_fields IsViolation bytes left
+    → Breaks (to_be_bytes w64) (IsBelow 64) behind left → Breaks violation_fields IsViolation bytes left
 found_stops bytes rest behind cell expected left front next stops =
     of_fields bytes left (stops_second (to_be_bytes w32) numbers_part (IsBelow 32) (λ _. Numbers) bytes rest cell left number_part_32 front
     (stops_second (to_be_bytes w64) (to_be_bytes w64) (IsBelow 64) (λ _. IsBelow 64) rest behind expected left number_part_64 next stops))

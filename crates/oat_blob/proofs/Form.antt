@@ -8,9 +8,9 @@ use Rattle.std.specs.Int.{w16, to_be_bytes}
 use Rattle.oat_blob.specs.declared.body.BodyHead.{BodyHead}
 use Rattle.oat_blob.specs.declared.body.Violation.{Violation}
 use Rattle.oat_blob.specs.Body.{AreBytes, Body}
-use Rattle.oat_blob.specs.Layout.{IsBlob, bits_part, covered_of, opening, targets_part, violation_part}
+use Rattle.oat_blob.specs.Layout.{IsBlob, bits_part, covered_of, magic, targets_part, violation_part}
 use Rattle.oat_blob.specs.Faults.{BeginsBlob, IsFormOffset}
-use Rattle.oat_blob.specs.Parts.{AreFewBits, AreFewTargets, IfViolation, IsBelow, IsFront, IsHead, IsOpening, Stops, head_part, plain_part}
+use Rattle.oat_blob.specs.Parts.{AreFewBits, AreFewTargets, IfViolation, IsBelow, IsFront, IsHead, IsMagic, Breaks, head_part, plain_part}
 use Rattle.oat_blob.specs.Shown.{IsWhole, Shown, blob_part}
 use Rattle.oat_blob.proofs.Parts.{bytes_part, number_part_16}
 use Rattle.oat_blob.proofs.Fixed.{filled, filled_bytes}
@@ -34,48 +34,48 @@ some_digest x fits = ((filled 32 [], (filled 32 [], None)), (zeros 31, (zeros 31
 some_nonce : (x : ℕ) → IsBelow 16 x → (p : List ℕ × (List ℕ × (List ℕ × Option Violation))) × NonceFits p
 some_nonce x fits = ((filled 16 [], (filled 32 [], (filled 32 [], None))), (zeros 15, (zeros 31, (zeros 31, tt))))
 
-some_op : (x : List ℕ) → IsOpening x → (p : ℕ × (List ℕ × (List ℕ × (List ℕ × Option Violation)))) × OpFits p
+some_op : (x : List ℕ) → IsMagic x → (p : ℕ × (List ℕ × (List ℕ × (List ℕ × Option Violation)))) × OpFits p
 some_op x fits = ((0, (filled 16 [], (filled 32 [], (filled 32 [], None)))), (omega arith, (zeros 15, (zeros 31, (zeros 31, tt)))))
 
-of_fields : (bytes : List ℕ) (left : ℕ) → Stops fields_part FieldsFit bytes left → Stops head_part IsHead bytes left
+of_fields : (bytes : List ℕ) (left : ℕ) → Breaks fields_part FieldsFit bytes left → Breaks head_part IsHead bytes left
 of_fields bytes left = recoded_stops fields_part FieldsFit head_part IsHead head_of fields_of bytes left head_fields
 
-pub at_opening : (bytes : List ℕ) (left : ℕ) → Stops plain_part IsOpening bytes left → Stops head_part IsHead bytes left
-at_opening bytes left stops = of_fields bytes left (stops_first plain_part op_part IsOpening (λ _. OpFits) bytes left some_op stops)
+pub at_opening : (bytes : List ℕ) (left : ℕ) → Breaks plain_part IsMagic bytes left → Breaks head_part IsHead bytes left
+at_opening bytes left stops = of_fields bytes left (stops_first plain_part op_part IsMagic (λ _. OpFits) bytes left some_op stops)
 
-pub behind_opening : (bytes rest : List ℕ) (left : ℕ) → IsFront plain_part IsOpening bytes opening rest → Stops op_part OpFits rest left → Stops head_part IsHead bytes left
-behind_opening bytes rest left front stops = of_fields bytes left (stops_second plain_part op_part IsOpening (λ _. OpFits) bytes rest opening left opening_one front stops)
+pub behind_opening : (bytes rest : List ℕ) (left : ℕ) → IsFront plain_part IsMagic bytes magic rest → Breaks op_part OpFits rest left → Breaks head_part IsHead bytes left
+behind_opening bytes rest left front stops = of_fields bytes left (stops_second plain_part op_part IsMagic (λ _. OpFits) bytes rest magic left opening_one front stops)
 
-pub at_op : (bytes : List ℕ) (left : ℕ) → Stops (to_be_bytes w16) (IsBelow 16) bytes left → Stops op_part OpFits bytes left
+pub at_op : (bytes : List ℕ) (left : ℕ) → Breaks (to_be_bytes w16) (IsBelow 16) bytes left → Breaks op_part OpFits bytes left
 at_op bytes left = stops_first (to_be_bytes w16) nonce_part (IsBelow 16) (λ _. NonceFits) bytes left some_nonce
 
-pub behind_op : (bytes rest : List ℕ) (op left : ℕ) → IsFront (to_be_bytes w16) (IsBelow 16) bytes op rest → Stops nonce_part NonceFits rest left → Stops op_part OpFits bytes left
+pub behind_op : (bytes rest : List ℕ) (op left : ℕ) → IsFront (to_be_bytes w16) (IsBelow 16) bytes op rest → Breaks nonce_part NonceFits rest left → Breaks op_part OpFits bytes left
 behind_op bytes rest op left = stops_second (to_be_bytes w16) nonce_part (IsBelow 16) (λ _. NonceFits) bytes rest op left number_part_16
 
-pub at_nonce : (bytes : List ℕ) (left : ℕ) → Stops plain_part (AreBytes 16) bytes left → Stops nonce_part NonceFits bytes left
+pub at_nonce : (bytes : List ℕ) (left : ℕ) → Breaks plain_part (AreBytes 16) bytes left → Breaks nonce_part NonceFits bytes left
 at_nonce bytes left = stops_first plain_part digest_part (AreBytes 16) (λ _. DigestFits) bytes left some_digest
 
-pub behind_nonce : (bytes nonce rest : List ℕ) (left : ℕ) → IsFront plain_part (AreBytes 16) bytes nonce rest → Stops digest_part DigestFits rest left → Stops nonce_part NonceFits bytes left
+pub behind_nonce : (bytes nonce rest : List ℕ) (left : ℕ) → IsFront plain_part (AreBytes 16) bytes nonce rest → Breaks digest_part DigestFits rest left → Breaks nonce_part NonceFits bytes left
 behind_nonce bytes nonce rest left = stops_second plain_part digest_part (AreBytes 16) (λ _. DigestFits) bytes rest nonce left (bytes_part 16)
 
-pub at_digest : (bytes : List ℕ) (left : ℕ) → Stops plain_part (AreBytes 32) bytes left → Stops digest_part DigestFits bytes left
+pub at_digest : (bytes : List ℕ) (left : ℕ) → Breaks plain_part (AreBytes 32) bytes left → Breaks digest_part DigestFits bytes left
 at_digest bytes left = stops_first plain_part hash_part (AreBytes 32) (λ _. HashFits) bytes left some_hash
 
-pub behind_digest : (bytes digest rest : List ℕ) (left : ℕ) → IsFront plain_part (AreBytes 32) bytes digest rest → Stops hash_part HashFits rest left → Stops digest_part DigestFits bytes left
+pub behind_digest : (bytes digest rest : List ℕ) (left : ℕ) → IsFront plain_part (AreBytes 32) bytes digest rest → Breaks hash_part HashFits rest left → Breaks digest_part DigestFits bytes left
 behind_digest bytes digest rest left = stops_second plain_part hash_part (AreBytes 32) (λ _. HashFits) bytes rest digest left (bytes_part 32)
 
-pub at_hash : (bytes : List ℕ) (left : ℕ) → Stops plain_part (AreBytes 32) bytes left → Stops hash_part HashFits bytes left
+pub at_hash : (bytes : List ℕ) (left : ℕ) → Breaks plain_part (AreBytes 32) bytes left → Breaks hash_part HashFits bytes left
 at_hash bytes left = stops_first plain_part violation_part (AreBytes 32) (λ _. IfViolation) bytes left some_violation
 
-pub behind_hash : (bytes hash rest : List ℕ) (left : ℕ) → IsFront plain_part (AreBytes 32) bytes hash rest → Stops violation_part IfViolation rest left → Stops hash_part HashFits bytes left
+pub behind_hash : (bytes hash rest : List ℕ) (left : ℕ) → IsFront plain_part (AreBytes 32) bytes hash rest → Breaks violation_part IfViolation rest left → Breaks hash_part HashFits bytes left
 behind_hash bytes hash rest left = stops_second plain_part violation_part (AreBytes 32) (λ _. IfViolation) bytes rest hash left (bytes_part 32)
 
-pub head_front : (bytes r0 r1 r2 r3 r4 rest : List ℕ) (op : ℕ) (nonce digest hash : List ℕ) (violation : Option Violation) → IsFront plain_part IsOpening bytes opening r0 → IsFront (to_be_bytes w16) (IsBelow 16) r0 op r1
+pub head_front : (bytes r0 r1 r2 r3 r4 rest : List ℕ) (op : ℕ) (nonce digest hash : List ℕ) (violation : Option Violation) → IsFront plain_part IsMagic bytes magic r0 → IsFront (to_be_bytes w16) (IsBelow 16) r0 op r1
     → IsFront plain_part (AreBytes 16) r1 nonce r2 → IsFront plain_part (AreBytes 32) r2 digest r3 → IsFront plain_part (AreBytes 32) r3 hash r4 → IsFront violation_part IfViolation r4 violation rest
     → IsFront head_part IsHead bytes (record { op = op; nonce = nonce; digest = digest; hash = hash; violation = violation }) rest
 head_front bytes r0 r1 r2 r3 r4 rest op nonce digest hash violation a b c d e f =
-    recoded_front fields_part FieldsFit head_part IsHead head_of fields_of bytes rest (opening, (op, (nonce, (digest, (hash, violation))))) head_fields
-    (joined_front plain_part op_part IsOpening (λ _. OpFits) bytes r0 rest opening (op, (nonce, (digest, (hash, violation)))) a
+    recoded_front fields_part FieldsFit head_part IsHead head_of fields_of bytes rest (magic, (op, (nonce, (digest, (hash, violation))))) head_fields
+    (joined_front plain_part op_part IsMagic (λ _. OpFits) bytes r0 rest magic (op, (nonce, (digest, (hash, violation)))) a
     (joined_front (to_be_bytes w16) nonce_part (IsBelow 16) (λ _. NonceFits) r0 r1 rest op (nonce, (digest, (hash, violation))) b
     (joined_front plain_part digest_part (AreBytes 16) (λ _. DigestFits) r1 r2 rest nonce (digest, (hash, violation)) c
     (joined_front plain_part hash_part (AreBytes 32) (λ _. HashFits) r2 r3 rest digest (hash, violation) d
@@ -95,25 +95,25 @@ some_end x fits = (([], filled 32 []), (few_targets, zeros 31))
 some_records : (x : BodyHead) → IsHead x → (p : List Bool × (List ℕ × List ℕ)) × RecordsFit p
 some_records x fits = (([], ([], filled 32 [])), (omega arith, (few_targets, zeros 31)))
 
-of_pieces : (bytes : List ℕ) (left : ℕ) → Stops pieces_part PiecesFit bytes left → Stops blob_part IsWhole bytes left
+of_pieces : (bytes : List ℕ) (left : ℕ) → Breaks pieces_part PiecesFit bytes left → Breaks blob_part IsWhole bytes left
 of_pieces bytes left = recoded_stops pieces_part PiecesFit blob_part IsWhole shown_of pieces_of bytes left blob_pieces
 
-pub at_head : (bytes : List ℕ) (left : ℕ) → Stops head_part IsHead bytes left → Stops blob_part IsWhole bytes left
+pub at_head : (bytes : List ℕ) (left : ℕ) → Breaks head_part IsHead bytes left → Breaks blob_part IsWhole bytes left
 at_head bytes left stops = of_pieces bytes left (stops_first head_part records_part IsHead (λ _. RecordsFit) bytes left some_records stops)
 
-pub behind_head : (bytes rest : List ℕ) (head : BodyHead) (left : ℕ) → IsFront head_part IsHead bytes head rest → Stops records_part RecordsFit rest left → Stops blob_part IsWhole bytes left
+pub behind_head : (bytes rest : List ℕ) (head : BodyHead) (left : ℕ) → IsFront head_part IsHead bytes head rest → Breaks records_part RecordsFit rest left → Breaks blob_part IsWhole bytes left
 behind_head bytes rest head left front stops = of_pieces bytes left (stops_second head_part records_part IsHead (λ _. RecordsFit) bytes rest head left head_one front stops)
 
-pub at_bits : (bytes : List ℕ) (left : ℕ) → Stops bits_part AreFewBits bytes left → Stops records_part RecordsFit bytes left
+pub at_bits : (bytes : List ℕ) (left : ℕ) → Breaks bits_part AreFewBits bytes left → Breaks records_part RecordsFit bytes left
 at_bits bytes left = stops_first bits_part end_part AreFewBits (λ _. EndFits) bytes left some_end
 
-pub behind_bits : (bytes rest : List ℕ) (bits : List Bool) (left : ℕ) → IsFront bits_part AreFewBits bytes bits rest → Stops end_part EndFits rest left → Stops records_part RecordsFit bytes left
+pub behind_bits : (bytes rest : List ℕ) (bits : List Bool) (left : ℕ) → IsFront bits_part AreFewBits bytes bits rest → Breaks end_part EndFits rest left → Breaks records_part RecordsFit bytes left
 behind_bits bytes rest bits left = stops_second bits_part end_part AreFewBits (λ _. EndFits) bytes rest bits left bits_one
 
-pub at_targets : (bytes : List ℕ) (left : ℕ) → Stops targets_part AreFewTargets bytes left → Stops end_part EndFits bytes left
+pub at_targets : (bytes : List ℕ) (left : ℕ) → Breaks targets_part AreFewTargets bytes left → Breaks end_part EndFits bytes left
 at_targets bytes left = stops_first targets_part plain_part AreFewTargets (λ _. AreBytes 32) bytes left some_mac
 
-pub behind_targets : (bytes rest targets : List ℕ) (left : ℕ) → IsFront targets_part AreFewTargets bytes targets rest → Stops plain_part (AreBytes 32) rest left → Stops end_part EndFits bytes left
+pub behind_targets : (bytes rest targets : List ℕ) (left : ℕ) → IsFront targets_part AreFewTargets bytes targets rest → Breaks plain_part (AreBytes 32) rest left → Breaks end_part EndFits bytes left
 behind_targets bytes rest targets left = stops_second targets_part plain_part AreFewTargets (λ _. AreBytes 32) bytes rest targets left targets_one
 
 pub blob_front : (bytes r0 r1 r2 rest : List ℕ) (head : BodyHead) (bits : List Bool) (targets mac : List ℕ) → IsFront head_part IsHead bytes head r0 → IsFront bits_part AreFewBits r0 bits r1
@@ -152,7 +152,7 @@ longer bytes text rest n more below within same =
     sym (ap (take n) same) ∙ (take-append-le n (take more bytes) rest (omega arith) ∙ take-take n more bytes below) in
     sym (take-append-drop n bytes) ∙ ap (λ xs. xs ++ drop n bytes) (sym front)
 
-pub offset_at : (bytes : List ℕ) (left : ℕ) → Stops blob_part IsWhole bytes left → (left ≤ length bytes) × IsFormOffset bytes (length bytes - left)
+pub offset_at : (bytes : List ℕ) (left : ℕ) → Breaks blob_part IsWhole bytes left → (left ≤ length bytes) × IsFormOffset bytes (length bytes - left)
 offset_at bytes left stops =
     let sum : length bytes ≡ length stops.front + left = ap length stops.parted ∙ (length-append stops.front stops.behind ∙ ap (λ n. length stops.front + n) stops.counted) in
     let at : length stops.front ≡ length bytes - left = omega arith in

@@ -2,7 +2,7 @@
 use Rattle.std.proofs.Common.{◌≡◌, ℕ, zero, suc, ◌+◌, ◌≤◌, List, [], ◌∷◌, ◌++◌, length, take, drop, refl, ap, sym, subst, ◌∙◌, arith, append_assoc, length-append, ◌⊎◌, inl, inr}
 use Rattle.std.proofs.Math.Seq.{take-append-add}
 use Rattle.std.proofs.lemmas.List.{append-nil, append_cancel_left, length-take-le, take-append-drop, take-append-le, take_at}
-use Rattle.oat_blob.specs.Parts.{IsFront, Stops}
+use Rattle.oat_blob.specs.Parts.{IsFront, Breaks}
 use Rattle.oat_blob.proofs.Parts.{IsPart}
 
 abbrev pub joined_part : {X Y : Type 0} → (X → List ℕ) → (Y → List ℕ) → X × Y → List ℕ
@@ -54,7 +54,7 @@ joined_front first second fa fb bytes middle rest x y a b = record {
 
 -- bytes stop in the first part, which some second part could follow
 pub stops_first : {X Y : Type 0} (first : X → List ℕ) (second : Y → List ℕ) (fa : X → Type 0) (fb : X → Y → Type 0) (bytes : List ℕ) (left : ℕ)
-    → ((x : X) → fa x → (y : Y) × fb x y) → Stops first fa bytes left → Stops (joined_part first second) (joined_fits fa fb) bytes left
+    → ((x : X) → fa x → (y : Y) × fb x y) → Breaks first fa bytes left → Breaks (joined_part first second) (joined_fits fa fb) bytes left
 stops_first first second fa fb bytes left some a =
     let next = some a.value a.fitting in
     record {
@@ -86,7 +86,7 @@ halts_behind {X} {Y} first second fa fb middle front x part of_x halts z y rest 
     halts y rest of_y_here (append_cancel_left (first x) middle (take (suc (length front)) (second y) ++ rest) behind)
 
 pub stops_second : {X Y : Type 0} (first : X → List ℕ) (second : Y → List ℕ) (fa : X → Type 0) (fb : X → Y → Type 0) (bytes middle : List ℕ) (x : X) (left : ℕ)
-    → IsPart first fa → IsFront first fa bytes x middle → Stops second (fb x) middle left → Stops (joined_part first second) (joined_fits fa fb) bytes left
+    → IsPart first fa → IsFront first fa bytes x middle → Breaks second (fb x) middle left → Breaks (joined_part first second) (joined_fits fa fb) bytes left
 stops_second first second fa fb bytes middle x left part a b = record {
   front = first x ++ b.front;
   behind = b.behind;
@@ -125,7 +125,7 @@ recoded_front first fa second fb to from bytes rest x code a = record {
 }
 
 pub recoded_stops : {X Y : Type 0} (first : X → List ℕ) (fa : X → Type 0) (second : Y → List ℕ) (fb : Y → Type 0) (to : X → Y) (from : Y → X) (bytes : List ℕ) (left : ℕ)
-    → IsRecoded first fa second fb to from → Stops first fa bytes left → Stops second fb bytes left
+    → IsRecoded first fa second fb to from → Breaks first fa bytes left → Breaks second fb bytes left
 recoded_stops first fa second fb to from bytes left code a = record {
   front = a.front;
   behind = a.behind;

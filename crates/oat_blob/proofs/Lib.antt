@@ -1,9 +1,9 @@
-pub mod Parts
-pub mod Joined
-pub mod Fixed
-pub mod Counted
+mod Parts
+mod Joined
+mod Fixed
+mod Counted
 pub mod OneLayout
-pub mod Reading
-pub mod Plain
-pub mod Form
-pub mod Sealed
+mod Reading
+mod Plain
+mod Form
+mod Sealed

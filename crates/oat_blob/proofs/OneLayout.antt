@@ -9,9 +9,9 @@ use Rattle.oat_blob.specs.declared.body.Violation.{Violation}
 use Rattle.oat_blob.specs.Body.{AreBytes, IsViolation}
 use Rattle.oat_bits.specs.Packed.{packed}
 use Rattle.oat_bits.proofs.OnePackedForm.{packed-one}
-use Rattle.oat_blob.specs.Layout.{bits_part, covered_of, opening, targets_part, violation_part}
+use Rattle.oat_blob.specs.Layout.{bits_part, covered_of, magic, targets_part, violation_part}
 use Rattle.oat_blob.specs.Laws.{NoProperPrefix, OneBody}
-use Rattle.oat_blob.specs.Parts.{AreFewBits, AreFewTargets, IfViolation, IsBelow, IsHead, IsOpening, head_part, plain_part}
+use Rattle.oat_blob.specs.Parts.{AreFewBits, AreFewTargets, IfViolation, IsBelow, IsHead, IsMagic, head_part, plain_part}
 use Rattle.oat_blob.specs.Shown.{IsWhole, Shown, blob_part}
 use Rattle.oat_blob.proofs.Parts.{IsPart, behind, bytes_part, fixed_part, listed_parts, number_part_16, number_part_32, number_part_64}
 use Rattle.oat_blob.proofs.Joined.{IsRecoded, joined_fits, joined_one, joined_part}
@@ -46,8 +46,8 @@ targets-one a b r s of_a of_b same =
 pub targets_one : IsPart targets_part AreFewTargets
 targets_one = record { one = targets-one }
 
-pub opening_one : IsPart plain_part IsOpening
-opening_one = fixed_part plain_part IsOpening 5 (λ bytes opens. ap length opens) (λ x y of_x of_y same. same)
+pub opening_one : IsPart plain_part IsMagic
+opening_one = fixed_part plain_part IsMagic 5 (λ bytes opens. ap length opens) (λ x y of_x of_y same. same)
 
 recoded_one : {X Y : Type 0} (first : X → List ℕ) (fa : X → Type 0) (second : Y → List ℕ) (fb : Y → Type 0) (to : X → Y) (from : Y → X)
     → IsRecoded first fa second fb to from → ((y : Y) → to (from y) ≡ y) → IsPart first fa → IsPart second fb
@@ -91,13 +91,13 @@ abbrev pub fields_part : Fields → List ℕ
 fields_part = joined_part plain_part op_part
 
 abbrev pub FieldsFit : Fields → Type 0
-FieldsFit = joined_fits IsOpening (λ _. OpFits)
+FieldsFit = joined_fits IsMagic (λ _. OpFits)
 
 abbrev pub head_of : Fields → BodyHead
 head_of p = record { op = p.1.0; nonce = p.1.1.0; digest = p.1.1.1.0; hash = p.1.1.1.1.0; violation = p.1.1.1.1.1 }
 
 abbrev pub fields_of : BodyHead → Fields
-fields_of head = (opening, (head.op, (head.nonce, (head.digest, (head.hash, head.violation)))))
+fields_of head = (magic, (head.op, (head.nonce, (head.digest, (head.hash, head.violation)))))
 
 pub head_fields : IsRecoded fields_part FieldsFit head_part IsHead head_of fields_of
 head_fields = record {
@@ -110,7 +110,7 @@ head_fields = record {
 pub head_one : IsPart head_part IsHead
 head_one =
     recoded_one fields_part FieldsFit head_part IsHead head_of fields_of head_fields (λ head. refl)
-    (joined_one plain_part op_part IsOpening OpFits opening_one
+    (joined_one plain_part op_part IsMagic OpFits opening_one
     (joined_one (to_be_bytes w16) nonce_part (IsBelow 16) NonceFits number_part_16
     (joined_one plain_part digest_part (AreBytes 16) DigestFits (bytes_part 16)
     (joined_one plain_part hash_part (AreBytes 32) HashFits (bytes_part 32)
@@ -152,7 +152,7 @@ spelled : (shown : Shown) → pieces_part (pieces_of shown) ≡ blob_part shown
 unfolding covered_of
 spelled shown =
     let head = shown.body.head in
-    regrouped opening (to_be_bytes w16 head.op) head.nonce head.digest head.hash (violation_part head.violation) (bits_part shown.body.bits) (targets_part shown.body.targets) shown.mac
+    regrouped magic (to_be_bytes w16 head.op) head.nonce head.digest head.hash (violation_part head.violation) (bits_part shown.body.bits) (targets_part shown.body.targets) shown.mac
 
 pub blob_pieces : IsRecoded pieces_part PiecesFit blob_part IsWhole shown_of pieces_of
 blob_pieces = record {

@@ -4,12 +4,12 @@ use Rattle.std.specs.Prelude.{slice_get}
 use Rattle.std.specs.Int.{w16, to_be_bytes}
 use Rattle.oat_blob.specs.Body.{Body, IsBody, IsPlain}
 use Rattle.oat_bits.specs.Packed.{octets, packed}
-use Rattle.oat_blob.specs.Layout.{IsBlob, bits_part, covered_of, opening, targets_part, violation_part}
+use Rattle.oat_blob.specs.Layout.{IsBlob, bits_part, covered_of, magic, targets_part, violation_part}
 use Rattle.oat_blob.specs.Laws.{PlainLength}
 
 -- all before the flag
 abbrev pub front_of : Body → List ℕ
-front_of body = opening ++ (to_be_bytes w16 body.head.op ++ (body.head.nonce ++ (body.head.digest ++ body.head.hash)))
+front_of body = magic ++ (to_be_bytes w16 body.head.op ++ (body.head.nonce ++ (body.head.digest ++ body.head.hash)))
 
 no_records : (body : Body) → IsPlain body → violation_part body.head.violation ++ (bits_part body.bits ++ targets_part body.targets) ≡ replicate 9 0
 unfolding packed octets
@@ -25,8 +25,8 @@ regrouped a b c d e f = sym (simp append_assoc)
 pub plain-covered : (body : Body) → IsPlain body → covered_of body ≡ front_of body ++ replicate 9 0
 unfolding covered_of
 plain-covered body plain =
-    ap (λ records. opening ++ (to_be_bytes w16 body.head.op ++ (body.head.nonce ++ (body.head.digest ++ (body.head.hash ++ records))))) (no_records body plain)
-    ∙ regrouped opening (to_be_bytes w16 body.head.op) body.head.nonce body.head.digest body.head.hash (replicate 9 0)
+    ap (λ records. magic ++ (to_be_bytes w16 body.head.op ++ (body.head.nonce ++ (body.head.digest ++ (body.head.hash ++ records))))) (no_records body plain)
+    ∙ regrouped magic (to_be_bytes w16 body.head.op) body.head.nonce body.head.digest body.head.hash (replicate 9 0)
 
 length-front_of : (body : Body) → IsBody body → length (front_of body) ≡ 87
 length-front_of body fits =

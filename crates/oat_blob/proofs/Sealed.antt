@@ -7,7 +7,7 @@ use Rattle.sha2.proofs.Facts256.{length-sha256}
 use Rattle.oat_hmac.specs.Hmac.{hmac, key_block, masked}
 use Rattle.oat_blob.specs.declared.body.BodyHead.{BodyHead}
 use Rattle.oat_blob.specs.Body.{Body}
-use Rattle.oat_blob.specs.Layout.{IsBlobOf, bits_part, covered_of, opening, targets_part, violation_part}
+use Rattle.oat_blob.specs.Layout.{IsBlobOf, bits_part, covered_of, magic, targets_part, violation_part}
 use Rattle.oat_blob.specs.Parts.{IsHead, head_part}
 
 regrouped : (a b c d e f g h : List ℕ) → ((a ++ (b ++ (c ++ (d ++ (e ++ f))))) ++ g) ++ h ≡ a ++ (b ++ (c ++ (d ++ (e ++ (f ++ (g ++ h))))))
@@ -17,7 +17,7 @@ covered : (body : Body) → (head_part body.head ++ bits_part body.bits) ++ targ
 unfolding covered_of
 covered body =
     let head = body.head in
-    regrouped opening (to_be_bytes w16 head.op) head.nonce head.digest head.hash (violation_part head.violation) (bits_part body.bits) (targets_part body.targets)
+    regrouped magic (to_be_bytes w16 head.op) head.nonce head.digest head.hash (violation_part head.violation) (bits_part body.bits) (targets_part body.targets)
 
 length-hmac : (key text : List ℕ) → length (hmac key text) ≡ 32
 unfolding hmac

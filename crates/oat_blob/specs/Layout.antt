@@ -8,8 +8,8 @@ use Rattle.oat_blob.specs.Body.{AreBytes, Body, IsBody}
 use Rattle.oat_bits.specs.Packed.{packed}
 
 -- 'OATB', and the version
-abbrev pub opening : List ℕ
-opening = 0x4F ∷ 0x41 ∷ 0x54 ∷ 0x42 ∷ 1 ∷ []
+abbrev pub magic : List ℕ
+magic = 0x4F ∷ 0x41 ∷ 0x54 ∷ 0x42 ∷ 1 ∷ []
 
 -- a flag, and behind the flag 1 the first unsound use
 abbrev pub violation_part : Option Violation → List ℕ
@@ -26,7 +26,7 @@ targets_part targets = to_be_bytes w32 (length targets) ++ flat_map (to_be_bytes
 -- all before the MAC
 unfoldable pub covered_of : Body → List ℕ
 covered_of body =
-    opening
+    magic
     ++ (to_be_bytes w16 body.head.op
     ++ (body.head.nonce
     ++ (body.head.digest

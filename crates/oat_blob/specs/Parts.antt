@@ -6,7 +6,7 @@ use Rattle.std.specs.List.{All, flat_map}
 use Rattle.oat_blob.specs.declared.body.BodyHead.{BodyHead}
 use Rattle.oat_blob.specs.declared.body.Violation.{Violation}
 use Rattle.oat_blob.specs.Body.{AreBytes, IsViolation}
-use Rattle.oat_blob.specs.Layout.{opening, violation_part}
+use Rattle.oat_blob.specs.Layout.{magic, violation_part}
 
 -- the bytes are the part with this value, and the rest
 pub record IsFront {X : Type 0} (spell : X → List ℕ) (fits : X → Type 0) (bytes : List ℕ) (value : X) (rest : List ℕ) : Type 0 where
@@ -15,7 +15,7 @@ pub record IsFront {X : Type 0} (spell : X → List ℕ) (fits : X → Type 0) (
 
 -- with so many bytes left: the front before them begins the part, and no value of the part goes
 -- on as the bytes do, nor ends there
-pub record Stops {X : Type 0} (spell : X → List ℕ) (fits : X → Type 0) (bytes : List ℕ) (left : ℕ) : Type 0 where
+pub record Breaks {X : Type 0} (spell : X → List ℕ) (fits : X → Type 0) (bytes : List ℕ) (left : ℕ) : Type 0 where
   pub front : List ℕ
   pub behind : List ℕ
   pub parted : bytes ≡ front ++ behind
@@ -35,8 +35,8 @@ pub record IsCut (size : ℕ) (bytes front rest : List ℕ) : Type 0 where
 abbrev pub plain_part : List ℕ → List ℕ
 plain_part bytes = bytes
 
-abbrev pub IsOpening : List ℕ → Type 0
-IsOpening bytes = bytes ≡ opening
+abbrev pub IsMagic : List ℕ → Type 0
+IsMagic bytes = bytes ≡ magic
 
 -- a number of so many bits
 abbrev pub IsBelow : ℕ → ℕ → Type 0
@@ -50,7 +50,7 @@ abbrev pub IfViolation : Option Violation → Type 0
 IfViolation violation = IfSome violation IsViolation
 
 abbrev pub head_part : BodyHead → List ℕ
-head_part head = opening ++ (to_be_bytes w16 head.op ++ (head.nonce ++ (head.digest ++ (head.hash ++ violation_part head.violation))))
+head_part head = magic ++ (to_be_bytes w16 head.op ++ (head.nonce ++ (head.digest ++ (head.hash ++ violation_part head.violation))))
 
 pub record IsHead (head : BodyHead) : Type 0 where
   pub op : head.op < 2 ^ 16

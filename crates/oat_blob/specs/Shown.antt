@@ -3,7 +3,10 @@ use Rattle.std.specs.Prelude.{◌≡◌, ℕ, ◌+◌, ◌*◌, ◌/◌, List, �
 use Rattle.std.specs.Int.{w64, from_be_bytes}
 use Rattle.std.specs.List.{range_with_len}
 use Rattle.oat_blob.specs.Body.{AreBytes, Body, IsBody}
-use Rattle.oat_blob.specs.Layout.{covered_of}
+use Rattle.oat_bits.specs.Bits.{bits_in}
+use Rattle.oat_bits.specs.Packed.{packed}
+use Rattle.oat_blob.specs.Layout.{covered_of, bits_part, targets_part}
+use Rattle.oat_blob.specs.Parts.{IsFront, AreBits, AreFewBits, AreTargets, AreFewTargets, addresses_part}
 
 -- the body, and the MAC that the bytes carry
 pub record Shown : Type 0 where
@@ -30,3 +33,17 @@ blob_part shown = covered_of shown.body ++ shown.mac
 pub record IsWhole (shown : Shown) : Type 0 where
   pub body : IsBody shown.body
   pub mac : AreBytes 32 shown.mac
+
+-- in front of the bytes stand so many bits as these bytes hold, and with their count; then the rest
+abbrev pub HasPackedBits : List ℕ → ℕ → List ℕ → List ℕ → Type 0
+HasPackedBits bytes count held rest = IsFront packed (AreBits count) bytes (bits_in count held) rest
+
+abbrev pub HasBits : List ℕ → ℕ → List ℕ → List ℕ → Type 0
+HasBits bytes count held rest = IsFront bits_part AreFewBits bytes (bits_in count held) rest
+
+-- the same of targets
+abbrev pub HasAddresses : List ℕ → ℕ → List ℕ → List ℕ → Type 0
+HasAddresses bytes count held rest = IsFront addresses_part (AreTargets count) bytes (targets_in count held) rest
+
+abbrev pub HasTargets : List ℕ → ℕ → List ℕ → List ℕ → Type 0
+HasTargets bytes count held rest = IsFront targets_part AreFewTargets bytes (targets_in count held) rest

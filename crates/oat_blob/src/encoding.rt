@@ -6,7 +6,7 @@ ghost use Rattle.oat_blob.specs.Layout.{IsBlobOf, bits_part, targets_part, viola
 ghost use Rattle.oat_blob.specs.Parts.{IfViolation, IsHead, head_part, violation_fields};
 
 use crate::body::{BodyHead, Violation};
-use crate::reader::OPENING;
+use crate::reader::MAGIC;
 use oat_bits::PackedBits;
 use oat_hmac::Mac;
 use std::alloc::{AllocError, Global};
@@ -22,7 +22,7 @@ fn put_head(out: &mut Vec<u8>, head: &BodyHead) -> Result<(), AllocError>
     ensures put { OnOk result (out.new.items ≡ out.old.items ++ head_part head.now) }
     ensures fits { OnOk result (IsHead head.now) }
 {
-    put_bytes(out, &OPENING)?;
+    put_bytes(out, &MAGIC)?;
     put_bytes(out, &head.op.to_be_bytes())?;
     put_bytes(out, &head.nonce)?;
     put_bytes(out, &head.digest)?;

@@ -5,16 +5,15 @@ ghost use Rattle.std.specs.Int.{w16, w32, w64, to_be_bytes};
 ghost use Rattle.oat_bits.specs.Packed.{packed};
 ghost use Rattle.oat_blob.specs.Body.{AreBytes, IsViolation};
 ghost use Rattle.oat_blob.specs.Layout.{violation_part, bits_part, targets_part};
-ghost use Rattle.oat_blob.specs.Layout.{opening};
-ghost use Rattle.oat_blob.specs.Parts.{IsCut, IsFront, Stops, plain_part, IsOpening, IsBelow, violation_fields, IfViolation, head_part, IsHead, AreBits, AreTargets, addresses_part, AreFewBits, AreFewTargets};
-ghost use Rattle.oat_bits.specs.Bits.{bits_in};
-ghost use Rattle.oat_blob.specs.Shown.{targets_in};
+ghost use Rattle.oat_blob.specs.Layout.{magic};
+ghost use Rattle.oat_blob.specs.Parts.{IsCut, IsFront, Breaks, plain_part, IsMagic, IsBelow, violation_fields, IfViolation, head_part, IsHead, AreBits, AreTargets, addresses_part, AreFewBits, AreFewTargets};
+ghost use Rattle.oat_blob.specs.Shown.{HasAddresses, HasBits, HasPackedBits, HasTargets};
 
 use crate::body::{BodyHead, Violation};
 use oat_bits::is_filled;
 
 /// The letters OATB, and the version.
-pub const OPENING: [u8; 5] = [0x4F, 0x41, 0x54, 0x42, 1];
+pub const MAGIC: [u8; 5] = [0x4F, 0x41, 0x54, 0x42, 1];
 
 /// Where bytes stop being a part: so many are left from the first wrong one on.
 #[derive(Drop)]
@@ -39,7 +38,7 @@ fn split(bytes: &[u8], size: usize) -> Result<(&[u8], &[u8]), Stop>
 }
 
 pub fn array<const N: usize>(bytes: &[u8]) -> Result<([u8; N], &[u8]), Stop>
-    ensures { MatchResult result (λ read. IsFront plain_part (AreBytes N) bytes.now read.0 read.1.now) (λ stop. Stops plain_part (AreBytes N) bytes.now stop.left) }
+    ensures { MatchResult result (λ read. IsFront plain_part (AreBytes N) bytes.now read.0 read.1.now) (λ stop. Breaks plain_part (AreBytes N) bytes.now stop.left) }
 {
     match bytes.split_first_chunk::<N>() {
         Some((field, rest)) => Ok((*field, rest)),
@@ -48,31 +47,31 @@ pub fn array<const N: usize>(bytes: &[u8]) -> Result<([u8; N], &[u8]), Stop>
 }
 
 pub fn number_16(bytes: &[u8]) -> Result<(u16, &[u8]), Stop>
-    ensures { MatchResult result (λ read. IsFront (to_be_bytes w16) (IsBelow 16) bytes.now read.0 read.1.now) (λ stop. Stops (to_be_bytes w16) (IsBelow 16) bytes.now stop.left) }
+    ensures { MatchResult result (λ read. IsFront (to_be_bytes w16) (IsBelow 16) bytes.now read.0 read.1.now) (λ stop. Breaks (to_be_bytes w16) (IsBelow 16) bytes.now stop.left) }
 {
     let (field, rest) = array(bytes)?;
     Ok((u16::from_be_bytes(field), rest))
 }
 
 pub fn number_32(bytes: &[u8]) -> Result<(u32, &[u8]), Stop>
-    ensures { MatchResult result (λ read. IsFront (to_be_bytes w32) (IsBelow 32) bytes.now read.0 read.1.now) (λ stop. Stops (to_be_bytes w32) (IsBelow 32) bytes.now stop.left) }
+    ensures { MatchResult result (λ read. IsFront (to_be_bytes w32) (IsBelow 32) bytes.now read.0 read.1.now) (λ stop. Breaks (to_be_bytes w32) (IsBelow 32) bytes.now stop.left) }
 {
     let (field, rest) = array(bytes)?;
     Ok((u32::from_be_bytes(field), rest))
 }
 
 pub fn number_64(bytes: &[u8]) -> Result<(u64, &[u8]), Stop>
-    ensures { MatchResult result (λ read. IsFront (to_be_bytes w64) (IsBelow 64) bytes.now read.0 read.1.now) (λ stop. Stops (to_be_bytes w64) (IsBelow 64) bytes.now stop.left) }
+    ensures { MatchResult result (λ read. IsFront (to_be_bytes w64) (IsBelow 64) bytes.now read.0 read.1.now) (λ stop. Breaks (to_be_bytes w64) (IsBelow 64) bytes.now stop.left) }
 {
     let (field, rest) = array(bytes)?;
     Ok((u64::from_be_bytes(field), rest))
 }
 
-fn opening(bytes: &[u8]) -> Result<&[u8], Stop>
-    ensures { MatchResult result (λ rest. IsFront plain_part IsOpening bytes.now opening rest.now) (λ stop. Stops plain_part IsOpening bytes.now stop.left) }
+fn magic(bytes: &[u8]) -> Result<&[u8], Stop>
+    ensures { MatchResult result (λ rest. IsFront plain_part IsMagic bytes.now magic rest.now) (λ stop. Breaks plain_part IsMagic bytes.now stop.left) }
 {
     let mut rest = bytes;
-    for letter in OPENING {
+    for letter in MAGIC {
         match rest.split_first() {
             Some((byte, behind)) if *byte == letter => rest = behind,
             _ => return Err(Stop { left: rest.len() }),
@@ -82,7 +81,7 @@ fn opening(bytes: &[u8]) -> Result<&[u8], Stop>
 }
 
 fn violation_fields(bytes: &[u8]) -> Result<(Violation, &[u8]), Stop>
-    ensures { MatchResult result (λ read. IsFront violation_fields IsViolation bytes.now read.0 read.1.now) (λ stop. Stops violation_fields IsViolation bytes.now stop.left) }
+    ensures { MatchResult result (λ read. IsFront violation_fields IsViolation bytes.now read.0 read.1.now) (λ stop. Breaks violation_fields IsViolation bytes.now stop.left) }
 {
     let (cell, rest) = number_32(bytes)?;
     let (expected, rest) = number_64(rest)?;
@@ -98,7 +97,7 @@ fn violation_fields(bytes: &[u8]) -> Result<(Violation, &[u8]), Stop>
 }
 
 fn violation(bytes: &[u8]) -> Result<(Option<Violation>, &[u8]), Stop>
-    ensures { MatchResult result (λ read. IsFront violation_part IfViolation bytes.now read.0 read.1.now) (λ stop. Stops violation_part IfViolation bytes.now stop.left) }
+    ensures { MatchResult result (λ read. IsFront violation_part IfViolation bytes.now read.0 read.1.now) (λ stop. Breaks violation_part IfViolation bytes.now stop.left) }
 {
     let Some((flag, rest)) = bytes.split_first() else {
         return Err(Stop { left: 0 });
@@ -114,9 +113,9 @@ fn violation(bytes: &[u8]) -> Result<(Option<Violation>, &[u8]), Stop>
 }
 
 pub fn head(bytes: &[u8]) -> Result<(BodyHead, &[u8]), Stop>
-    ensures { MatchResult result (λ read. IsFront head_part IsHead bytes.now read.0 read.1.now) (λ stop. Stops head_part IsHead bytes.now stop.left) }
+    ensures { MatchResult result (λ read. IsFront head_part IsHead bytes.now read.0 read.1.now) (λ stop. Breaks head_part IsHead bytes.now stop.left) }
 {
-    let rest = opening(bytes)?;
+    let rest = magic(bytes)?;
     let (op, rest) = number_16(rest)?;
     let (nonce, rest) = array(rest)?;
     let (digest, rest) = array(rest)?;
@@ -134,7 +133,7 @@ pub fn head(bytes: &[u8]) -> Result<(BodyHead, &[u8]), Stop>
 
 /// The bytes of packed bits, the last filled with zeros.
 fn packed_bits(bytes: &[u8], count: u32) -> Result<(&[u8], &[u8]), Stop>
-    ensures read { MatchResult result (λ read. IsFront packed (AreBits count) bytes.now (bits_in count read.0.now) read.1.now) (λ stop. Stops packed (AreBits count) bytes.now stop.left) }
+    ensures read { MatchResult result (λ read. HasPackedBits bytes.now count read.0.now read.1.now) (λ stop. Breaks packed (AreBits count) bytes.now stop.left) }
     ensures size { IfOk result (λ read. length read.0.now ≡ (count + 7) / 8) }
 {
     let count = count as usize;
@@ -148,7 +147,7 @@ fn packed_bits(bytes: &[u8], count: u32) -> Result<(&[u8], &[u8]), Stop>
 }
 
 pub fn bits(bytes: &[u8]) -> Result<(Counted<'_>, &[u8]), Stop>
-    ensures read { MatchResult result (λ read. IsFront bits_part AreFewBits bytes.now (bits_in read.0.count read.0.bytes.now) read.1.now) (λ stop. Stops bits_part AreFewBits bytes.now stop.left) }
+    ensures read { MatchResult result (λ read. HasBits bytes.now read.0.count read.0.bytes.now read.1.now) (λ stop. Breaks bits_part AreFewBits bytes.now stop.left) }
     ensures size { IfOk result (λ read. length read.0.bytes.now ≡ (read.0.count + 7) / 8) }
 {
     let (count, rest) = number_32(bytes)?;
@@ -157,14 +156,14 @@ pub fn bits(bytes: &[u8]) -> Result<(Counted<'_>, &[u8]), Stop>
 }
 
 fn addresses(bytes: &[u8], count: u32) -> Result<(&[u8], &[u8]), Stop>
-    ensures read { MatchResult result (λ read. IsFront addresses_part (AreTargets count) bytes.now (targets_in count read.0.now) read.1.now) (λ stop. Stops addresses_part (AreTargets count) bytes.now stop.left) }
+    ensures read { MatchResult result (λ read. HasAddresses bytes.now count read.0.now read.1.now) (λ stop. Breaks addresses_part (AreTargets count) bytes.now stop.left) }
     ensures size { IfOk result (λ read. length read.0.now ≡ count * 8) }
 {
     split(bytes, count as usize * 8)
 }
 
 pub fn targets(bytes: &[u8]) -> Result<(Counted<'_>, &[u8]), Stop>
-    ensures read { MatchResult result (λ read. IsFront targets_part AreFewTargets bytes.now (targets_in read.0.count read.0.bytes.now) read.1.now) (λ stop. Stops targets_part AreFewTargets bytes.now stop.left) }
+    ensures read { MatchResult result (λ read. HasTargets bytes.now read.0.count read.0.bytes.now read.1.now) (λ stop. Breaks targets_part AreFewTargets bytes.now stop.left) }
     ensures size { IfOk result (λ read. length read.0.bytes.now ≡ read.0.count * 8) }
 {
     let (count, rest) = number_32(bytes)?;

@@ -1,7 +1,7 @@
--- The begin record and the addresses for which a Chain, a Walk and a Comparison stand while addresses come in one by one (docs/DEFINITIONS.md).
+-- The begin record and the addresses for which a Chain, a Chained and a Comparison stand while addresses come in one by one (docs/DEFINITIONS.md).
 use Rattle.std.specs.Prelude.{◌≡◌, ℕ, List}
 use Rattle.oat_chain.specs.declared.Chain.{Chain}
-use Rattle.oat_chain.specs.declared.comparison.Walk.{Walk}
+use Rattle.oat_chain.specs.declared.comparison.Chained.{Chained}
 use Rattle.oat_chain.specs.declared.comparison.Comparison.{Comparison}
 use Rattle.oat_chain.specs.Chain.{chain}
 use Rattle.oat_chain.specs.Clash.{bytes_of, IsLastMessage, IsLastClash}
@@ -9,11 +9,11 @@ use Rattle.oat_chain.specs.Clash.{bytes_of, IsLastMessage, IsLastClash}
 pub record StandsFor (running : Chain) (head addresses : List ℕ) : Type 0 where
   pub digest : running.value ≡ chain head addresses
 
-pub record Walked (walk : Walk) (head addresses : List ℕ) : Type 0 where
-  pub stands : StandsFor walk.chain head addresses
-  pub last : IsLastMessage head addresses (bytes_of walk.last)
+pub record IsChained (chained : Chained) (head addresses : List ℕ) : Type 0 where
+  pub stands : StandsFor chained.chain head addresses
+  pub last : IsLastMessage head addresses (bytes_of chained.last)
 
 pub record Compares (comparison : Comparison) (head run_returns replay_returns : List ℕ) : Type 0 where
-  pub run : Walked comparison.run head run_returns
-  pub replay : Walked comparison.replay head replay_returns
+  pub run : IsChained comparison.run head run_returns
+  pub replay : IsChained comparison.replay head replay_returns
   pub last : IsLastClash head run_returns replay_returns comparison.last

@@ -4,14 +4,14 @@ ghost use Rattle.std.specs.Prelude.{◌≡◌, ◌≢◌, ◌↔◌, ℕ, List, 
 ghost use Rattle.sha2.specs.Sha256.{sha256};
 ghost use Rattle.oat_chain.specs.Chain.{DiffersAt, chain, link, messages};
 ghost use Rattle.oat_chain.specs.Clash.{bytes_of};
-ghost use Rattle.oat_chain.specs.Standing.{Compares, StandsFor, Walked};
+ghost use Rattle.oat_chain.specs.Standing.{Compares, StandsFor, IsChained};
 
 use crate::Chain;
 use crate::message::{Clash, Message};
 
 // The messages of one list, up to the last one so far.
 #[derive(Drop)]
-struct Walk {
+struct Chained {
     chain: Chain,
     last: Message,
 }
@@ -26,31 +26,31 @@ fn joined(before: &[u8; 32], address: u64) -> [u8; 40]
     bytes
 }
 
-impl Walk {
-    fn start(head: &[u8; 50]) -> Walk
-        ensures { Walked result head.now [] }
+impl Chained {
+    fn start(head: &[u8; 50]) -> Chained
+        ensures { IsChained result head.now [] }
     {
-        Walk {
+        Chained {
             chain: Chain::start(head),
             last: Message::Begin(*head),
         }
     }
 
     fn absorb(&mut self, address: u64)
-        ensures { (head addresses : List ℕ) → Walked self.old head addresses → Walked self.new head (addresses ++ address ∷ []) }
+        ensures { (head addresses : List ℕ) → IsChained self.old head addresses → IsChained self.new head (addresses ++ address ∷ []) }
     {
         self.last = Message::Link(joined(&self.chain.digest(), address));
         self.chain.absorb(address);
     }
 
-    fn over(head: &[u8; 50], addresses: &[u64]) -> Walk
-        ensures { Walked result head.now addresses.now }
+    fn over(head: &[u8; 50], addresses: &[u64]) -> Chained
+        ensures { IsChained result head.now addresses.now }
     {
-        let mut walk = Walk::start(head);
+        let mut chained = Chained::start(head);
         for address in addresses {
-            walk.absorb(*address);
+            chained.absorb(*address);
         }
-        walk
+        chained
     }
 }
 
@@ -72,8 +72,8 @@ fn differing(run: &Message, replay: &Message) -> Option<Clash>
 // Both lists so far, and the last two messages that differ.
 #[derive(Drop)]
 struct Comparison {
-    run: Walk,
-    replay: Walk,
+    run: Chained,
+    replay: Chained,
     last: Option<Clash>,
 }
 
@@ -97,8 +97,8 @@ pub fn clash(head: &[u8; 50], run_returns: &[u64], replay_returns: &[u64]) -> Op
     let common = run_returns.len().min(replay_returns.len());
     let (run_surplus, run_rest) = run_returns.split_at(run_returns.len() - common);
     let (replay_surplus, replay_rest) = replay_returns.split_at(replay_returns.len() - common);
-    let run = Walk::over(head, run_surplus);
-    let replay = Walk::over(head, replay_surplus);
+    let run = Chained::over(head, run_surplus);
+    let replay = Chained::over(head, replay_surplus);
     let last = differing(&run.last, &replay.last);
     let mut comparison = Comparison { run, replay, last };
     for (run_address, replay_address) in run_rest.iter().zip(replay_rest) {

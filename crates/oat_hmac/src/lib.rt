@@ -3,7 +3,7 @@
 
 ghost use Rattle.std.specs.Prelude.{◌≡◌, ℕ, ◌-◌, ◌≤◌, List, [], ◌++◌, length, replicate};
 ghost use Rattle.oat_hmac.specs.Hmac.{hmac, key_block, masked, short_key};
-ghost use Rattle.oat_hmac.specs.Standing.{StandsFor};
+ghost use Rattle.oat_hmac.specs.Standing.{HasTaken};
 
 use sha2::{Digest, Sha256};
 
@@ -57,7 +57,7 @@ pub struct Mac {
 impl Mac {
     /// A code of the empty text under `key`, which may have any length.
     pub fn new(key: &[u8]) -> Mac
-        ensures { StandsFor result key.now [] }
+        ensures { HasTaken result key.now [] }
     {
         let block = block_of(key);
         let mut inner = Sha256::new();
@@ -69,14 +69,14 @@ impl Mac {
 
     /// Adds `piece` to the text.
     pub fn update(&mut self, piece: &[u8])
-        ensures { (key text : List ℕ) → StandsFor self.old key text → StandsFor self.new key (text ++ piece.now) }
+        ensures { (key text : List ℕ) → HasTaken self.old key text → HasTaken self.new key (text ++ piece.now) }
     {
         self.inner.update(piece);
     }
 
     /// The code of the text.
     pub fn finish(self) -> [u8; 32]
-        ensures { (key text : List ℕ) → StandsFor self key text → result ≡ hmac key text }
+        ensures { (key text : List ℕ) → HasTaken self key text → result ≡ hmac key text }
     {
         let Mac { inner, mut outer } = self;
         let digest = inner.finalize();

@@ -1,5 +1,5 @@
-pub mod OneAnswer
+mod OneAnswer
 pub mod OneStuck
 pub mod ReplayLemmas
-pub mod TurnLemmas
-pub mod WalkSoFar
+mod TurnLemmas
+mod WalkSoFar

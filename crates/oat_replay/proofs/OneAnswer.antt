@@ -12,7 +12,7 @@ use Rattle.oat_replay.specs.declared.turn.Turn.TheVariants.{Moved, Passed, Done,
 use Rattle.oat_replay.specs.Replay.{GetsStuck}
 use Rattle.oat_replay.specs.StandsBehind.{StandsBehind, Turns}
 use Rattle.oat_replay.proofs.OneStuck.{one_stuck}
-use Rattle.oat_replay.proofs.ReplayLemmas.{Follows-continues, at_end, never_both}
+use Rattle.oat_replay.proofs.ReplayLemmas.{FollowsRecords-continues, at_end, never_both}
 
 module _ (flow : Map) (op : ℕ) (bits : List Bool) (targets : List ℕ) (steps : List Step) where
   -- one step more is one
@@ -21,7 +21,7 @@ module _ (flow : Map) (op : ℕ) (bits : List Bool) (targets : List ℕ) (steps 
   one_step x y one two first second =
       let lengths : length (steps ++ x ∷ []) ≡ length (steps ++ y ∷ []) =
       length-append steps (x ∷ []) ∙ sym (length-append steps (y ∷ [])) in
-      let on = Follows-continues flow op bits targets (steps ++ x ∷ []) (steps ++ y ∷ []) one.place two.place
+      let on = FollowsRecords-continues flow op bits targets (steps ++ x ∷ []) (steps ++ y ∷ []) one.place two.place
       first.bits_left second.bits_left first.targets_left second.targets_left first.follows second.follows (omega arith) in
       let counts : length (steps ++ y ∷ []) ≡ length (steps ++ x ∷ []) + length on.0 =
       ap length on.1 ∙ length-append (steps ++ x ∷ []) on.0 in

@@ -10,7 +10,7 @@ use Rattle.oat_map.specs.Walk.{Step, path_of, bits_of, targets_of, path_limit}
 use Rattle.oat_map.proofs.WalkLemmas.{Leads-continues}
 use Rattle.oat_replay.specs.declared.cause.ReplayCause.{ReplayCause}
 use Rattle.oat_replay.specs.declared.cause.ReplayCause.TheVariants.{BadTarget}
-use Rattle.oat_replay.specs.Replay.{GetsStuck, Stops, StopsICall, StopsEnd, no_target, bad_target, wrong_end, end_inside, unused_bits, unused_targets}
+use Rattle.oat_replay.specs.Replay.{GetsStuck, StuckAt, StuckAtICall, StuckAtEnd, no_target, bad_target, wrong_end, end_inside, unused_bits, unused_targets}
 
 nil_or_cons : (xs : List ℕ) (y : ℕ) (ys : List ℕ) → xs ≡ [] → xs ≡ y ∷ ys → ⊥
 nil_or_cons xs y ys none some = let both : [] ≡ y ∷ ys = sym none ∙ some in cc
@@ -19,7 +19,7 @@ heads : (x y : ℕ) (xs ys : List ℕ) → x ∷ xs ≡ y ∷ ys → x ≡ y
 heads x y xs ys same = cc
 
 one_icall : (flow : Map) (params : ℕ) (left : List ℕ) (cause other : ReplayCause)
-    → StopsICall flow params left cause → StopsICall flow params left other → cause ≡ other
+    → StuckAtICall flow params left cause → StuckAtICall flow params left other → cause ≡ other
 one_icall flow params left cause other (no_target none is) (no_target none' is') = is ∙ sym is'
 one_icall flow params left cause other (no_target none is) (bad_target t ts some bad is') = absurd (nil_or_cons left t ts none some)
 one_icall flow params left cause other (bad_target t ts some bad is) (no_target none is') = absurd (nil_or_cons left t ts none some)
@@ -27,7 +27,7 @@ one_icall flow params left cause other (bad_target t ts some bad is) (bad_target
     is ∙ ap BadTarget (heads t u ts us (sym some ∙ some')) ∙ sym is'
 
 one_end : (op ended open_calls bits targets : ℕ) (cause other : ReplayCause)
-    → StopsEnd op ended open_calls bits targets cause → StopsEnd op ended open_calls bits targets other → cause ≡ other
+    → StuckAtEnd op ended open_calls bits targets cause → StuckAtEnd op ended open_calls bits targets other → cause ≡ other
 one_end op ended o b t cause other (wrong_end differ is) (wrong_end differ_too is') = is ∙ sym is'
 one_end op ended o b t cause other (wrong_end differ is) (end_inside same p is') = absurd (differ same)
 one_end op ended o b t cause other (wrong_end differ is) (unused_bits same p q is') = absurd (differ same)
@@ -46,7 +46,7 @@ one_end op ended o b t cause other (unused_targets same p q r is) (unused_bits s
 one_end op ended o b t cause other (unused_targets same p q r is) (unused_targets same_too p' q' r' is') = is ∙ sym is'
 
 one_stop : (flow : Map) (op : ℕ) (row : Option Row) (steps : List Step) (b : List Bool) (t : List ℕ) (cause other : ReplayCause)
-    → Stops flow op row steps b t cause → Stops flow op row steps b t other → cause ≡ other
+    → StuckAt flow op row steps b t cause → StuckAt flow op row steps b t other → cause ≡ other
 one_stop flow op None steps b t cause other is is' = is ∙ sym is'
 one_stop flow op (Some (Jump at to)) steps b t cause other is is' = absurd is
 one_stop flow op (Some (Branch at taken others)) steps b t cause other is is' = is.1 ∙ sym is'.1

@@ -1,5 +1,5 @@
 -- Replays of the same records: which of two is the longer, where one ends, and why it is the only one.
-use Rattle.std.proofs.Common.{◌≡◌, ℕ, ◌+◌, ◌≤◌, Bool, List, [], ◌∷◌, ◌++◌, length, Some, refl, sym, ap, ◌∙◌, inl, inr, append-nil, arith, length-append}
+use Rattle.std.proofs.Common.{◌≡◌, ℕ, ◌+◌, ◌≤◌, Bool, List, [], ◌∷◌, ◌++◌, length, Some, refl, sym, ap, ◌∙◌, inl, inr, ◌⊎◌, ◌<◌, append_assoc, append-nil, arith, length-append}
 use Rattle.std.proofs.lemmas.Bool.{cases_lt}
 use Rattle.std.proofs.lemmas.List.{append_cancel_left}
 use Rattle.std.proofs.lemmas.List.Elements.{filter_map-append}
@@ -12,14 +12,14 @@ use Rattle.oat_map.specs.Rows.{next}
 use Rattle.oat_map.specs.Walk.{Step, moved, edge_of, path_of, bit_of, bits_of, target_of, targets_of, depth, RowGoes, Leads}
 use Rattle.oat_map.proofs.WalkLemmas.{Leads-continues, Continues, bits-left, targets-left}
 use Rattle.oat_replay.specs.declared.cause.ReplayCause.{ReplayCause}
-use Rattle.oat_replay.specs.Replay.{IsWalked, Follows, Stops, StopsEnd, no_target, bad_target, wrong_end, end_inside, unused_bits, unused_targets, OneWalk, NeverBoth}
+use Rattle.oat_replay.specs.Replay.{IsWalked, FollowsRecords, StuckAt, StuckAtEnd, no_target, bad_target, wrong_end, end_inside, unused_bits, unused_targets, OneWalk, OnePath, FollowersAreFronts, NeverBoth}
 
 -- of two that follow the same records, the longer one goes on where the shorter one leads
-pub Follows-continues : (flow : Map) (op : ℕ) (bits : List Bool) (targets : List ℕ) (xs ys : List Step) (to other : ℕ)
+pub FollowsRecords-continues : (flow : Map) (op : ℕ) (bits : List Bool) (targets : List ℕ) (xs ys : List Step) (to other : ℕ)
     (b c : List Bool) (t u : List ℕ)
-    → Follows flow op bits targets xs to b t → Follows flow op bits targets ys other c u
+    → FollowsRecords flow op bits targets xs to b t → FollowsRecords flow op bits targets ys other c u
     → length xs ≤ length ys → Continues flow [] xs to ys other
-Follows-continues flow op bits targets xs ys to other b c t u one two shorter =
+FollowsRecords-continues flow op bits targets xs ys to other b c t u one two shorter =
     let starts : Some one.partial.from ≡ Some two.partial.from = sym one.partial.starts ∙ two.partial.starts in
     let same : one.partial.from ≡ two.partial.from = cc in
     Leads-continues flow [] one.partial.from xs ys to other b c t u one.partial.leads (rw same two.partial.leads)
@@ -28,7 +28,7 @@ Follows-continues flow op bits targets xs ys to other b c t u one two shorter =
 -- where a replay stops with the records that are left, no step is allowed
 no_step : (flow : Map) (op : ℕ) (row : Row) (steps : List Step) (b c : List Bool) (t u : List ℕ) (cause : ReplayCause)
     (step : Step) (more : List Step) (to : ℕ)
-    → Stops flow op (Some row) steps b t cause → RowGoes flow row steps step to
+    → StuckAt flow op (Some row) steps b t cause → RowGoes flow row steps step to
     → b ≡ bits_of (path_of (step ∷ more)) ++ c → t ≡ targets_of (path_of (step ∷ more)) ++ u → ⊥
 no_step flow op (Jump at target) steps b c t u cause step more to stops goes bits targets = stops
 no_step flow op (Branch at taken others) steps b c t u cause step more to stops (inl goes) bits targets =
@@ -54,7 +54,7 @@ no_step flow op (Check at) steps b c t u cause step more to stops goes bits targ
 -- nor is there a longer one
 no_more : (flow : Map) (op : ℕ) (place : ℕ) (steps : List Step) (b c : List Bool) (t u : List ℕ) (cause : ReplayCause)
     (rest : List Step) (other : ℕ)
-    → Stops flow op (next flow.rows place) steps b t cause → Leads flow steps place rest other
+    → StuckAt flow op (next flow.rows place) steps b t cause → Leads flow steps place rest other
     → b ≡ bits_of (path_of rest) ++ c → t ≡ targets_of (path_of rest) ++ u → rest ≡ []
 no_more flow op place steps b c t u cause [] other stops leads bits targets = refl
 no_more flow op place steps b c t u cause (step ∷ rest) other stops (middle, goes, leads) bits targets =
@@ -62,13 +62,13 @@ no_more flow op place steps b c t u cause (step ∷ rest) other stops (middle, g
 
 pub stops_longest : (flow : Map) (op : ℕ) (bits : List Bool) (targets : List ℕ) (steps : List Step) (place : ℕ)
     (b : List Bool) (t : List ℕ) (cause : ReplayCause)
-    → Follows flow op bits targets steps place b t → Stops flow op (next flow.rows place) steps b t cause
+    → FollowsRecords flow op bits targets steps place b t → StuckAt flow op (next flow.rows place) steps b t cause
     → (others : List Step) (other : ℕ) (c : List Bool) (u : List ℕ)
-    → Follows flow op bits targets others other c u → length others ≤ length steps
+    → FollowsRecords flow op bits targets others other c u → length others ≤ length steps
 stops_longest flow op bits targets steps place b t cause follows stops others other c u longer =
     elim (cases_lt (length steps) (length others)) [
       | inl above ↦
-          let on = Follows-continues flow op bits targets steps others place other b c t u follows longer (omega arith) in
+          let on = FollowsRecords-continues flow op bits targets steps others place other b c t u follows longer (omega arith) in
           let bits_are : bits_of (path_of steps) ++ b ≡ bits_of (path_of (steps ++ on.0)) ++ c =
           sym follows.bits_are ∙ longer.bits_are ∙ ap (λ all. bits_of (path_of all) ++ c) on.1 in
           let targets_are : targets_of (path_of steps) ++ t ≡ targets_of (path_of (steps ++ on.0)) ++ u =
@@ -98,7 +98,7 @@ module _ (flow : Map) (op : ℕ) (bits : List Bool) (targets : List ℕ) where
       walked.path_is ∙ ap path_of walked.walk.whole ∙ filter_map-append edge_of walked.walk.front (moved (edges.End op) ∷ [])
 
   front_follows : (path : List Edge) → (walked : IsWalked flow op bits targets path)
-      → Follows flow op bits targets walked.walk.front walked.walk.place [] []
+      → FollowsRecords flow op bits targets walked.walk.front walked.walk.place [] []
   front_follows path walked =
       let front = walked.walk.front in
       let lengths : length walked.steps ≡ length front + 1 =
@@ -112,13 +112,36 @@ module _ (flow : Map) (op : ℕ) (bits : List Bool) (targets : List ℕ) where
       }
 
   same_front : (one two : List Edge) → (first : IsWalked flow op bits targets one) → (second : IsWalked flow op bits targets two)
-      → length first.walk.front ≤ length second.walk.front → one ≡ two
+      → length first.walk.front ≤ length second.walk.front → first.steps ≡ second.steps
   same_front one two first second shorter =
-      let on = Follows-continues flow op bits targets first.walk.front second.walk.front first.walk.place second.walk.place
+      let on = FollowsRecords-continues flow op bits targets first.walk.front second.walk.front first.walk.place second.walk.place
       [] [] [] [] (front_follows one first) (front_follows two second) shorter in
       let none = at_end flow first.walk.front first.walk.place first.walk.end_address op on.0 second.walk.place first.walk.at_end on.2 in
       let same : second.walk.front ≡ first.walk.front = on.1 ∙ ap (λ more. first.walk.front ++ more) none ∙ append-nil first.walk.front in
-      path_is one first ∙ ap (λ front. path_of front ++ edges.End op ∷ []) (sym same) ∙ sym (path_is two second)
+      first.walk.whole ∙ ap (λ front. front ++ moved (edges.End op) ∷ []) (sym same) ∙ sym second.walk.whole
+
+  follower_is_front : (path : List Edge) → (walked : IsWalked flow op bits targets path)
+      → (steps : List Step) (place : ℕ) (bits_left : List Bool) (targets_left : List ℕ)
+      → FollowsRecords flow op bits targets steps place bits_left targets_left
+      → (length steps < length walked.walk.front) ⊎ (length walked.walk.front ≤ length steps) → (rest : List Step) × (walked.steps ≡ steps ++ rest)
+  follower_is_front path walked steps place bits_left targets_left follows (inl shorter) =
+      let front = walked.walk.front in
+      let end : List Step = moved (edges.End op) ∷ [] in
+      let on = FollowsRecords-continues flow op bits targets steps front place walked.walk.place bits_left [] targets_left []
+      follows (front_follows path walked) (omega arith) in
+      (on.0 ++ end, walked.walk.whole ∙ ap (λ xs. xs ++ end) on.1 ∙ append_assoc steps on.0 end)
+  follower_is_front path walked steps place bits_left targets_left follows (inr longer) =
+      let front = walked.walk.front in
+      let end : List Step = moved (edges.End op) ∷ [] in
+      let on = FollowsRecords-continues flow op bits targets front steps walked.walk.place place [] bits_left [] targets_left
+      (front_follows path walked) follows longer in
+      let none = at_end flow front walked.walk.place walked.walk.end_address op on.0 place walked.walk.at_end on.2 in
+      let same : steps ≡ front = on.1 ∙ ap (λ more. front ++ more) none ∙ append-nil front in
+      (end, walked.walk.whole ∙ ap (λ xs. xs ++ end) (sym same))
+
+pub followers_are_fronts : FollowersAreFronts
+followers_are_fronts flow op bits targets path walked steps place bits_left targets_left follows =
+    follower_is_front flow op bits targets path walked steps place bits_left targets_left follows (cases_lt (length steps) (length walked.walk.front))
 
 pub one_walk : OneWalk
 one_walk flow op bits targets one two first second =
@@ -126,6 +149,10 @@ one_walk flow op bits targets one two first second =
       | inl below ↦ same_front flow op bits targets one two first second (omega arith)
       | inr above ↦ sym (same_front flow op bits targets two one second first above)
     ]
+
+pub one_path : OnePath
+one_path flow op bits targets one two first second =
+    first.path_is ∙ ap path_of (one_walk flow op bits targets one two first second) ∙ sym second.path_is
 
 -- the records that are left behind the same steps are the same
 same_bits : (all before b c : List Bool) → all ≡ before ++ b → all ≡ before ++ c → b ≡ c
@@ -136,7 +163,7 @@ same_targets all before b c one two = append_cancel_left before b c (sym one ∙
 
 -- the end of a walk is no place to stop
 not_stopped : (op level bits targets : ℕ) (cause : ReplayCause) → level ≡ 0 → bits ≡ 0 → targets ≡ 0
-    → StopsEnd op op level bits targets cause → ⊥
+    → StuckAtEnd op op level bits targets cause → ⊥
 not_stopped op level bits targets cause l b t (wrong_end other is) = other refl
 not_stopped op level bits targets cause l b t (end_inside same open_call is) = omega arith
 not_stopped op level bits targets cause l b t (unused_bits same closed some is) = omega arith
@@ -145,9 +172,9 @@ not_stopped op level bits targets cause l b t (unused_targets same closed used s
 pub never_both : NeverBoth
 never_both flow op bits targets path cause turn walked stuck =
     let front = walked.walk.front in
-    let follows : Follows flow op bits targets front walked.walk.place [] [] = front_follows flow op bits targets path walked in
+    let follows : FollowsRecords flow op bits targets front walked.walk.place [] [] = front_follows flow op bits targets path walked in
     let shorter = stuck.longest front walked.walk.place [] [] follows in
-    let on = Follows-continues flow op bits targets front stuck.steps walked.walk.place stuck.place [] stuck.bits_left [] stuck.targets_left
+    let on = FollowsRecords-continues flow op bits targets front stuck.steps walked.walk.place stuck.place [] stuck.bits_left [] stuck.targets_left
     follows stuck.follows shorter in
     let none = at_end flow front walked.walk.place walked.walk.end_address op on.0 stuck.place walked.walk.at_end on.2 in
     let same : stuck.steps ≡ front = on.1 ∙ ap (λ more. front ++ more) none ∙ append-nil front in

@@ -17,7 +17,7 @@ use Rattle.oat_replay.specs.declared.replay.Replay.{Replay}
 use Rattle.oat_replay.specs.declared.turn.Turn.{Turn}
 use Rattle.oat_replay.specs.declared.turn.Turn.TheVariants.{Moved, Passed, Done, Stuck}
 use Rattle.oat_replay.specs.EndTurn.{EndsTurn}
-use Rattle.oat_replay.specs.Replay.{IsWalked, Follows, GetsStuck, Stops, StopsEnd}
+use Rattle.oat_replay.specs.Replay.{IsWalked, FollowsRecords, GetsStuck, StuckAt, StuckAtEnd}
 use Rattle.oat_replay.specs.StandsBehind.{StandsBehind, Turns}
 use Rattle.oat_replay.proofs.ReplayLemmas.{stops_longest}
 
@@ -71,12 +71,12 @@ pub plus_none : (used before : ℕ) → used ≡ before → used ≡ before + 0
 plus_none used before same = omega arith
 
 -- one more step that follows the records
-Follows-push : (flow : Map) (op : ℕ) (bits : List Bool) (targets : List ℕ) (steps : List Step) (place : ℕ)
+FollowsRecords-push : (flow : Map) (op : ℕ) (bits : List Bool) (targets : List ℕ) (steps : List Step) (place : ℕ)
     (b c : List Bool) (t u : List ℕ) (step : Step) (to : ℕ)
-    → Follows flow op bits targets steps place b t → length steps < path_limit → Goes flow steps place step to
+    → FollowsRecords flow op bits targets steps place b t → length steps < path_limit → Goes flow steps place step to
     → b ≡ bits_of (path_of (step ∷ [])) ++ c → t ≡ targets_of (path_of (step ∷ [])) ++ u
-    → Follows flow op bits targets (steps ++ step ∷ []) to c u
-Follows-push flow op bits targets steps place b c t u step to follows few goes bit target =
+    → FollowsRecords flow op bits targets (steps ++ step ∷ []) to c u
+FollowsRecords-push flow op bits targets steps place b c t u step to follows few goes bit target =
     let lengths : length (steps ++ step ∷ []) ≡ length steps + 1 = length-append steps (step ∷ []) in
     record {
       partial = record {
@@ -108,11 +108,11 @@ module _ (flow : Map) (op : ℕ) (bits : List Bool) (targets : List ℕ) (replay
 
   -- a turn that gets stuck at a row
   pub stuck_at : (row : Option Row) (cause : ReplayCause) → next flow.rows replay.place ≡ row → replay.turns < path_limit
-      → Stops flow op row steps behind.bits_left behind.targets_left cause
+      → StuckAt flow op row steps behind.bits_left behind.targets_left cause
       → GetsStuck flow op bits targets cause (length steps + 1)
   stuck_at row cause here few stops =
       let turns = behind.turns_made in
-      let stops_here : Stops flow op (next flow.rows replay.place) steps behind.bits_left behind.targets_left cause = rw here stops in
+      let stops_here : StuckAt flow op (next flow.rows replay.place) steps behind.bits_left behind.targets_left cause = rw here stops in
       record {
         steps = steps;
         place = replay.place;
@@ -154,8 +154,8 @@ module _ (flow : Map) (op : ℕ) (bits : List Bool) (targets : List ℕ) (replay
       → StandsBehind flow op bits targets new (steps ++ step ∷ [])
   StandsBehind-step new step to bits_left targets_left few goes bit target stack same_map same_op place turns used_bits used_targets =
       let made = behind.turns_made in
-      let follows : Follows flow op bits targets (steps ++ step ∷ []) to bits_left targets_left =
-      Follows-push flow op bits targets steps replay.place behind.bits_left bits_left behind.targets_left targets_left
+      let follows : FollowsRecords flow op bits targets (steps ++ step ∷ []) to bits_left targets_left =
+      FollowsRecords-push flow op bits targets steps replay.place behind.bits_left bits_left behind.targets_left targets_left
       step to behind.follows (omega arith) goes bit target in
       record {
         same_map = same_map ∙ behind.same_map;
@@ -236,6 +236,6 @@ module _ (flow : Map) (op : ℕ) (bits : List Bool) (targets : List ℕ) (replay
       let walked = done at at_end few closed (sym bits_left_is ∙ ends.2) (sym targets_left_is ∙ ends.3) in
       (behind, same_edge, rw same_edge walked, rw same_edge (whole_walk at at_end closed))
   Turns-end (Stuck cause) at ended open_calls here few are ends =
-      let stops : StopsEnd op ended (depth steps) (length behind.bits_left) (length behind.targets_left) cause =
+      let stops : StuckAtEnd op ended (depth steps) (length behind.bits_left) (length behind.targets_left) cause =
       rw (depth-is steps replay.stack.items behind.open_calls, ← are, ← bits_left_is, ← targets_left_is, ← behind.same_op) ends in
       (behind, stuck_at (Some (End at ended)) cause here few stops)

@@ -3,7 +3,7 @@ use Rattle.std.specs.Prelude.{ℕ, ◌≡◌}
 use Rattle.oat_map.specs.declared.edge.Edge.TheVariants as edges
 use Rattle.oat_replay.specs.declared.turn.Turn.{Turn}
 use Rattle.oat_replay.specs.declared.turn.Turn.TheVariants.{Moved, Passed, Done, Stuck}
-use Rattle.oat_replay.specs.Replay.{StopsEnd}
+use Rattle.oat_replay.specs.Replay.{StuckAtEnd}
 
 -- the walk is done where the end is the operation's own, no call is open and no record is left
 abbrev pub EndsTurn : (op ended open_calls bits targets : ℕ) → Turn → Type 0
@@ -11,4 +11,4 @@ EndsTurn op ended open_calls bits targets (Moved edge) = ⊥
 EndsTurn op ended open_calls bits targets Passed = ⊥
 EndsTurn op ended open_calls bits targets (Done edge) =
     (ended ≡ op) × (open_calls ≡ 0) × (bits ≡ 0) × (targets ≡ 0) × (edge ≡ edges.End op)
-EndsTurn op ended open_calls bits targets (Stuck cause) = StopsEnd op ended open_calls bits targets cause
+EndsTurn op ended open_calls bits targets (Stuck cause) = StuckAtEnd op ended open_calls bits targets cause

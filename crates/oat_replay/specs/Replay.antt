@@ -20,7 +20,7 @@ pub record IsWalked (flow : Map) (op : ℕ) (bits : List Bool) (targets : List �
   pub targets_are : targets_of path ≡ targets
 
 -- a partial walk within the limit, whose bits and targets are the first of these; the others are left
-pub record Follows (flow : Map) (op : ℕ) (bits : List Bool) (targets : List ℕ) (steps : List Step) (place : ℕ)
+pub record FollowsRecords (flow : Map) (op : ℕ) (bits : List Bool) (targets : List ℕ) (steps : List Step) (place : ℕ)
     (bits_left : List Bool) (targets_left : List ℕ) : Type 0 where
   pub partial : PartialWalk flow op steps place
   pub within : length steps ≤ path_limit
@@ -28,35 +28,35 @@ pub record Follows (flow : Map) (op : ℕ) (bits : List Bool) (targets : List �
   pub targets_are : targets ≡ targets_of (path_of steps) ++ targets_left
 
 -- an indirect call can't be followed: no target is left, or the next one isn't allowed
-pub data StopsICall (flow : Map) (params : ℕ) (targets_left : List ℕ) (cause : ReplayCause) : Type 0 where
-  no_target : targets_left ≡ [] → cause ≡ TargetsEnd → StopsICall flow params targets_left cause
+pub data StuckAtICall (flow : Map) (params : ℕ) (targets_left : List ℕ) (cause : ReplayCause) : Type 0 where
+  no_target : targets_left ≡ [] → cause ≡ TargetsEnd → StuckAtICall flow params targets_left cause
   bad_target : (target : ℕ) (others : List ℕ) → targets_left ≡ target ∷ others
       → ¬ IsIndirectTarget flow.functions params target → cause ≡ BadTarget target
-      → StopsICall flow params targets_left cause
+      → StuckAtICall flow params targets_left cause
 
 -- the end of the operation `ended` isn't that of a walk of op with these records: the first reason
-pub data StopsEnd (op ended open_calls bits targets : ℕ) (cause : ReplayCause) : Type 0 where
-  wrong_end : ended ≢ op → cause ≡ WrongEnd → StopsEnd op ended open_calls bits targets cause
-  end_inside : ended ≡ op → 0 < open_calls → cause ≡ EndInside → StopsEnd op ended open_calls bits targets cause
+pub data StuckAtEnd (op ended open_calls bits targets : ℕ) (cause : ReplayCause) : Type 0 where
+  wrong_end : ended ≢ op → cause ≡ WrongEnd → StuckAtEnd op ended open_calls bits targets cause
+  end_inside : ended ≡ op → 0 < open_calls → cause ≡ EndInside → StuckAtEnd op ended open_calls bits targets cause
   unused_bits : ended ≡ op → open_calls ≡ 0 → 0 < bits → cause ≡ BitsLeft bits
-      → StopsEnd op ended open_calls bits targets cause
+      → StuckAtEnd op ended open_calls bits targets cause
   unused_targets : ended ≡ op → open_calls ≡ 0 → bits ≡ 0 → 0 < targets → cause ≡ TargetsLeft targets
-      → StopsEnd op ended open_calls bits targets cause
+      → StuckAtEnd op ended open_calls bits targets cause
 
 -- why no step and no end follows at the next row, behind these steps and with these records left
-abbrev pub Stops : Map → ℕ → Option Row → List Step → List Bool → List ℕ → ReplayCause → Type 0
-Stops flow op None steps bits_left targets_left cause = cause ≡ OffCode
-Stops flow op (Some (Jump at target)) steps bits_left targets_left cause = ⊥
-Stops flow op (Some (Branch at taken other)) steps bits_left targets_left cause = (bits_left ≡ []) × (cause ≡ BitsEnd)
-Stops flow op (Some (Call at target)) steps bits_left targets_left cause = ⊥
-Stops flow op (Some (ICall at params)) steps bits_left targets_left cause = StopsICall flow params targets_left cause
-Stops flow op (Some (Ret at)) steps bits_left targets_left cause = (depth steps ≡ 0) × (cause ≡ Underflow)
-Stops flow op (Some (Begin at begun)) steps bits_left targets_left cause = cause ≡ Nested
-Stops flow op (Some (End at ended)) steps bits_left targets_left cause =
-    StopsEnd op ended (depth steps) (length bits_left) (length targets_left) cause
-Stops flow op (Some (UseCell at cell)) steps bits_left targets_left cause = ⊥
-Stops flow op (Some (DefCell at cell)) steps bits_left targets_left cause = ⊥
-Stops flow op (Some (Check at)) steps bits_left targets_left cause = ⊥
+abbrev pub StuckAt : Map → ℕ → Option Row → List Step → List Bool → List ℕ → ReplayCause → Type 0
+StuckAt flow op None steps bits_left targets_left cause = cause ≡ OffCode
+StuckAt flow op (Some (Jump at target)) steps bits_left targets_left cause = ⊥
+StuckAt flow op (Some (Branch at taken other)) steps bits_left targets_left cause = (bits_left ≡ []) × (cause ≡ BitsEnd)
+StuckAt flow op (Some (Call at target)) steps bits_left targets_left cause = ⊥
+StuckAt flow op (Some (ICall at params)) steps bits_left targets_left cause = StuckAtICall flow params targets_left cause
+StuckAt flow op (Some (Ret at)) steps bits_left targets_left cause = (depth steps ≡ 0) × (cause ≡ Underflow)
+StuckAt flow op (Some (Begin at begun)) steps bits_left targets_left cause = cause ≡ Nested
+StuckAt flow op (Some (End at ended)) steps bits_left targets_left cause =
+    StuckAtEnd op ended (depth steps) (length bits_left) (length targets_left) cause
+StuckAt flow op (Some (UseCell at cell)) steps bits_left targets_left cause = ⊥
+StuckAt flow op (Some (DefCell at cell)) steps bits_left targets_left cause = ⊥
+StuckAt flow op (Some (Check at)) steps bits_left targets_left cause = ⊥
 
 -- the longest partial walk within the limit that follows these records ends for this cause, which
 -- turn number `turn` finds
@@ -65,18 +65,31 @@ pub record GetsStuck (flow : Map) (op : ℕ) (bits : List Bool) (targets : List 
   pub place : ℕ
   pub bits_left : List Bool
   pub targets_left : List ℕ
-  pub follows : Follows flow op bits targets steps place bits_left targets_left
+  pub follows : FollowsRecords flow op bits targets steps place bits_left targets_left
   pub longest : (others : List Step) (other_place : ℕ) (other_bits : List Bool) (other_targets : List ℕ)
-      → Follows flow op bits targets others other_place other_bits other_targets → length others ≤ length steps
+      → FollowsRecords flow op bits targets others other_place other_bits other_targets → length others ≤ length steps
   pub turn_is : turn ≡ length steps + 1
   pub at_limit : length steps ≡ path_limit → cause ≡ PathLimit
   pub before_limit : length steps < path_limit
-      → Stops flow op (next flow.rows place) steps bits_left targets_left cause
+      → StuckAt flow op (next flow.rows place) steps bits_left targets_left cause
 
--- a walked path is the only one
+-- records are those of one walk at most, passes included
 abbrev pub OneWalk : Type 0
 OneWalk = (flow : Map) (op : ℕ) (bits : List Bool) (targets : List ℕ) (one two : List Edge)
+    → (first : IsWalked flow op bits targets one) → (second : IsWalked flow op bits targets two) → first.steps ≡ second.steps
+
+-- so a walked path is the only one
+abbrev pub OnePath : Type 0
+OnePath = (flow : Map) (op : ℕ) (bits : List Bool) (targets : List ℕ) (one two : List Edge)
     → IsWalked flow op bits targets one → IsWalked flow op bits targets two → one ≡ two
+
+-- a partial walk that follows the records of a walk is a front of it
+abbrev pub FollowersAreFronts : Type 0
+FollowersAreFronts = (flow : Map) (op : ℕ) (bits : List Bool) (targets : List ℕ) (path : List Edge)
+    → (walked : IsWalked flow op bits targets path)
+    → (steps : List Step) (place : ℕ) (bits_left : List Bool) (targets_left : List ℕ)
+    → FollowsRecords flow op bits targets steps place bits_left targets_left
+    → (rest : List Step) × (walked.steps ≡ steps ++ rest)
 
 -- replays of the same records get stuck for one cause, at one turn
 abbrev pub OneCause : Type 0

@@ -11,7 +11,7 @@ use Rattle.oat_replay.specs.declared.cause.WalkFault.TheVariants as faults
 use Rattle.oat_replay.specs.declared.replay.Replay.{Replay}
 use Rattle.oat_replay.specs.declared.turn.Turn.{Turn}
 use Rattle.oat_replay.specs.declared.turn.Turn.TheVariants.{Moved, Passed, Done, Stuck}
-use Rattle.oat_replay.specs.Replay.{Follows, IsWalked, GetsStuck}
+use Rattle.oat_replay.specs.Replay.{FollowsRecords, IsWalked, GetsStuck}
 
 -- the replay has made these steps, which follow the records, and stands where they lead
 pub record StandsBehind (flow : Map) (op : ℕ) (bits : List Bool) (targets : List ℕ) (replay : Replay) (steps : List Step) : Type 0 where
@@ -19,7 +19,7 @@ pub record StandsBehind (flow : Map) (op : ℕ) (bits : List Bool) (targets : Li
   pub same_op : replay.op ≡ op
   pub bits_left : List Bool
   pub targets_left : List ℕ
-  pub follows : Follows flow op bits targets steps replay.place bits_left targets_left
+  pub follows : FollowsRecords flow op bits targets steps replay.place bits_left targets_left
   pub turns_made : replay.turns ≡ length steps
   pub bits_used : replay.bits_used ≡ length (bits_of (path_of steps))
   pub targets_used : replay.targets_used ≡ length (targets_of (path_of steps))
@@ -34,6 +34,11 @@ Turns flow op bits targets steps new (Done edge) =
     × IsWalked flow op bits targets (path_of (steps ++ moved edge ∷ [])) × Walk flow op (steps ++ moved edge ∷ [])
 Turns flow op bits targets steps new (Stuck cause) =
     StandsBehind flow op bits targets new steps × GetsStuck flow op bits targets cause (length steps + 1)
+
+-- so whatever steps the replay has made
+abbrev pub TurnsOn : List Bool → List ℕ → Replay → Replay → Turn → Type 0
+TurnsOn bits targets old new turn =
+    (flow : Map) (op : ℕ) (steps : List Step) → StandsBehind flow op bits targets old steps → Turns flow op bits targets steps new turn
 
 -- the same, where the replay stands at this row
 abbrev pub TurnsAt : Row → List Bool → List ℕ → Replay → Replay → Turn → Type 0

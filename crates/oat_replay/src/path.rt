@@ -19,6 +19,8 @@ pub fn walk<R: Records>(alloc: Global, map: &Map, op: u16, records: &R) -> Resul
     ensures walks { IfOk result (IsWalked map.now op (R.bits records.now) (R.targets records.now)) }
     ensures only { IfOk result (λ path. (other : List Edge)
         → IsWalked map.now op (R.bits records.now) (R.targets records.now) other → other ≡ path) }
+    ensures found { (path : List Edge) → IsWalked map.now op (R.bits records.now) (R.targets records.now) path
+        → IfErr result (λ fault. fault ≡ WalkFault.Memory) }
     ensures stuck { IfErr result (WalkFails map.now op (R.bits records.now) (R.targets records.now)) }
 {
     let Ok(mut replay) = Replay::new(alloc, map, op) else {

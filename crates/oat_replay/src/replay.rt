@@ -29,11 +29,9 @@ pub struct Replay<'a> {
 
 impl<'a> Replay<'a> {
     ghost use Rattle.std.specs.Prelude.{ℕ, ◌≡◌, ◌<◌, ◌+◌, Bool, List, [], ◌∷◌, ◌++◌, IsSome, IfOk};
-    ghost use Rattle.oat_map.specs.declared.map.Map.{Map};
     ghost use Rattle.oat_map.specs.declared.row.Row.TheVariants as rows;
     ghost use Rattle.oat_map.specs.Rows.{after, next, start};
-    ghost use Rattle.oat_map.specs.Walk.{Step};
-    ghost use Rattle.oat_replay.specs.StandsBehind.{StandsBehind, Turns, TurnsAt};
+    ghost use Rattle.oat_replay.specs.StandsBehind.{StandsBehind, TurnsAt, TurnsOn};
 
     /// A replay at the start of the operation, with room for all its open calls.
     pub fn new(alloc: Global, map: &'a Map, op: u16) -> Result<Replay<'a>, AllocError>
@@ -56,9 +54,7 @@ impl<'a> Replay<'a> {
 
     /// Takes one step, as the next row and the records say.
     pub fn turn<R: Records>(&mut self, records: &R) -> Turn
-        ensures { (flow : Map) (op : ℕ) (steps : List Step)
-            → StandsBehind flow op (R.bits records.now) (R.targets records.now) self.old steps
-            → Turns flow op (R.bits records.now) (R.targets records.now) steps self.new result }
+        ensures { TurnsOn (R.bits records.now) (R.targets records.now) self.old self.new result }
     {
         if self.turns >= PATH_LIMIT {
             return Turn::Stuck(ReplayCause::PathLimit);

@@ -8,7 +8,7 @@ use Rattle.oat_hmac.specs.Hmac.{hmac}
 use Rattle.oat_blob.specs.Layout.{IsBlob, covered_of}
 use Rattle.oat_blob.specs.Faults.{IsFormOffset}
 use Rattle.oat_blob.proofs.OneLayout.{one_body}
-use Rattle.oat_replay.proofs.ReplayLemmas.{one_walk, never_both}
+use Rattle.oat_replay.proofs.ReplayLemmas.{one_path, never_both}
 use Rattle.oat_verify.specs.declared.verdict.Cause.{Cause}
 use Rattle.oat_verify.specs.declared.verdict.Cause.TheVariants as causes
 use Rattle.oat_verify.specs.declared.verdict.Verdict.{Verdict}
@@ -44,7 +44,7 @@ replays-one s body v w (stuck cause turn gets is) (walked path walks settles) =
 replays-one s body v w (walked path walks settles) (stuck cause turn gets is) =
     absurd (never_both s.map s.session.op body.bits body.targets path cause turn walks gets)
 replays-one s body v w (walked path walks settles) (walked other walks' settles') =
-    let same : path ≡ other = one_walk s.map s.session.op body.bits body.targets path other walks walks' in
+    let same : path ≡ other = one_path s.map s.session.op body.bits body.targets path other walks walks' in
     settles-one _ body path v w settles (rw same settles')
 
 judges-one : (s : Subject) (body : Body) (mac : List ℕ) (v w : Verdict) → Judges s body mac v → Judges s body mac w → v ≡ w

@@ -57,4 +57,8 @@ returns-in-Done-clause-walks g c =
 
 pub returns-in-Done-clause-only : goal.returns-in-Done-clause-only
 returns-in-Done-clause-only g c = λ other also.
-    lemmas.one_walk c.args.map.now c.args.op _ _ other c.from_vec.result also (returns-in-Done-clause-walks g c)
+    lemmas.one_path c.args.map.now c.args.op _ _ other c.from_vec.result also (returns-in-Done-clause-walks g c)
+
+pub returns-in-Stuck-clause-found : goal.returns-in-Stuck-clause-found
+returns-in-Stuck-clause-found g c = λ path walked.
+    absurd (lemmas.never_both c.args.map.now c.args.op _ _ path c.in-Stuck.cause _ walked (returns-in-Stuck-clause-stuck g c))

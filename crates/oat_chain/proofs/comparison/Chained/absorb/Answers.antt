@@ -2,7 +2,7 @@ use Rattle.std.proofs.Common.{ℕ, List, [], ◌∷◌, ◌++◌, sym, ap, subst
 use Rattle.oat_chain.specs.Chain.{link}
 use Rattle.oat_chain.specs.Clash.{IsLastMessage}
 use Rattle.oat_chain.proofs.Messages.{last-push}
-use Rattle.oat_chain.proofs.comparison.Walk.absorb.Goals as goal
+use Rattle.oat_chain.proofs.comparison.Chained.absorb.Goals as goal
 
 pub returns : goal.returns
 returns c = λ head addresses before.
