@@ -1,5 +1,5 @@
 -- The machine step: how an instruction is fetched and what it does, one row for each form of the device's A64 instructions, by the operation of its section in the Arm A64 manual, "A64 base instructions".
-use Rattle.std.specs.Prelude.{ℕ, suc, ◌+◌, ◌-◌, ◌*◌, ◌/◌, ◌%◌, ◌^◌, ◌<◌, Bool, false, not, ◌&&◌, ◌||◌, nat_eq, nat_lt, nat_le, if◌then◌else◌, Option, Some, None, List, slice_get, option_and_then, ℤ, pos, negsuc, ◌-ℤ◌, bit_and, bit_or, bit_xor}
+use Rattle.std.specs.Prelude.{◌≡◌, ℕ, suc, ◌+◌, ◌-◌, ◌*◌, ◌/◌, ◌%◌, ◌^◌, ◌<◌, Bool, false, not, ◌&&◌, ◌||◌, nat_eq, nat_lt, nat_le, if◌then◌else◌, Option, Some, None, List, slice_get, option_and_then, ℤ, pos, negsuc, ◌-ℤ◌, bit_and, bit_or, bit_xor}
 use Rattle.std.specs.Bool.{beq}
 use Rattle.oat_bits.specs.Field.{with_field}
 pub use Rattle.oat_bits.specs.Words.{wrap, difference, signed, unsigned, unsigned_quotient, signed_quotient, shifted_left, shifted_right, shifted_right_signed}
@@ -239,7 +239,14 @@ abbrev pub first_regs : Regs
 first_regs =
     record { x = λ _. 0; sp = 0x8000_0000; pc = code_base; n = false; z = false; c = false; v = false }
 
--- ---- the law of bounds
+-- ---- laws
+
+-- a step does what the instruction at PC does; where none stands there, the machine stays as it is
+abbrev pub StepActs : Type 0
+StepActs = (code : List ℕ) (m : Machine) (i : Inst) → instruction_at code m.regs.pc ≡ Some i → step code m ≡ act i m
+
+abbrev pub StepRests : Type 0
+StepRests = (code : List ℕ) (m : Machine) → instruction_at code m.regs.pc ≡ None → (step code m).machine ≡ m
 
 -- registers have 64 bits, and memory has bytes
 pub record IsBounded (m : Machine) : Type 0 where
