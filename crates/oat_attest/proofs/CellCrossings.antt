@@ -1,25 +1,25 @@
--- What a run shows in the group of a row that uses or defines a cell, or ends the operation.
-use Rattle.std.proofs.Common.{◌≡◌, ℕ, zero, suc, ◌+◌, ◌*◌, ◌/◌, ◌%◌, ◌^◌, ◌<◌, ◌≤◌, Bool, true, cond, List, [], ◌∷◌, Contains, Some, None, refl, sym, ap, ap₂, subst, ◌∙◌, arith}
+-- What a run makes in the group of a row that uses or defines a cell, or that begins or ends an operation.
+use Rattle.std.proofs.Common.{◌≡◌, ℕ, zero, suc, ◌+◌, ◌*◌, ◌/◌, ◌%◌, ◌^◌, ◌<◌, ◌≤◌, Bool, true, cond, List, [], ◌∷◌, ◌++◌, map, Contains, Option, Some, None, refl, sym, ap, ap₂, subst, ◌∙◌, arith}
 use Rattle.std.specs.List.{slice_get}
 use Rattle.std.proofs.lemmas.Bool.{eq-eqb, le-leb, and_from, or_left}
 use Rattle.oat_a64.specs.declared.inst.Inst.{Inst}
 use Rattle.oat_a64.specs.declared.inst.Inst.TheVariants.{Movz, Movk, Ldr, Str, Svc}
 use Rattle.oat_a64.specs.Step.{Regs, Outcome, act, next_pc, with_reg, with_bits, shifted_left, wrap, loads as loads_from, stores as stores_to}
-use Rattle.oat_mem.specs.DataMemory.{can_access, fits, word_in, global_base, global_size}
+use Rattle.oat_mem.specs.DataMemory.{can_access, fits, word_in, global_base, global_size, global_address}
 use Rattle.oat_map.specs.declared.edge.Edge.TheVariants as edges
+use Rattle.oat_map.specs.declared.row.Row.{Row}
 use Rattle.oat_map.specs.declared.row.Row.TheVariants as rows
 use Rattle.oat_image.specs.declared.image.Image.{Image}
-use Rattle.oat_measure.specs.Monitor.{ends, defines, uses, call_of}
+use Rattle.oat_measure.specs.Monitor.{Call, begins, ends, defines, uses, call_of}
 use Rattle.oat_shape.specs.Groups.{Stands}
-use Rattle.oat_mem.specs.DataMemory.{global_address}
-use Rattle.oat_journal.specs.Run.{Entry}
-use Rattle.oat_journal.specs.Window.{made_call}
-use Rattle.oat_attest.specs.Headline.{AllReadByLoad}
+use Rattle.oat_journal.specs.Run.{Entry, pc_of}
+use Rattle.oat_journal.specs.Window.{made_call, edge_of, executed_path}
+use Rattle.oat_attest.specs.Headline.{IsUseBy, IsLoadBy, AllReadByLoad}
+use Rattle.oat_attest.specs.Lockstep.{Placed, placed, plain, calling}
 use Rattle.oat_attest.proofs.Lists.{contains-get}
 use Rattle.oat_attest.proofs.Laid.{IsLaid}
-use Rattle.oat_attest.proofs.Trails.{Runs, last, more, machine, moved_to, entry_by, inst-is, Shown, took, told, trail, loads-cons, Crossed}
-use Rattle.oat_attest.proofs.Skips.{arrives}
-use Rattle.oat_attest.proofs.Crossings.{lead, next-at, crossed-cons}
+use Rattle.oat_attest.proofs.Stretches.{Runs, last, more, machine, moved_to, entry_by, inst_is, none_read, read_behind, read_cons, Crossed, arrives, crossed_cons}
+use Rattle.oat_attest.proofs.Crossings.{lead, next_at}
 
 -- ---- addresses of cells
 
@@ -32,11 +32,11 @@ access index low =
     and_from _ _ aligned (or_left _ _ (and_from _ _ begins closes))
 
 -- two moves put an address into a register
-moved-address : (a : ℕ) → a < 2 ^ 32 → with_bits (shifted_left (a % 2 ^ 16) (16 * 0)) (16 * 1) (a / 2 ^ 16) ≡ a
-moved-address a low = omega arith
+moved_address : (a : ℕ) → a < 2 ^ 32 → with_bits (shifted_left (a % 2 ^ 16) (16 * 0)) (16 * 1) (a / 2 ^ 16) ≡ a
+moved_address a low = omega arith
 
-shifted-zero : (v : ℕ) → v < 2 ^ 64 → shifted_left v (16 * 0) ≡ v
-shifted-zero v low = omega arith
+shifted_zero : (v : ℕ) → v < 2 ^ 64 → shifted_left v (16 * 0) ≡ v
+shifted_zero v low = omega arith
 
 based : (index : ℕ) → index ≤ 65535 → wrap (global_address index + 8 * 0) ≡ global_address index
 based index low = omega arith
@@ -69,105 +69,130 @@ stored r index cell p q low on memory =
 -- ---- uses
 
 -- a use whose value was loaded two instructions before
-loads-use : (image : Image) (load move use_ : Entry) (rest : List Entry) (cell value index : ℕ) → made_call load ≡ None → made_call move ≡ None
-    → made_call use_ ≡ Some (uses cell value) → slice_get image.cells cell ≡ Some index → load.inst ≡ Ldr 10 11 0
-    → load.found.regs.x 11 ≡ global_address index → value ≡ word_in load.found.memory (global_address index)
-    → AllReadByLoad image rest → AllReadByLoad image (load ∷ move ∷ use_ ∷ rest)
-loads-use image load move use_ rest cell value index none none' used has is at read all zero cell' value' index' e stands used' has' =
+loads_use : (image : Image) (row : Row) (load move call : Entry) (rest : List Entry) (cell value index : ℕ) → Contains image.map.rows row
+    → made_call load ≡ None → made_call move ≡ None → made_call call ≡ Some (uses cell value) → slice_get image.cells cell ≡ Some index
+    → IsUseBy row call cell → IsLoadBy row load (global_address index) → pc_of load + 8 ≡ pc_of call → value ≡ word_in load.found.memory (global_address index)
+    → AllReadByLoad image rest → AllReadByLoad image (load ∷ move ∷ call ∷ rest)
+loads_use image row load move call rest cell value index among none none' used has is_use is_load apart read all zero cell' value' index' e stands used' has' =
     let same : load ≡ e = cc in
     let both : None ≡ Some (uses cell' value') = sym none ∙ ap made_call same ∙ used' in
     absurd (cc)
-loads-use image load move use_ rest cell value index none none' used has is at read all (suc zero) cell' value' index' e stands used' has' =
+loads_use image row load move call rest cell value index among none none' used has is_use is_load apart read all (suc zero) cell' value' index' e stands used' has' =
     let same : move ≡ e = cc in
     let both : None ≡ Some (uses cell' value') = sym none' ∙ ap made_call same ∙ used' in
     absurd (cc)
-loads-use image load move use_ rest cell value index none none' used has is at read all (suc (suc zero)) cell' value' index' e stands used' has' =
-    let same : use_ ≡ e = cc in
+loads_use image row load move call rest cell value index among none none' used has is_use is_load apart read all (suc (suc zero)) cell' value' index' e stands used' has' =
+    let same : call ≡ e = cc in
     let both : Some (uses cell value) ≡ Some (uses cell' value') = sym used ∙ ap made_call same ∙ used' in
     let one : cell ≡ cell' = cc in
     let two : value ≡ value' = cc in
     let there : Some index ≡ Some index' = sym has ∙ ap (slice_get image.cells) one ∙ has' in
     let three : index ≡ index' = cc in
-    record { before = 0; two = omega arith; load = load; stands = refl; loads = is; place = at ∙ ap global_address three; read = sym two ∙ read ∙ ap (λ i. word_in load.found.memory (global_address i)) three }
-loads-use image load move use_ rest cell value index none none' used has is at read all (suc (suc (suc k))) cell' value' index' e stands used' has' =
-    let r = all k cell' value' index' e stands used' has' in
-    record { before = suc (suc (suc r.before)); two = (let t = r.two in omega arith); load = r.load; stands = r.stands; loads = r.loads; place = r.place; read = r.read }
+    record {
+      row = row;
+      among = among;
+      uses = subst (λ (c : ℕ). IsUseBy row e c) one (subst (λ (x : Entry). IsUseBy row x cell) same is_use);
+      load = load;
+      loads = subst (λ (i : ℕ). IsLoadBy row load (global_address i)) three is_load;
+      read = sym two ∙ read ∙ ap (λ i. word_in load.found.memory (global_address i)) three;
+      before = 0;
+      stands = refl;
+      words = 2;
+      apart = apart ∙ ap (λ (x : Entry). x.found.regs.pc) same;
+      behind = refl;
+    }
+loads_use image row load move call rest cell value index among none none' used has is_use is_load apart read all (suc (suc (suc k))) cell' value' index' e stands used' has' =
+    read_behind image load (move ∷ call ∷ rest) (suc (suc k)) e cell' index' value'
+    (read_behind image move (call ∷ rest) (suc k) e cell' index' value'
+    (read_behind image call rest k e cell' index' value' (all k cell' value' index' e stands used' has')))
 
--- instructions in front that make no call show nothing
-crossed-silent : (image : Image) (op : ℕ) (i : Inst) (r : Regs) (memory : ℕ → ℕ) (rest es : List Entry) (front : List Shown) (to : ℕ)
-    → es ≡ entry_by i r memory ∷ rest → trail image.map op (entry_by i r memory ∷ rest) ≡ trail image.map op rest → call_of i r ≡ None
-    → Crossed image op rest front to → Crossed image op es front to
-crossed-silent image op i r memory rest es front to whole shows none crossed =
-    crossed-cons image op i r memory rest es [] front to whole shows (λ c v u. let both : None ≡ Some (uses c v) = sym none ∙ u in cc) crossed
+-- an instruction in front that is neither a transfer nor a call
+silent : (image : Image) (op : ℕ) (i : Inst) (r : Regs) (memory : ℕ → ℕ) (rest es : List Entry) (group : List Placed) (to : ℕ)
+    → es ≡ entry_by i r memory ∷ rest → edge_of image.map op (entry_by i r memory) ≡ None → call_of i r ≡ None
+    → Crossed image op rest group [] to → Crossed image op es (plain r.pc ∷ group) [] to
+silent image op i r memory rest es group to whole shows none crossed =
+    subst (λ (call : Option Call). Crossed image op es (record { at = r.pc; call = call } ∷ group) [] to) none
+    (crossed_cons image op i r memory rest es group None [] to whole shows (λ c v u. let both : None ≡ Some (uses c v) = sym none ∙ u in cc) crossed)
 
-pub record UsedCell (image : Image) (op cell to : ℕ) (es : List Entry) : Type 0 where
+abbrev pub use_group : ℕ → ℕ → ℕ → List Placed
+use_group at cell value = plain at ∷ plain (at + 4) ∷ plain (at + 8) ∷ plain (at + 12) ∷ calling (at + 16) (uses cell value) ∷ []
+
+pub record UsedCell (image : Image) (op cell at : ℕ) (es : List Entry) : Type 0 where
   pub value : ℕ
-  pub crossed : Crossed image op es (told (uses cell value) ∷ []) to
+  pub crossed : Crossed image op es (use_group at cell value) [] (at + 20)
 
 -- the load, the cell's number and the call
-cross-load : (image : Image) (op p cell index : ℕ) → index ≤ 65535 → cell ≤ 65535 → p < 2 ^ 33 → slice_get image.cells cell ≡ Some index
-    → Stands image.code p (Ldr 10 11 0) → Stands image.code (p + 4) (Movz 9 0 cell) → Stands image.code (p + 8) (Svc 7)
-    → (r : Regs) (es : List Entry) → Runs image.code op (moved_to (with_address r index) p) es → UsedCell image op cell (p + 12) es
-cross-load image op p cell index low small short has load move call r es runs =
+record Loaded (image : Image) (op cell at : ℕ) (es : List Entry) : Type 0 where
+  value : ℕ
+  crossed : Crossed image op es (plain (at + 8) ∷ plain (at + 12) ∷ calling (at + 16) (uses cell value) ∷ []) [] (at + 20)
+
+cross_load : (image : Image) (op at cell index : ℕ) → Contains image.map.rows (rows.UseCell at cell) → index ≤ 65535 → cell ≤ 65535 → at < 2 ^ 33 → slice_get image.cells cell ≡ Some index
+    → Stands image.code (at + 8) (Ldr 10 11 0) → Stands image.code (at + 12) (Movz 9 0 cell) → Stands image.code (at + 16) (Svc 7)
+    → (r : Regs) (es : List Entry) → Runs image.code op (moved_to (with_address r index) (at + 8)) es → Loaded image op cell at es
+cross_load image op at cell index among low small short has load move call r es runs =
+    let row = rows.UseCell at cell in
     let r0 = with_address r index in
-    let a = lead image op (Ldr 10 11 0) r0 p (p + 4) (λ m. with_reg r0 10 (word_in m (global_address index))) es load refl (λ o h. cc)
-    (loaded r index p (p + 4) low (next-at p (p + 4) refl (omega arith))) runs in
+    let a = lead image op (Ldr 10 11 0) r0 (at + 8) (at + 12) (λ m. with_reg r0 10 (word_in m (global_address index))) es load refl (λ o h. cc)
+    (loaded r index (at + 8) (at + 12) low (next_at (at + 8) (at + 12) (omega arith) (omega arith))) runs in
     let value = word_in a.memory (global_address index) in
     let r1 = with_reg r0 10 value in
     let r2 = with_reg r1 9 cell in
-    let b = lead image op (Movz 9 0 cell) r1 (p + 4) (p + 8) (λ _. r2) a.rest move refl (λ o h. cc)
-    (λ _. ap₂ (λ (v q : ℕ). moved_to (with_reg r1 9 v) q) (shifted-zero cell (omega arith)) (next-at (p + 4) (p + 8) (omega arith) (omega arith))) a.runs in
-    let c = lead image op (Svc 7) r2 (p + 8) (p + 12) (λ _. r2) b.rest call refl (λ o h. cc)
-    (λ _. ap (moved_to r2) (next-at (p + 8) (p + 12) (omega arith) (omega arith))) b.runs in
-    let e1 = entry_by (Ldr 10 11 0) (moved_to r0 p) a.memory in
-    let e2 = entry_by (Movz 9 0 cell) (moved_to r1 (p + 4)) b.memory in
-    let e3 = entry_by (Svc 7) (moved_to r2 (p + 8)) c.memory in
+    let b = lead image op (Movz 9 0 cell) r1 (at + 12) (at + 16) (λ _. r2) a.rest move refl (λ o h. cc)
+    (λ _. ap₂ (λ (v q : ℕ). moved_to (with_reg r1 9 v) q) (shifted_zero cell (omega arith)) (next_at (at + 12) (at + 16) (omega arith) (omega arith))) a.runs in
+    let c = lead image op (Svc 7) r2 (at + 16) (at + 20) (λ _. r2) b.rest call refl (λ o h. cc)
+    (λ _. ap (moved_to r2) (next_at (at + 16) (at + 20) (omega arith) (omega arith))) b.runs in
+    let e1 = entry_by (Ldr 10 11 0) (moved_to r0 (at + 8)) a.memory in
+    let e2 = entry_by (Movz 9 0 cell) (moved_to r1 (at + 12)) b.memory in
+    let e3 = entry_by (Svc 7) (moved_to r2 (at + 16)) c.memory in
     let tail : a.rest ≡ e2 ∷ e3 ∷ c.rest = b.whole ∙ ap (λ (x : List Entry). e2 ∷ x) c.whole in
     let whole : es ≡ e1 ∷ e2 ∷ e3 ∷ c.rest = a.whole ∙ ap (λ (x : List Entry). e1 ∷ x) tail in
+    let apart : at + 8 + 8 ≡ at + 16 = omega arith in
     record {
       value = value;
       crossed = record {
-        regs = r2;
+        stretch = e1 ∷ e2 ∷ e3 ∷ [];
         rest = c.rest;
+        whole = whole;
+        regs = r2;
         runs = c.runs;
-        shows = ap (trail image.map op) whole;
-        loads = λ all. subst (AllReadByLoad image) (sym whole) (loads-use image e1 e2 e3 c.rest cell value index refl refl refl has refl refl refl all);
+        places = refl;
+        shows = refl;
+        loads = λ all. subst (AllReadByLoad image) (sym whole)
+            (loads_use image row e1 e2 e3 c.rest cell value index among refl refl refl has (refl, refl) (refl, refl, refl) apart refl all);
       };
     }
 
-pub cross-use : (image : Image) → IsLaid image → (op at cell : ℕ) → Contains image.map.rows (rows.UseCell at cell) → (r : Regs) (es : List Entry)
-    → Runs image.code op (moved_to r at) es → UsedCell image op cell (at + 20) es
-cross-use image laid op at cell has r es runs =
+pub cross_use : (image : Image) → IsLaid image → (op at cell : ℕ) → Contains image.map.rows (rows.UseCell at cell) → (r : Regs) (es : List Entry)
+    → Runs image.code op (moved_to r at) es → UsedCell image op cell at es
+cross_use image laid op at cell has r es runs =
     let (index, cell_is, moves, load, move, call) = laid.group (rows.UseCell at cell) has in
     let (fits_row, short, closes) = laid.low (rows.UseCell at cell) has in
     let low = laid.cell index (contains-get image.cells cell index cell_is) in
     let r1 = with_reg r 11 (shifted_left (global_address index % 2 ^ 16) (16 * 0)) in
     let a = lead image op (Movz 11 0 (global_address index % 2 ^ 16)) r at (at + 4) (λ _. r1) es moves.0 refl (λ o h. cc)
-    (λ _. ap (moved_to r1) (next-at at (at + 4) refl (omega arith))) runs in
+    (λ _. ap (moved_to r1) (next_at at (at + 4) refl (omega arith))) runs in
     let b = lead image op (Movk 11 1 (global_address index / 2 ^ 16)) r1 (at + 4) (at + 8) (λ _. with_address r index) a.rest moves.1 refl (λ o h. cc)
-    (λ _. ap₂ (λ (v q : ℕ). moved_to (with_reg r1 11 v) q) (moved-address (global_address index) (omega arith)) (next-at (at + 4) (at + 8) (omega arith) (omega arith))) a.runs in
-    let three : at + 8 + 4 ≡ at + 12 = omega arith in
-    let four : at + 8 + 8 ≡ at + 16 = omega arith in
-    let five : at + 8 + 12 ≡ at + 20 = omega arith in
-    let used = cross-load image op (at + 8) cell index low fits_row.1 (omega arith) cell_is load
-    (subst (λ (p : ℕ). Stands image.code p (Movz 9 0 cell)) (sym three) move) (subst (λ (p : ℕ). Stands image.code p (Svc 7)) (sym four) call) r b.rest b.runs in
+    (λ _. ap₂ (λ (v q : ℕ). moved_to (with_reg r1 11 v) q) (moved_address (global_address index) (omega arith)) (next_at (at + 4) (at + 8) (omega arith) (omega arith))) a.runs in
+    let used = cross_load image op at cell index has low fits_row.1 (omega arith) cell_is load move call r b.rest b.runs in
     record {
       value = used.value;
-      crossed = subst (Crossed image op es (told (uses cell used.value) ∷ [])) five
-          (crossed-silent image op (Movz 11 0 (global_address index % 2 ^ 16)) (moved_to r at) a.memory a.rest es _ _ a.whole refl refl
-          (crossed-silent image op (Movk 11 1 (global_address index / 2 ^ 16)) (moved_to r1 (at + 4)) b.memory b.rest a.rest _ _ b.whole refl refl used.crossed));
+      crossed =
+          silent image op (Movz 11 0 (global_address index % 2 ^ 16)) (moved_to r at) a.memory a.rest es _ _ a.whole refl refl
+          (silent image op (Movk 11 1 (global_address index / 2 ^ 16)) (moved_to r1 (at + 4)) b.memory b.rest a.rest _ _ b.whole refl refl used.crossed);
     }
 
 -- ---- defines
 
-pub record DefinedCell (image : Image) (op to : ℕ) (es : List Entry) : Type 0 where
-  pub cell : ℕ
-  pub value : ℕ
-  pub crossed : Crossed image op es (told (defines cell value) ∷ []) to
+abbrev pub define_group : ℕ → ℕ → ℕ → List Placed
+define_group at cell value = plain at ∷ plain (at + 4) ∷ plain (at + 8) ∷ plain (at + 12) ∷ calling (at + 16) (defines cell value) ∷ []
 
-pub cross-define : (image : Image) → IsLaid image → (op at cell : ℕ) → Contains image.map.rows (rows.DefCell at cell) → (r : Regs) (es : List Entry)
-    → Runs image.code op (moved_to r at) es → DefinedCell image op (at + 20) es
-cross-define image laid op at cell has r es runs =
+pub record DefinedCell (image : Image) (op cell at : ℕ) (es : List Entry) : Type 0 where
+  pub value : ℕ
+  pub crossed : Crossed image op es (define_group at cell value) [] (at + 20)
+
+pub cross_define : (image : Image) → IsLaid image → (op at cell : ℕ) → Contains image.map.rows (rows.DefCell at cell) → (r : Regs) (es : List Entry)
+    → Runs image.code op (moved_to r at) es → DefinedCell image op cell at es
+cross_define image laid op at cell has r es runs =
     let (index, cell_is, moves, move, store, call) = laid.group (rows.DefCell at cell) has in
     let (fits_row, short, closes) = laid.low (rows.DefCell at cell) has in
     let low = laid.cell index (contains-get image.cells cell index cell_is) in
@@ -176,58 +201,98 @@ cross-define image laid op at cell has r es runs =
     let r2 = with_address r index in
     let r3 = with_reg r2 9 cell in
     let a = lead image op (Movz 11 0 (global_address index % 2 ^ 16)) r at (at + 4) (λ _. r1) es moves.0 refl (λ o h. cc)
-    (λ _. ap (moved_to r1) (next-at at (at + 4) refl (omega arith))) runs in
+    (λ _. ap (moved_to r1) (next_at at (at + 4) refl (omega arith))) runs in
     let b = lead image op (Movk 11 1 (global_address index / 2 ^ 16)) r1 (at + 4) (at + 8) (λ _. r2) a.rest moves.1 refl (λ o h. cc)
-    (λ _. ap₂ (λ (v q : ℕ). moved_to (with_reg r1 11 v) q) (moved-address (global_address index) (omega arith)) (next-at (at + 4) (at + 8) (omega arith) (omega arith))) a.runs in
+    (λ _. ap₂ (λ (v q : ℕ). moved_to (with_reg r1 11 v) q) (moved_address (global_address index) (omega arith)) (next_at (at + 4) (at + 8) (omega arith) (omega arith))) a.runs in
     let c = lead image op (Movz 9 0 cell) r2 (at + 8) (at + 12) (λ _. r3) b.rest move refl (λ o h. cc)
-    (λ _. ap₂ (λ (v q : ℕ). moved_to (with_reg r2 9 v) q) (shifted-zero cell (omega arith)) (next-at (at + 8) (at + 12) (omega arith) (omega arith))) b.runs in
+    (λ _. ap₂ (λ (v q : ℕ). moved_to (with_reg r2 9 v) q) (shifted_zero cell (omega arith)) (next_at (at + 8) (at + 12) (omega arith) (omega arith))) b.runs in
     let d = lead image op (Str 10 11 0) r3 (at + 12) (at + 16) (λ _. r3) c.rest store refl (λ o h. cc)
-    (stored r index cell (at + 12) (at + 16) low (next-at (at + 12) (at + 16) (omega arith) (omega arith))) c.runs in
+    (stored r index cell (at + 12) (at + 16) low (next_at (at + 12) (at + 16) (omega arith) (omega arith))) c.runs in
     let e = lead image op (Svc 6) r3 (at + 16) (at + 20) (λ _. r3) d.rest call refl (λ o h. cc)
-    (λ _. ap (moved_to r3) (next-at (at + 16) (at + 20) (omega arith) (omega arith))) d.runs in
+    (λ _. ap (moved_to r3) (next_at (at + 16) (at + 20) (omega arith) (omega arith))) d.runs in
     record {
-      cell = cell;
       value = r.x 10;
       crossed =
-          crossed-silent image op (Movz 11 0 (global_address index % 2 ^ 16)) (moved_to r at) a.memory a.rest es _ _ a.whole refl refl
-          (crossed-silent image op (Movk 11 1 (global_address index / 2 ^ 16)) (moved_to r1 (at + 4)) b.memory b.rest a.rest _ _ b.whole refl refl
-          (crossed-silent image op (Movz 9 0 cell) (moved_to r2 (at + 8)) c.memory c.rest b.rest _ _ c.whole refl refl
-          (crossed-silent image op (Str 10 11 0) (moved_to r3 (at + 12)) d.memory d.rest c.rest _ _ d.whole refl refl
-          (crossed-cons image op (Svc 6) (moved_to r3 (at + 16)) e.memory e.rest d.rest (told (defines cell (r.x 10)) ∷ []) [] (at + 20) e.whole refl (λ x v u. cc)
+          silent image op (Movz 11 0 (global_address index % 2 ^ 16)) (moved_to r at) a.memory a.rest es _ _ a.whole refl refl
+          (silent image op (Movk 11 1 (global_address index / 2 ^ 16)) (moved_to r1 (at + 4)) b.memory b.rest a.rest _ _ b.whole refl refl
+          (silent image op (Movz 9 0 cell) (moved_to r2 (at + 8)) c.memory c.rest b.rest _ _ c.whole refl refl
+          (silent image op (Str 10 11 0) (moved_to r3 (at + 12)) d.memory d.rest c.rest _ _ d.whole refl refl
+          (crossed_cons image op (Svc 6) (moved_to r3 (at + 16)) e.memory e.rest d.rest [] None [] (at + 20) e.whole refl (λ x v u. cc)
           (arrives image op r3 e.rest (at + 20) (at + 20) refl e.runs)))));
     }
 
--- ---- the end
+-- ---- ends and begins
 
-pub record Ended (image : Image) (op : ℕ) (es : List Entry) : Type 0 where
-  pub shows : trail image.map op es ≡ took (edges.End op) ∷ told (ends op) ∷ []
+-- the last instructions of a run, in the group of an End row
+pub record EndedBy (image : Image) (op at ended : ℕ) (es : List Entry) : Type 0 where
+  pub own : ended ≡ op
+  pub places : map placed es ≡ plain at ∷ calling (at + 4) (ends op) ∷ []
+  pub shows : executed_path image.map op es ≡ edges.End op ∷ []
   pub loads : AllReadByLoad image es
 
-nothing-behind : (image : Image) → AllReadByLoad image []
-nothing-behind image k cell value index e stands used has = absurd (cc)
+-- the SVC that ends the run
+record EndsThere (image : Image) (op p : ℕ) (r : Regs) (es : List Entry) : Type 0 where
+  nine : r.x 9 ≡ op
+  places : map placed es ≡ calling p (ends op) ∷ []
+  shows : executed_path image.map op es ≡ edges.End op ∷ []
+  loads : AllReadByLoad image es
 
-ends-there : (image : Image) (op p : ℕ) (r : Regs) (es : List Entry) → Stands image.code p (Svc 2) → Runs image.code op (moved_to r p) es → Ended image op es
-ends-there image op p r es stands (last r' e made at seals) =
-    let same : e.inst ≡ Svc 2 = inst-is image.code (Svc 2) (moved_to r p) e stands made at in
+ends_there : (image : Image) (op p : ℕ) (r : Regs) (es : List Entry) → Stands image.code p (Svc 2) → Runs image.code op (moved_to r p) es → EndsThere image op p r es
+ends_there image op p r es stands (last r' e made at seals) =
+    let same : e.inst ≡ Svc 2 = inst_is image.code (Svc 2) (moved_to r p) e stands made at in
     let both : Some (ends (e.found.regs.x 9)) ≡ Some (ends op) = sym (ap (λ (i : Inst). call_of i e.found.regs) same) ∙ seals in
     let nine : e.found.regs.x 9 ≡ op = cc in
     record {
+      nine = sym (ap (λ (q : Regs). q.x 9) at) ∙ nine;
+      places = ap₂ (λ (pc : ℕ) (call : Option Call). record { at = pc; call = call } ∷ []) (ap (λ (q : Regs). q.pc) at) seals;
       shows = rw (same, nine, eq-eqb op op refl) refl;
-      loads = loads-cons image e [] (λ c v u. let both : Some (ends op) ≡ Some (uses c v) = sym seals ∙ u in cc) (nothing-behind image);
+      loads = read_cons image e [] (λ c v u. let both : Some (ends op) ≡ Some (uses c v) = sym seals ∙ u in cc) (none_read image);
     }
-ends-there image op p r es stands (more r' e rest made at quiet runs) =
-    let same : e.inst ≡ Svc 2 = inst-is image.code (Svc 2) (moved_to r p) e stands made at in
+ends_there image op p r es stands (more r' e rest made at quiet runs) =
+    let same : e.inst ≡ Svc 2 = inst_is image.code (Svc 2) (moved_to r p) e stands made at in
     absurd (quiet (e.found.regs.x 9) (ap (λ (i : Inst). call_of i e.found.regs) same))
 
-pub cross-end : (image : Image) → IsLaid image → (op at : ℕ) → Contains image.map.rows (rows.End at op) → (r : Regs) (es : List Entry)
-    → Runs image.code op (moved_to r at) es → Ended image op es
-cross-end image laid op at has r es runs =
-    let (move, call) = laid.group (rows.End at op) has in
-    let (fits_row, short, closes) = laid.low (rows.End at op) has in
-    let r1 = with_reg r 9 (shifted_left op (16 * 0)) in
-    let a = lead image op (Movz 9 0 op) r at (at + 4) (λ _. r1) es move refl (λ o h. cc) (λ _. ap (moved_to r1) (next-at at (at + 4) refl (omega arith))) runs in
-    let ended = ends-there image op (at + 4) r1 a.rest call a.runs in
+pub cross_end : (image : Image) → IsLaid image → (op at ended : ℕ) → Contains image.map.rows (rows.End at ended) → (r : Regs) (es : List Entry)
+    → Runs image.code op (moved_to r at) es → EndedBy image op at ended es
+cross_end image laid op at ended has r es runs =
+    let (move, call) = laid.group (rows.End at ended) has in
+    let (fits_row, short, closes) = laid.low (rows.End at ended) has in
+    let r1 = with_reg r 9 (shifted_left ended (16 * 0)) in
+    let a = lead image op (Movz 9 0 ended) r at (at + 4) (λ _. r1) es move refl (λ o h. cc) (λ _. ap (moved_to r1) (next_at at (at + 4) refl (omega arith))) runs in
+    let e = ends_there image op (at + 4) r1 a.rest call a.runs in
+    let low : ended < 2 ^ 64 = (let f = fits_row.1 in omega arith) in
     record {
-      shows = ap (trail image.map op) a.whole ∙ ended.shows;
-      loads = subst (AllReadByLoad image) (sym a.whole) (loads-cons image (entry_by (Movz 9 0 op) (moved_to r at) a.memory) a.rest (λ c v u. cc) ended.loads);
+      own = sym (shifted_zero ended low) ∙ e.nine;
+      places = ap (map placed) a.whole ∙ ap (λ (x : List Placed). plain at ∷ x) e.places;
+      shows = ap (executed_path image.map op) a.whole ∙ e.shows;
+      loads = subst (AllReadByLoad image) (sym a.whole) (read_cons image (entry_by (Movz 9 0 ended) (moved_to r at) a.memory) a.rest (λ c v u. cc) e.loads);
+    }
+
+-- an instruction of a run that begins an operation
+pub record BegunBy (es : List Entry) : Type 0 where
+  pub before : List Entry
+  pub e : Entry
+  pub others : List Entry
+  pub whole : es ≡ before ++ e ∷ others
+  pub op : ℕ
+  pub at : ℕ
+  pub called : made_call e ≡ Some (begins op at)
+
+pub cross_begin : (image : Image) → IsLaid image → (op at other : ℕ) → Contains image.map.rows (rows.Begin at other) → (r : Regs) (es : List Entry)
+    → Runs image.code op (moved_to r at) es → BegunBy es
+cross_begin image laid op at other has r es runs =
+    let (move, call) = laid.group (rows.Begin at other) has in
+    let (fits_row, short, closes) = laid.low (rows.Begin at other) has in
+    let r1 = with_reg r 9 (shifted_left other (16 * 0)) in
+    let a = lead image op (Movz 9 0 other) r at (at + 4) (λ _. r1) es move refl (λ o h. cc) (λ _. ap (moved_to r1) (next_at at (at + 4) refl (omega arith))) runs in
+    let b = lead image op (Svc 1) r1 (at + 4) (at + 8) (λ _. r1) a.rest call refl (λ o h. cc) (λ _. ap (moved_to r1) (next_at (at + 4) (at + 8) (omega arith) (omega arith))) a.runs in
+    let first = entry_by (Movz 9 0 other) (moved_to r at) a.memory in
+    record {
+      before = first ∷ [];
+      e = entry_by (Svc 1) (moved_to r1 (at + 4)) b.memory;
+      others = b.rest;
+      whole = a.whole ∙ ap (λ (xs : List Entry). first ∷ xs) b.whole;
+      op = shifted_left other (16 * 0);
+      at = at + 4;
+      called = refl;
     }

@@ -27,17 +27,18 @@ use Rattle.oat_journal.specs.Window.{made_call, returned, returns_of_run}
 use Rattle.oat_journal.specs.Measured.{dev, body_of, window_of}
 use Rattle.oat_journal.proofs.Traces.{windows_are_traces, runs_report_their_window}
 use Rattle.oat_verify.specs.Verdict.{Accepts, head_of, subject_of}
-use Rattle.oat_attest.specs.Headline.{opening_of, returns_of_window, ClashOfUnequalReturns}
+use Rattle.oat_attest.specs.Headline.{opening_of}
+use Rattle.oat_attest.specs.Lockstep.{ClashOfUnequalReturns}
 
 abbrev AllFit : List ℕ → Type 0
 AllFit addresses = All (λ address. address < 2 ^ 64) addresses
 
-fit-more : (o : Option ℕ) (later : List ℕ) → ((address : ℕ) → o ≡ Some address → address < 2 ^ 64) → AllFit later → AllFit (cons_option o later)
-fit-more None later first rest = rest
-fit-more (Some address) later first rest = All-cons (λ (a : ℕ). a < 2 ^ 64) address later (first address refl) rest
+fit_more : (o : Option ℕ) (later : List ℕ) → ((address : ℕ) → o ≡ Some address → address < 2 ^ 64) → AllFit later → AllFit (cons_option o later)
+fit_more None later first rest = rest
+fit_more (Some address) later first rest = All-cons (λ (a : ℕ). a < 2 ^ 64) address later (first address refl) rest
 
-fit-none : AllFit []
-fit-none k d lt = absurd (omega arith)
+fit_none : AllFit []
+fit_none k d lt = absurd (omega arith)
 
 -- ---- the returns of a run
 
@@ -45,96 +46,96 @@ fit-none k d lt = absurd (omega arith)
 abbrev ReturnFits : Option Call → Type 0
 ReturnFits call = (address : ℕ) → returned call ≡ Some address → address < 2 ^ 64
 
-fits-if : (t : Bool) (a b : Option Call) → ReturnFits a → ReturnFits b → ReturnFits (cond t a b)
-fits-if true a b p q = p
-fits-if false a b p q = q
+fits_if : (t : Bool) (a b : Option Call) → ReturnFits a → ReturnFits b → ReturnFits (cond t a b)
+fits_if true a b p q = p
+fits_if false a b p q = q
 
-call-fits : (i : Inst) (r : Regs) → ((k : ℕ) → r.x k < 2 ^ 64) → ReturnFits (call_of i r)
-call-fits (Svc number) r low =
-    fits-if (eqb number 1) (Some (begins (r.x 9) r.pc)) _ (λ a q. absurd (cc))
-    (fits-if (eqb number 2) (Some (ends (r.x 9))) _ (λ a q. absurd (cc))
-    (fits-if (eqb number 3) (Some (bit (r.x 9))) _ (λ a q. absurd (cc))
-    (fits-if (eqb number 4) (Some (target (r.x 9))) _ (λ a q. absurd (cc))
-    (fits-if (eqb number 5) (Some (returns (r.x 30))) _ (λ a q. let same : r.x 30 ≡ a = cc in subst (λ (n : ℕ). n < 2 ^ 64) same (low 30))
-    (fits-if (eqb number 6) (Some (defines (r.x 9) (r.x 10))) _ (λ a q. absurd (cc))
-    (fits-if (eqb number 7) (Some (uses (r.x 9) (r.x 10))) None (λ a q. absurd (cc)) (λ a q. absurd (cc))))))))
-call-fits _ r low = λ a q. absurd (cc)
+call_fits : (i : Inst) (r : Regs) → ((k : ℕ) → r.x k < 2 ^ 64) → ReturnFits (call_of i r)
+call_fits (Svc number) r low =
+    fits_if (eqb number 1) (Some (begins (r.x 9) r.pc)) _ (λ a q. absurd (cc))
+    (fits_if (eqb number 2) (Some (ends (r.x 9))) _ (λ a q. absurd (cc))
+    (fits_if (eqb number 3) (Some (bit (r.x 9))) _ (λ a q. absurd (cc))
+    (fits_if (eqb number 4) (Some (target (r.x 9))) _ (λ a q. absurd (cc))
+    (fits_if (eqb number 5) (Some (returns (r.x 30))) _ (λ a q. let same : r.x 30 ≡ a = cc in subst (λ (n : ℕ). n < 2 ^ 64) same (low 30))
+    (fits_if (eqb number 6) (Some (defines (r.x 9) (r.x 10))) _ (λ a q. absurd (cc))
+    (fits_if (eqb number 7) (Some (uses (r.x 9) (r.x 10))) None (λ a q. absurd (cc)) (λ a q. absurd (cc))))))))
+call_fits _ r low = λ a q. absurd (cc)
 
-run-fits : (window : List Entry) → ((k : ℕ) (e : Entry) → slice_get window k ≡ Some e → IsEntryBounded e) → AllFit (returns_of_run window)
-run-fits [] bounded = fit-none
-run-fits (e ∷ es) bounded =
-    fit-more (returned (made_call e)) (returns_of_run es) (call-fits e.inst e.found.regs (bounded 0 e refl).found.x)
-    (run-fits es (λ k other at. bounded (suc k) other at))
+run_fits : (window : List Entry) → ((k : ℕ) (e : Entry) → slice_get window k ≡ Some e → IsEntryBounded e) → AllFit (returns_of_run window)
+run_fits [] bounded = fit_none
+run_fits (e ∷ es) bounded =
+    fit_more (returned (made_call e)) (returns_of_run es) (call_fits e.inst e.found.regs (bounded 0 e refl).found.x)
+    (run_fits es (λ k other at. bounded (suc k) other at))
 
 -- ---- the returns of a walk
 
 -- where a call is to be returned to
-site-fits : (step : Step) (site : ℕ) → return_site_of step ≡ Some site → site < 2 ^ 64
-site-fits passed site is = absurd (cc)
-site-fits (moved (edges.Call from to)) site is = let same : (from + 4 * 1) % 2 ^ 64 ≡ site = cc in omega arith
-site-fits (moved (edges.ICall from to)) site is = let same : (from + 4 * 2) % 2 ^ 64 ≡ site = cc in omega arith
-site-fits (moved _) site is = absurd (cc)
+site_fits : (step : Step) (site : ℕ) → return_site_of step ≡ Some site → site < 2 ^ 64
+site_fits passed site is = absurd (cc)
+site_fits (moved (edges.Call from to)) site is = let same : (from + 4 * 1) % 2 ^ 64 ≡ site = cc in omega arith
+site_fits (moved (edges.ICall from to)) site is = let same : (from + 4 * 2) % 2 ^ 64 ≡ site = cc in omega arith
+site_fits (moved _) site is = absurd (cc)
 
-call-site-fits : (call : Option Step) (site : ℕ) → option_and_then return_site_of call ≡ Some site → site < 2 ^ 64
-call-site-fits None site is = absurd (cc)
-call-site-fits (Some step) site is = site-fits step site is
+call_site_fits : (call : Option Step) (site : ℕ) → option_and_then return_site_of call ≡ Some site → site < 2 ^ 64
+call_site_fits None site is = absurd (cc)
+call_site_fits (Some step) site is = site_fits step site is
 
-back-fits : (before : List Step) (back : ℕ) → Returns before back → back < 2 ^ 64
-back-fits before back r = call-site-fits (slice_get before r.place) back r.matching.call
+back_fits : (before : List Step) (back : ℕ) → Returns before back → back < 2 ^ 64
+back_fits before back r = call_site_fits (slice_get before r.place) back r.matching.call
 
 abbrev StepFits : Step → Type 0
 StepFits step = (address : ℕ) → option_and_then return_of (edge_of step) ≡ Some address → address < 2 ^ 64
 
-no-return : (step other : Step) → step ≡ other → option_and_then return_of (edge_of other) ≡ None → StepFits step
-no-return step other is none address h =
+no_return : (step other : Step) → step ≡ other → option_and_then return_of (edge_of other) ≡ None → StepFits step
+no_return step other is none address h =
     absurd (let q : None ≡ Some address = sym none ∙ ap (λ (s : Step). option_and_then return_of (edge_of s)) (sym is) ∙ h in cc)
 
-goes-fits : (flow : Map) (row : Row) (before : List Step) (step : Step) (to : ℕ) → RowGoes flow row before step to → StepFits step
-goes-fits flow (rows.Jump at other) before step to goes = no-return step (moved (edges.Jump at other)) goes.0 refl
-goes-fits flow (rows.Branch at taken other) before step to (inl goes) = no-return step (moved (edges.Branch at true taken)) goes.0 refl
-goes-fits flow (rows.Branch at taken other) before step to (inr goes) = no-return step (moved (edges.Branch at false other)) goes.0 refl
-goes-fits flow (rows.Call at other) before step to goes = no-return step (moved (edges.Call at other)) goes.0 refl
-goes-fits flow (rows.ICall at params) before step to goes = no-return step (moved (edges.ICall at to)) goes.0 refl
-goes-fits flow (rows.Ret at) before step to goes = λ address h.
+goes_fits : (flow : Map) (row : Row) (before : List Step) (step : Step) (to : ℕ) → RowGoes flow row before step to → StepFits step
+goes_fits flow (rows.Jump at other) before step to goes = no_return step (moved (edges.Jump at other)) goes.0 refl
+goes_fits flow (rows.Branch at taken other) before step to (inl goes) = no_return step (moved (edges.Branch at true taken)) goes.0 refl
+goes_fits flow (rows.Branch at taken other) before step to (inr goes) = no_return step (moved (edges.Branch at false other)) goes.0 refl
+goes_fits flow (rows.Call at other) before step to goes = no_return step (moved (edges.Call at other)) goes.0 refl
+goes_fits flow (rows.ICall at params) before step to goes = no_return step (moved (edges.ICall at to)) goes.0 refl
+goes_fits flow (rows.Ret at) before step to goes = λ address h.
     let q : Some to ≡ Some address = ap (λ (s : Step). option_and_then return_of (edge_of s)) (sym goes.0) ∙ h in
     let same : to ≡ address = cc in
-    subst (λ (n : ℕ). n < 2 ^ 64) same (back-fits before to goes.1)
-goes-fits flow (rows.Begin at op) before step to goes = absurd goes
-goes-fits flow (rows.End at op) before step to goes = absurd goes
-goes-fits flow (rows.UseCell at cell) before step to goes = no-return step passed goes.0 refl
-goes-fits flow (rows.DefCell at cell) before step to goes = no-return step passed goes.0 refl
-goes-fits flow (rows.Check at) before step to goes = no-return step passed goes.0 refl
+    subst (λ (n : ℕ). n < 2 ^ 64) same (back_fits before to goes.1)
+goes_fits flow (rows.Begin at op) before step to goes = absurd goes
+goes_fits flow (rows.End at op) before step to goes = absurd goes
+goes_fits flow (rows.UseCell at cell) before step to goes = no_return step passed goes.0 refl
+goes_fits flow (rows.DefCell at cell) before step to goes = no_return step passed goes.0 refl
+goes_fits flow (rows.Check at) before step to goes = no_return step passed goes.0 refl
 
-path-more : (step : Step) (steps : List Step) → returns_of (path_of (step ∷ steps)) ≡ cons_option (option_and_then return_of (edge_of step)) (returns_of (path_of steps))
-path-more passed steps = refl
-path-more (moved edge) steps = refl
+path_more : (step : Step) (steps : List Step) → returns_of (path_of (step ∷ steps)) ≡ cons_option (option_and_then return_of (edge_of step)) (returns_of (path_of steps))
+path_more passed steps = refl
+path_more (moved edge) steps = refl
 
-leads-fit : (flow : Map) (before : List Step) (from : ℕ) (steps : List Step) (to : ℕ) → Leads flow before from steps to → AllFit (returns_of (path_of steps))
-leads-fit flow before from [] to leads = fit-none
-leads-fit flow before from (step ∷ steps) to leads =
-    subst AllFit (sym (path-more step steps))
-    (fit-more (option_and_then return_of (edge_of step)) (returns_of (path_of steps)) (goes-fits flow leads.1.0 before step leads.0 leads.1.2)
-    (leads-fit flow (before ++ step ∷ []) leads.0 steps to leads.2))
+leads_fit : (flow : Map) (before : List Step) (from : ℕ) (steps : List Step) (to : ℕ) → Leads flow before from steps to → AllFit (returns_of (path_of steps))
+leads_fit flow before from [] to leads = fit_none
+leads_fit flow before from (step ∷ steps) to leads =
+    subst AllFit (sym (path_more step steps))
+    (fit_more (option_and_then return_of (edge_of step)) (returns_of (path_of steps)) (goes_fits flow leads.1.0 before step leads.0 leads.1.2)
+    (leads_fit flow (before ++ step ∷ []) leads.0 steps to leads.2))
 
 -- the end returns nowhere
-end-returns : (front : List Step) (op : ℕ) → returns_of (path_of (front ++ moved (edges.End op) ∷ [])) ≡ returns_of (path_of front)
-end-returns front op =
+end_returns : (front : List Step) (op : ℕ) → returns_of (path_of (front ++ moved (edges.End op) ∷ [])) ≡ returns_of (path_of front)
+end_returns front op =
     ap returns_of (filter_map-append edge_of front (moved (edges.End op) ∷ []))
     ∙ filter_map-append return_of (path_of front) (edges.End op ∷ []) ∙ append-nil (returns_of (path_of front))
 
-walk-fits : (flow : Map) (op : ℕ) (steps : List Step) → Walk flow op steps → AllFit (returns_of (path_of steps))
-walk-fits flow op steps walk =
+walk_fits : (flow : Map) (op : ℕ) (steps : List Step) → Walk flow op steps → AllFit (returns_of (path_of steps))
+walk_fits flow op steps walk =
     subst (λ (all : List Step). AllFit (returns_of (path_of all))) (sym walk.whole)
-    (subst AllFit (sym (end-returns walk.front op)) (leads-fit flow [] walk.partial.from walk.front walk.place walk.partial.leads))
+    (subst AllFit (sym (end_returns walk.front op)) (leads_fit flow [] walk.partial.from walk.front walk.place walk.partial.leads))
 
-path-fits : (flow : Map) (op : ℕ) (steps : List Step) (path : List Edge) → Walk flow op steps → path ≡ path_of steps → AllFit (returns_of path)
-path-fits flow op steps path walk is = subst (λ (edges_are : List Edge). AllFit (returns_of edges_are)) (sym is) (walk-fits flow op steps walk)
+path_fits : (flow : Map) (op : ℕ) (steps : List Step) (path : List Edge) → Walk flow op steps → path ≡ path_of steps → AllFit (returns_of path)
+path_fits flow op steps path walk is = subst (λ (edges_are : List Edge). AllFit (returns_of edges_are)) (sym is) (walk_fits flow op steps walk)
 
 -- ---- the clash
 
 -- the begin record of an accepted session has 50 bytes
-head-length : (image : Image) (session : Session) (bytes : List ℕ) (path : List Edge) → Accepts (subject_of image session) bytes path → length (head_of (subject_of image session)) ≡ 50
-head-length image session bytes path accepted =
+head_length : (image : Image) (session : Session) (bytes : List ℕ) (path : List Edge) → Accepts (subject_of image session) bytes path → length (head_of (subject_of image session)) ≡ 50
+head_length image session bytes path accepted =
     length-begin_record session.nonce session.op (sha256 (image_text image))
     (sym (ap length accepted.nonce) ∙ accepted.is_blob.body_fits.nonce.counted) (length-digest (image_text image))
 
@@ -145,11 +146,11 @@ clash_of_unequal_returns image session begin_at setting bytes path accepted inpu
     let trace = windows_are_traces image o inputs writes n given reported.sealed in
     let same = one_body bytes (body_of o run.state) accepted.body _ accepted.mac reported.blob accepted.is_blob in
     let hash : run.state.hash ≡ accepted.body.head.hash = ap (λ (body : Body). body.head.hash) same.0 in
-    let chains : chain (head_of (subject_of image session)) (returns_of_window image session begin_at run) ≡ chain (head_of (subject_of image session)) (returns_of path) =
+    let chains : chain (head_of (subject_of image session)) (returns_of_run (window_of o run)) ≡ chain (head_of (subject_of image session)) (returns_of path) =
     sym (runs_report_their_window image o inputs writes n reported.sealed).hash ∙ hash ∙ accepted.hash in
-    let clash = clash_exists (head_of (subject_of image session)) (returns_of_window image session begin_at run) (returns_of path)
-    (head-length image session bytes path accepted)
-    (run-fits (window_of o run) (λ k e at. (trace.made k e at).1))
-    (path-fits image.map session.op accepted.walked.steps path accepted.walked.walk accepted.walked.path_is)
+    let clash = clash_exists (head_of (subject_of image session)) (returns_of_run (window_of o run)) (returns_of path)
+    (head_length image session bytes path accepted)
+    (run_fits (window_of o run) (λ k e at. (trace.made k e at).1))
+    (path_fits image.map session.op accepted.walked.steps path accepted.walked.walk accepted.walked.path_is)
     chains unequal in
     record { differ = unequal; first = clash.first; second = clash.second; place = clash.place; one_digest = clash.one_digest }

@@ -9,20 +9,22 @@ use Rattle.oat_image.specs.declared.image.Image.{Image}
 use Rattle.oat_map.specs.declared.edge.Edge.{Edge}
 use Rattle.oat_map.specs.Walk.{returns_of}
 use Rattle.oat_journal.specs.Uses.{IsSound}
-use Rattle.oat_journal.specs.Measured.{dev, body_of, uses_of}
+use Rattle.oat_journal.specs.Window.{returns_of_run}
+use Rattle.oat_journal.specs.Measured.{dev, body_of, window_of, uses_of}
 use Rattle.oat_journal.proofs.Sealing.{sound-uses}
 use Rattle.oat_journal.proofs.Reports.{runs_report_exactly}
 use Rattle.oat_verify.specs.Verdict.{Accepts, subject_of}
 use Rattle.oat_attest.proofs.Joining.{same_path}
 use Rattle.oat_attest.proofs.Clashing.{clash_of_unequal_returns}
-use Rattle.oat_attest.specs.Headline.{opening_of, IsReported, returns_of_window, Headline, SamePath, ClashOfUnequalReturns}
+use Rattle.oat_attest.specs.Headline.{opening_of, IsReported, Headline}
+use Rattle.oat_attest.specs.Lockstep.{SamePath, ClashOfUnequalReturns}
 
 -- an accepted run has no violation, and so each of its checked uses is sound
-all-sound : (image : Image) (session : Session) (begin_at : ℕ) (bytes : List ℕ) (path : List Edge) → Accepts (subject_of image session) bytes path
+all_sound : (image : Image) (session : Session) (begin_at : ℕ) (bytes : List ℕ) (path : List Edge) → Accepts (subject_of image session) bytes path
     → (inputs : List ℤ) (writes : List Write) (n : ℕ)
     → IsReported image session begin_at (dev image (opening_of image session begin_at) inputs writes n) bytes
     → All IsSound (uses_of image (opening_of image session begin_at) (dev image (opening_of image session begin_at) inputs writes n))
-all-sound image session begin_at bytes path accepted inputs writes n reported =
+all_sound image session begin_at bytes path accepted inputs writes n reported =
     let o = opening_of image session begin_at in
     let run = dev image o inputs writes n in
     let same = one_body bytes (body_of o run.state) accepted.body _ accepted.mac reported.blob accepted.is_blob in
@@ -31,12 +33,12 @@ all-sound image session begin_at bytes path accepted inputs writes n reported =
 
 headline_from : SamePath → ClashOfUnequalReturns → Headline
 headline_from same_path clash image session begin_at setting bytes path accepted inputs writes n given reported =
-    let run = dev image (opening_of image session begin_at) inputs writes n in
-    let run_returns = returns_of_window image session begin_at run in
+    let o = opening_of image session begin_at in
+    let run_returns = returns_of_run (window_of o (dev image o inputs writes n)) in
     decided run_returns (returns_of path)
     (λ equal.
     let followed = same_path image session begin_at setting bytes path accepted inputs writes n given reported equal in
-    inl (record { executed = followed.0; sound = all-sound image session begin_at bytes path accepted inputs writes n reported; loaded = followed.2 }))
+    inl (record { executed = followed.0; sound = all_sound image session begin_at bytes path accepted inputs writes n reported; loaded = followed.2 }))
     (λ unequal. inr (clash image session begin_at setting bytes path accepted inputs writes n given reported unequal))
 
 pub headline : Headline

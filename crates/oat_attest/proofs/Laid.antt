@@ -10,17 +10,14 @@ use Rattle.oat_a64.specs.Fetch.{inst_of}
 use Rattle.oat_a64.specs.Step.{code_base, word_at}
 use Rattle.oat_map.specs.declared.row.Row.{Row}
 use Rattle.oat_map.specs.declared.row.Row.TheVariants.{Jump, Branch, Call, ICall, Ret, Begin, End, UseCell, DefCell, Check}
-use Rattle.oat_map.specs.Rows.{address_of, word_count, after, next, start, begins, IsOrdered, entries_of, starts_of}
+use Rattle.oat_map.specs.Rows.{address_of, word_count, after, next, start, begins, IsOrdered, entries_of, starts_of, row_over, is_over}
 use Rattle.oat_map.proofs.RowLemmas.{next_lowest}
 use Rattle.oat_image.specs.declared.image.Image.{Image}
 use Rattle.oat_image.specs.Grammar.{IsWellFormed, IsRow, IsIndex}
 use Rattle.oat_shape.specs.Groups.{Stands, IsGroup}
 use Rattle.oat_shape.specs.MapRules.{LeadsToPlaces}
 use Rattle.oat_shape.specs.Shape.{IsShaped, Covers, IsPlaceOrSite}
-use Rattle.oat_a64.specs.Kinds.{is_measured}
-use Rattle.oat_a64.specs.Kinds.{is_transfer}
-use Rattle.oat_map.specs.Rows.{row_over}
-use Rattle.oat_map.specs.Rows.{is_over}
+use Rattle.oat_a64.specs.Kinds.{is_measured, is_transfer}
 use Rattle.oat_attest.proofs.Lists.{contains-get, get-contains, each, found-only}
 
 -- the address behind a row's group

@@ -1,13 +1,19 @@
-pub mod Lists
-pub mod Moves
-pub mod Laid
-pub mod Trails
-pub mod Skips
-pub mod Crossings
-pub mod CellCrossings
-pub mod Outcomes
-pub mod Places
-pub mod Sync
-pub mod Joining
-pub mod Clashing
+mod Lists
+mod Moves
+mod TrueReturns
+mod Laid
+mod Stretches
+mod Skips
+mod Crossings
+mod CellCrossings
+mod Places
+mod RowRuns
+mod Executing
+mod Sync
+mod Joining
+mod Lengths
+mod Walking
+mod Running
+mod Working
+mod Clashing
 pub mod Headlines

@@ -10,11 +10,10 @@ use Rattle.oat_map.specs.declared.map.Map.{Map}
 use Rattle.oat_map.specs.declared.map.Function.{Function}
 use Rattle.oat_map.specs.declared.row.Row.{Row}
 use Rattle.oat_map.specs.declared.row.Row.TheVariants.{Jump, Branch, Call, ICall, Ret, Begin, End, UseCell, DefCell, Check}
-use Rattle.oat_map.specs.Rows.{after, entries_of, IsIndirectTarget}
+use Rattle.oat_map.specs.Rows.{after, entries_of, IsIndirectTarget, is_call}
 use Rattle.oat_map.specs.Walk.{Step, passed, moved, return_site_of, Returns, RowGoes}
 use Rattle.oat_image.specs.declared.image.Image.{Image}
 use Rattle.oat_shape.specs.Shape.{IsReturnSite}
-use Rattle.oat_map.specs.Rows.{is_call}
 use Rattle.oat_journal.specs.Window.{is_target, is_returned_to}
 use Rattle.oat_attest.proofs.Lists.{contains-get, get-contains}
 use Rattle.oat_attest.proofs.Laid.{IsLaid, IsClear}
@@ -25,94 +24,94 @@ use Rattle.oat_attest.proofs.Laid.{IsLaid, IsClear}
 abbrev pub AreCalled : List Row → List Step → Type 0
 AreCalled rows before = (k site : ℕ) → option_and_then return_site_of (slice_get before k) ≡ Some site → IsReturnSite rows site
 
-pub called-none : (rows : List Row) → AreCalled rows []
-called-none rows k site h = absurd (cc)
+pub called_none : (rows : List Row) → AreCalled rows []
+called_none rows k site h = absurd (cc)
 
-called-one : (rows : List Row) (step : Step) → ((site : ℕ) → return_site_of step ≡ Some site → IsReturnSite rows site) → AreCalled rows (step ∷ [])
-called-one rows step here zero site h = here site h
-called-one rows step here (suc k) site h = absurd (cc)
+called_one : (rows : List Row) (step : Step) → ((site : ℕ) → return_site_of step ≡ Some site → IsReturnSite rows site) → AreCalled rows (step ∷ [])
+called_one rows step here zero site h = here site h
+called_one rows step here (suc k) site h = absurd (cc)
 
-pub called-more : (rows : List Row) (before : List Step) (step : Step) → AreCalled rows before
+pub called_more : (rows : List Row) (before : List Step) (step : Step) → AreCalled rows before
     → ((site : ℕ) → return_site_of step ≡ Some site → IsReturnSite rows site) → AreCalled rows (before ++ step ∷ [])
-called-more rows [] step called here k site h = called-one rows step here k site h
-called-more rows (first ∷ before) step called here zero site h = called zero site h
-called-more rows (first ∷ before) step called here (suc k) site h = called-more rows before step (λ j. called (suc j)) here k site h
+called_more rows [] step called here k site h = called_one rows step here k site h
+called_more rows (first ∷ before) step called here zero site h = called zero site h
+called_more rows (first ∷ before) step called here (suc k) site h = called_more rows before step (λ j. called (suc j)) here k site h
 
-no-site : (rows : List Row) (step s : Step) → step ≡ s → return_site_of s ≡ None → (site : ℕ) → return_site_of step ≡ Some site → IsReturnSite rows site
-no-site rows step s same none site h =
+no_site : (rows : List Row) (step s : Step) → step ≡ s → return_site_of s ≡ None → (site : ℕ) → return_site_of step ≡ Some site → IsReturnSite rows site
+no_site rows step s same none site h =
     let both : None ≡ Some site = sym none ∙ ap return_site_of (sym same) ∙ h in
     absurd (cc)
 
-a-site : (rows : List Row) (step s : Step) (row : Row) → Contains rows row → is_call row ≡ true → step ≡ s → return_site_of s ≡ Some (after row)
+a_site : (rows : List Row) (step s : Step) (row : Row) → Contains rows row → is_call row ≡ true → step ≡ s → return_site_of s ≡ Some (after row)
     → (site : ℕ) → return_site_of step ≡ Some site → IsReturnSite rows site
-a-site rows step s row has call same at site h =
+a_site rows step s row has call same at site h =
     let both : Some (after row) ≡ Some site = sym at ∙ ap return_site_of (sym same) ∙ h in
     let there : after row ≡ site = cc in
     (row, has, call, there)
 
-pub goes-site : (flow : Map) (row : Row) (before : List Step) (step : Step) (to : ℕ) → Contains flow.rows row → RowGoes flow row before step to
+pub goes_site : (flow : Map) (row : Row) (before : List Step) (step : Step) (to : ℕ) → Contains flow.rows row → RowGoes flow row before step to
     → (site : ℕ) → return_site_of step ≡ Some site → IsReturnSite flow.rows site
-goes-site flow (Jump at target) before step to has g = no-site flow.rows step (moved (edges.Jump at target)) g.0 refl
-goes-site flow (Branch at taken other) before step to has (inl g) = no-site flow.rows step (moved (edges.Branch at true taken)) g.0 refl
-goes-site flow (Branch at taken other) before step to has (inr g) = no-site flow.rows step (moved (edges.Branch at false other)) g.0 refl
-goes-site flow (Call at target) before step to has g = a-site flow.rows step (moved (edges.Call at target)) (Call at target) has refl g.0 refl
-goes-site flow (ICall at params) before step to has g = a-site flow.rows step (moved (edges.ICall at to)) (ICall at params) has refl g.0 refl
-goes-site flow (Ret at) before step to has g = no-site flow.rows step (moved (edges.Ret at to)) g.0 refl
-goes-site flow (Begin at op) before step to has g = absurd g
-goes-site flow (End at op) before step to has g = absurd g
-goes-site flow (UseCell at cell) before step to has g = no-site flow.rows step passed g.0 refl
-goes-site flow (DefCell at cell) before step to has g = no-site flow.rows step passed g.0 refl
-goes-site flow (Check at) before step to has g = no-site flow.rows step passed g.0 refl
+goes_site flow (Jump at target) before step to has g = no_site flow.rows step (moved (edges.Jump at target)) g.0 refl
+goes_site flow (Branch at taken other) before step to has (inl g) = no_site flow.rows step (moved (edges.Branch at true taken)) g.0 refl
+goes_site flow (Branch at taken other) before step to has (inr g) = no_site flow.rows step (moved (edges.Branch at false other)) g.0 refl
+goes_site flow (Call at target) before step to has g = a_site flow.rows step (moved (edges.Call at target)) (Call at target) has refl g.0 refl
+goes_site flow (ICall at params) before step to has g = a_site flow.rows step (moved (edges.ICall at to)) (ICall at params) has refl g.0 refl
+goes_site flow (Ret at) before step to has g = no_site flow.rows step (moved (edges.Ret at to)) g.0 refl
+goes_site flow (Begin at op) before step to has g = absurd g
+goes_site flow (End at op) before step to has g = absurd g
+goes_site flow (UseCell at cell) before step to has g = no_site flow.rows step passed g.0 refl
+goes_site flow (DefCell at cell) before step to has g = no_site flow.rows step passed g.0 refl
+goes_site flow (Check at) before step to has g = no_site flow.rows step passed g.0 refl
 
-pub returns-site : (rows : List Row) (before : List Step) (to : ℕ) → AreCalled rows before → Returns before to → IsReturnSite rows to
-returns-site rows before to called r = called r.place to r.matching.call
+pub returns_site : (rows : List Row) (before : List Step) (to : ℕ) → AreCalled rows before → Returns before to → IsReturnSite rows to
+returns_site rows before to called r = called r.place to r.matching.call
 
 -- ---- clear places
 
-contains-map : {A B : Type 0} (f : A → B) (xs : List A) (x : A) → Contains xs x → Contains (map f xs) (f x)
-contains-map f xs x c =
+contains_map : {A B : Type 0} (f : A → B) (xs : List A) (x : A) → Contains xs x → Contains (map f xs) (f x)
+contains_map f xs x c =
     contains-get (map f xs) c.0 (f x) (slice_get-map f xs c.0 ∙ ap (option_map f) (get-contains xs x c))
 
-target-entry : (functions : List Function) (params to : ℕ) → IsIndirectTarget functions params to → Contains (entries_of functions) to
-target-entry functions params to t =
-    subst (Contains (entries_of functions)) t.entry (contains-map (λ f. f.entry) functions t.function t.among)
+target_entry : (functions : List Function) (params to : ℕ) → IsIndirectTarget functions params to → Contains (entries_of functions) to
+target_entry functions params to t =
+    subst (Contains (entries_of functions)) t.entry (contains_map (λ f. f.entry) functions t.function t.among)
 
-clear-behind : (image : Image) → IsLaid image → (row : Row) (to : ℕ) → Contains image.map.rows row → to ≡ after row → IsClear image.map.rows to
-clear-behind image laid row to has is = subst (IsClear image.map.rows) (sym (is ∙ (laid.low row has).2)) (laid.behind row has)
+clear_behind : (image : Image) → IsLaid image → (row : Row) (to : ℕ) → Contains image.map.rows row → to ≡ after row → IsClear image.map.rows to
+clear_behind image laid row to has is = subst (IsClear image.map.rows) (sym (is ∙ (laid.low row has).2)) (laid.behind row has)
 
-pub goes-clear : (image : Image) → IsLaid image → (row : Row) (before : List Step) (step : Step) (to : ℕ) → Contains image.map.rows row
+pub goes_clear : (image : Image) → IsLaid image → (row : Row) (before : List Step) (step : Step) (to : ℕ) → Contains image.map.rows row
     → AreCalled image.map.rows before → RowGoes image.map row before step to → IsClear image.map.rows to
-goes-clear image laid (Jump at target) before step to has called g =
+goes_clear image laid (Jump at target) before step to has called g =
     subst (IsClear image.map.rows) (sym g.1) (laid.place target (inr (inl (laid.leads (Jump at target) has))))
-goes-clear image laid (Branch at taken other) before step to has called (inl g) =
+goes_clear image laid (Branch at taken other) before step to has called (inl g) =
     subst (IsClear image.map.rows) (sym g.1) (laid.place taken (inr (inl (laid.leads (Branch at taken other) has).0)))
-goes-clear image laid (Branch at taken other) before step to has called (inr g) =
+goes_clear image laid (Branch at taken other) before step to has called (inr g) =
     subst (IsClear image.map.rows) (sym g.1) (laid.place other (inr (inl (laid.leads (Branch at taken other) has).1)))
-goes-clear image laid (Call at target) before step to has called g =
+goes_clear image laid (Call at target) before step to has called g =
     subst (IsClear image.map.rows) (sym g.1) (laid.place target (inl (laid.leads (Call at target) has)))
-goes-clear image laid (ICall at params) before step to has called g = laid.place to (inl (target-entry image.map.functions params to g.1))
-goes-clear image laid (Ret at) before step to has called g = laid.place to (inr (inr (returns-site image.map.rows before to called g.1)))
-goes-clear image laid (Begin at op) before step to has called g = absurd g
-goes-clear image laid (End at op) before step to has called g = absurd g
-goes-clear image laid (UseCell at cell) before step to has called g = clear-behind image laid (UseCell at cell) to has g.1
-goes-clear image laid (DefCell at cell) before step to has called g = clear-behind image laid (DefCell at cell) to has g.1
-goes-clear image laid (Check at) before step to has called g = clear-behind image laid (Check at) to has g.1
+goes_clear image laid (ICall at params) before step to has called g = laid.place to (inl (target_entry image.map.functions params to g.1))
+goes_clear image laid (Ret at) before step to has called g = laid.place to (inr (inr (returns_site image.map.rows before to called g.1)))
+goes_clear image laid (Begin at op) before step to has called g = absurd g
+goes_clear image laid (End at op) before step to has called g = absurd g
+goes_clear image laid (UseCell at cell) before step to has called g = clear_behind image laid (UseCell at cell) to has g.1
+goes_clear image laid (DefCell at cell) before step to has called g = clear_behind image laid (DefCell at cell) to has g.1
+goes_clear image laid (Check at) before step to has called g = clear_behind image laid (Check at) to has g.1
 
 -- no branch leads into its own group
-pub branch-apart : (image : Image) → IsLaid image → (at taken other : ℕ) → Contains image.map.rows (Branch at taken other) → at + 8 ≡ taken → ⊥
-branch-apart image laid at taken other has same =
+pub branch_apart : (image : Image) → IsLaid image → (at taken other : ℕ) → Contains image.map.rows (Branch at taken other) → at + 8 ≡ taken → ⊥
+branch_apart image laid at taken other has same =
     let clear = laid.place taken (inr (inl (laid.leads (Branch at taken other) has).0)) in
     let past = clear (Branch at taken other) has (omega arith) in
     omega arith
 
 -- ---- what the tests on targets and return sites find
 
-pub target-any : (functions : List Function) (params to : ℕ) → IsIndirectTarget functions params to → list_any (is_target params to) functions ≡ true
-target-any functions params to t =
+pub target_any : (functions : List Function) (params to : ℕ) → IsIndirectTarget functions params to → list_any (is_target params to) functions ≡ true
+target_any functions params to t =
     let passes : is_target params to t.function ≡ true = rw (eq-eqb t.function.entry to t.entry, eq-eqb t.function.params params t.same_params, t.referenced) refl in
     list_any_at (is_target params to) functions t.among.0 t.function t.among.1 (ap (is_target params to) t.among.2 ∙ passes)
 
-pub returned-any : (rows : List Row) (to : ℕ) → IsReturnSite rows to → list_any (is_returned_to to) rows ≡ true
-returned-any rows to (row, has, call, there) =
+pub returned_any : (rows : List Row) (to : ℕ) → IsReturnSite rows to → list_any (is_returned_to to) rows ≡ true
+returned_any rows to (row, has, call, there) =
     let passes : is_returned_to to row ≡ true = and_from _ _ call (eq-eqb (after row) to there) in
     list_any_at (is_returned_to to) rows has.0 row has.1 (ap (is_returned_to to) has.2 ∙ passes)

@@ -1,1 +1,4 @@
 pub mod Headline
+pub mod Lockstep
+pub mod Honest
+pub mod Worked

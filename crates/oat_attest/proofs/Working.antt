@@ -1,0 +1,172 @@
+-- The worked windows and paths.
+use Rattle.std.proofs.Common.{◌≡◌, ℕ, ◌+◌, ◌*◌, ◌<◌, suc, zero, List, [], ◌∷◌, ◌++◌, map, take, Some, Contains, length, ◌≤◌, refl, sym, ap, subst, ◌∙◌, arith, inl, inr}
+use Rattle.std.specs.List.{slice_get}
+use Rattle.std.specs.Option.{option_and_then}
+use Rattle.oat_map.specs.declared.edge.Edge.{Edge}
+use Rattle.oat_map.specs.declared.edge.Edge.TheVariants as edges
+use Rattle.oat_map.specs.declared.row.Row.{Row}
+use Rattle.oat_map.specs.declared.row.Row.TheVariants as rows
+use Rattle.oat_map.specs.Walk.{Step, passed, moved, Returns, LastCall, depth, return_site_of}
+use Rattle.oat_map.proofs.WalkLemmas.{Returns-one}
+use Rattle.oat_journal.specs.Run.{Entry, pc_of}
+use Rattle.oat_attest.specs.Headline.{IsUseBy, IsLoadBy, ReadByLoad, AllReadByLoad}
+use Rattle.oat_attest.specs.Lockstep.{Placed, placed, Makes, Executes, PassesCells, PartsAt, AllReturnsMatch, PartsAtFirst}
+use Rattle.oat_a64.specs.declared.inst.Inst.TheVariants.{Movz, Ldr, Svc}
+use Rattle.oat_mem.specs.DataMemory.{word_in}
+use Rattle.oat_attest.proofs.Lists.{get-contains}
+use Rattle.oat_attest.specs.Worked.{two_uses, two_uses_map, made_at, use_at, both_passed, cells_used, TwoUses, three_calls, run_of_three, path_of_three, SecondIsFalse}
+
+-- ---- two uses
+
+paired : (memory : ℕ → ℕ) → Executes two_uses 1 [] 0x10008 both_passed (use_at memory 0x10008 ++ use_at memory 0x1001C) 0x10030 []
+paired memory = (
+  rows.UseCell 0x10008 0,
+  0x1001C,
+  use_at memory 0x1001C,
+  (refl, refl),
+  record {
+    stands = (_, refl, refl);
+    at_row = refl;
+    way = [];
+    quiet = tt;
+    group = use_at memory 0x10008;
+    made = (_, refl);
+    shows = refl;
+    whole = refl;
+  },
+  (
+    rows.UseCell 0x1001C 0,
+    0x10030,
+    [],
+    (refl, refl),
+    record {
+      stands = (_, refl, refl);
+      at_row = refl;
+      way = [];
+      quiet = tt;
+      group = use_at memory 0x1001C;
+      made = (_, refl);
+      shows = refl;
+      whole = refl;
+    },
+    (refl, refl),
+  ),
+)
+
+first_at : (x y : Placed) (xs ys : List Placed) → x ∷ xs ≡ y ∷ ys → x.at ≡ y.at
+first_at x y xs ys h = ap (λ (p : Placed). p.at) (let same : x ≡ y = cc in same)
+
+apart : (memory : ℕ → ℕ) (to : ℕ) (rest : List Entry) → (m : Makes two_uses 1 0x10008 (rows.UseCell 0x10008 0) [] to (use_at memory 0x10008 ++ use_at memory 0x1001C) rest)
+    → m.group ≡ use_at memory 0x1001C → ⊥
+apart memory to rest m is =
+    let same = first_at _ _ _ _ (sym (ap (map placed) is) ∙ m.made.1) in
+    absurd (omega arith)
+
+some_entry : (e f : Entry) → Some e ≡ Some f → e ≡ f
+some_entry e f h = cc
+
+other_place : (there : ℕ) → there ≡ 0x1001C → there ≡ 0x10008 → ⊥
+other_place there one two = omega arith
+
+exchanged : (memory : ℕ → ℕ) (place : ℕ) (rest : List Entry) → Executes two_uses 1 [] 0x10008 both_passed (use_at memory 0x1001C ++ use_at memory 0x10008) place rest → ⊥
+exchanged memory place rest (row, to, others, goes, m, on) =
+    let (first, is, stands) = m.stands in
+    other_place (pc_of first) (ap pc_of (sym (some_entry _ _ is))) stands
+
+-- what stands at these places of the map
+use_row : (k : ℕ) (row : Row) (call : Entry) (cell : ℕ) → pc_of call ≡ 0x1002C → slice_get two_uses_map.rows k ≡ Some row → IsUseBy row call cell → row ≡ rows.UseCell 0x1001C 0
+use_row zero row call cell there is by =
+    let same : rows.Begin 0x10000 1 ≡ row = cc in
+    absurd (subst (λ (r : Row). IsUseBy r call cell) (sym same) by)
+use_row (suc zero) row call cell there is by =
+    let same : rows.UseCell 0x10008 0 ≡ row = cc in
+    let own : IsUseBy (rows.UseCell 0x10008 0) call cell = subst (λ (r : Row). IsUseBy r call cell) (sym same) by in
+    let at = own.0 in
+    absurd (omega arith)
+use_row (suc (suc zero)) row call cell there is by = let same : rows.UseCell 0x1001C 0 ≡ row = cc in sym same
+use_row (suc (suc (suc zero))) row call cell there is by =
+    let same : rows.End 0x10030 1 ≡ row = cc in
+    absurd (subst (λ (r : Row). IsUseBy r call cell) (sym same) by)
+use_row (suc (suc (suc (suc k)))) row call cell there is by = absurd (cc)
+
+-- no instruction of the window is the second row's load
+no_load : (memory : ℕ → ℕ) (k : ℕ) (load : Entry) → slice_get (made_at memory 0x10010 (Ldr 10 11 0) ∷ made_at memory 0x10028 (Movz 9 0 0) ∷ made_at memory 0x1002C (Svc 7) ∷ []) k ≡ Some load
+    → pc_of load ≡ 0x10024 → ⊥
+no_load memory zero load is there = let here : 0x10010 ≡ pc_of load = ap pc_of (some_entry _ _ is) in omega arith
+no_load memory (suc zero) load is there = let here : 0x10028 ≡ pc_of load = ap pc_of (some_entry _ _ is) in omega arith
+no_load memory (suc (suc zero)) load is there = let here : 0x1002C ≡ pc_of load = ap pc_of (some_entry _ _ is) in omega arith
+no_load memory (suc (suc (suc k))) load is there = absurd (cc)
+
+other_load : (memory : ℕ → ℕ) → AllReadByLoad two_uses (made_at memory 0x10010 (Ldr 10 11 0) ∷ made_at memory 0x10028 (Movz 9 0 0) ∷ made_at memory 0x1002C (Svc 7) ∷ []) → ⊥
+other_load memory all =
+    let r = all 2 0 (word_in memory 0x40000000) 0 _ refl refl refl in
+    let row = use_row r.among.0 r.row _ 0 refl (get-contains two_uses_map.rows r.row r.among) r.uses in
+    let loads = subst (λ (x : Row). IsLoadBy x r.load 0x40000000) row r.loads in
+    no_load memory r.before r.load r.stands loads.0
+
+same_cells : (memory : ℕ → ℕ) → PassesCells two_uses_map [] 0x10008 both_passed (cells_used (use_at memory 0x1001C ++ use_at memory 0x10008))
+same_cells memory =
+    (rows.UseCell 0x10008 0, refl, 0x1001C, (refl, refl), 0 ∷ [], 0 ∷ [], refl, (rows.UseCell 0x1001C 0, refl, 0x10030, (refl, refl), 0 ∷ [], [], refl, refl, refl), refl)
+
+pub two_uses_are_paired : (memory : ℕ → ℕ) → TwoUses memory
+two_uses_are_paired memory = record {
+  paired = paired memory;
+  apart = apart memory;
+  exchanged = exchanged memory;
+  same_cells = same_cells memory;
+  other_load = other_load memory;
+}
+
+-- ---- three calls
+
+-- no step stands behind the last one
+none_past : (steps : List Step) (later site : ℕ) → length steps ≤ later → option_and_then return_site_of (slice_get steps later) ≡ Some site → ⊥
+none_past [] later site past called = cc
+none_past (step ∷ steps) zero site past called = omega arith
+none_past (step ∷ steps) (suc later) site past called = none_past steps later site (omega arith) called
+
+-- the calls that are open before the third return, and before the second
+third_matches : Returns (map moved three_calls) 0x108
+third_matches = record {
+  level = 0;
+  open_calls = refl;
+  place = 4;
+  matching = record { call = refl; at_level = refl; last = λ later site past called. absurd (none_past (map moved three_calls) later site (omega arith) called) };
+}
+
+second_matches : Returns (map moved (edges.Call 0x100 0x200 ∷ edges.Ret 0x200 0x104 ∷ edges.Call 0x104 0x200 ∷ [])) 0x108
+second_matches = record {
+  level = 0;
+  open_calls = refl;
+  place = 2;
+  matching = record { call = refl; at_level = refl; last = λ later site past called. absurd (none_past (map moved (edges.Call 0x100 0x200 ∷ edges.Ret 0x200 0x104 ∷ edges.Call 0x104 0x200 ∷ [])) later site (omega arith) called) };
+}
+
+earlier : AllReturnsMatch three_calls → ⊥
+earlier all =
+    let second = all (edges.Call 0x100 0x200 ∷ edges.Ret 0x200 0x104 ∷ edges.Call 0x104 0x200 ∷ []) (edges.Call 0x104 0x200 ∷ []) 0x200 0x104 refl in
+    let same = Returns-one _ 0x104 0x108 second second_matches in
+    omega arith
+
+pub second_is_false : SecondIsFalse
+second_is_false = record {
+  parting = record {
+    common = three_calls;
+    from = 0x200;
+    run_to = 0x104;
+    to = 0x108;
+    shown = edges.Ret 0x200 0x104;
+    run_rest = [];
+    rest = edges.End 1 ∷ [];
+    later = [];
+    run_is = refl;
+    path_is = refl;
+    returned = inl refl;
+    returns_are = refl;
+    matching = third_matches;
+    false_return = λ same. omega arith;
+  };
+  third = refl;
+  earlier = earlier;
+  not_first = λ p is. earlier (subst AllReturnsMatch is p.first);
+}

@@ -1,0 +1,76 @@
+-- Honest runs: a window in which each return goes back to the site of its call is a walk, and its blob is accepted (docs/PROMISES.md).
+use Rattle.std.specs.Prelude.{◌≡◌, ◌↔◌, ◌≤◌, ℕ, ℤ, List, [], length, None}
+use Rattle.std.specs.List.{All}
+use Rattle.oat_a64.specs.Step.{next_pc}
+use Rattle.oat_blob.specs.Layout.{IsBlobOf}
+use Rattle.oat_case.specs.declared.case.Session.{Session}
+use Rattle.oat_case.specs.declared.case.Write.{Write}
+use Rattle.oat_chain.specs.Chain.{chain}
+use Rattle.oat_image.specs.declared.image.Image.{Image}
+use Rattle.oat_image.specs.Grammar.{IsWellFormed}
+use Rattle.oat_map.specs.Walk.{Step, Walk, path_of, bits_of, targets_of, returns_of, path_limit}
+use Rattle.oat_journal.specs.Run.{Entry, Given}
+use Rattle.oat_shape.specs.Shape.{IsShaped}
+use Rattle.oat_map.specs.Rows.{BeginsAt}
+use Rattle.oat_journal.specs.Uses.{IsSound}
+use Rattle.oat_journal.specs.Window.{executed_path, bits_of_run, targets_of_run, returns_of_run}
+use Rattle.oat_journal.specs.Measured.{Run, dev, IsSealed, body_of, window_of, uses_of}
+use Rattle.oat_journal.specs.Trace.{IsTrace}
+use Rattle.oat_verify.specs.Verdict.{Accepts, IsVerdict, subject_of, head_of}
+use Rattle.oat_verify.specs.declared.verdict.Verdict.{Verdict}
+use Rattle.oat_verify.specs.declared.verdict.Verdict.TheVariants.{Accept}
+use Rattle.oat_attest.specs.Headline.{IsSetting, opening_of}
+use Rattle.oat_attest.specs.Lockstep.{ExecutesWalk}
+use Rattle.oat_map.specs.Turns.{GoesBack, turn_of}
+
+-- A window executes a walk of the operation, shows its path and its records, and has at least one instruction for each step.
+pub record IsWalkOf (image : Image) (op : ℕ) (window : List Entry) : Type 0 where
+  pub steps : List Step
+  pub walk : Walk image.map op steps
+  pub executes : ExecutesWalk image op steps walk window
+  pub path : executed_path image.map op window ≡ path_of steps
+  pub bits : bits_of (path_of steps) ≡ bits_of_run window
+  pub targets : targets_of (path_of steps) ≡ targets_of_run window
+  pub returns : returns_of (path_of steps) ≡ returns_of_run window
+  pub short : length steps ≤ length window
+
+-- A trace that goes back as it called is a walk: for every image with the shape, from behind the call that opens the operation's window.
+abbrev pub TracesAreWalks : Type 0
+TracesAreWalks =
+    (image : Image) (op begin_at : ℕ) (window : List Entry) → IsWellFormed image → IsShaped image → BeginsAt image.map op begin_at
+    → IsTrace image.code op (next_pc begin_at) window → GoesBack turn_of [] (executed_path image.map op window) → IsWalkOf image op window
+
+-- the sealed runs of an image, whatever was given and written, whose executed path goes back as it called
+abbrev pub OfHonestRuns : ((image : Image) → Session → ℕ → ℕ → Run → Type 0) → Type 0
+OfHonestRuns claim =
+    (image : Image) (session : Session) (begin_at : ℕ) → IsSetting image session begin_at
+    → (inputs : List ℤ) (writes : List Write) (n : ℕ) → Given inputs writes
+    → let o = opening_of image session begin_at in
+    let run = dev image o inputs writes n in
+    IsSealed run → GoesBack turn_of [] (executed_path image.map session.op (window_of o run)) → claim image session begin_at n run
+
+-- The window is that of a walk, with the records that the run reports, and with no more steps than the run has instructions.
+pub record IsWalkOfRun (image : Image) (session : Session) (begin_at n : ℕ) (run : Run) : Type 0 where
+  pub walk : IsWalkOf image session.op (window_of (opening_of image session begin_at) run)
+  pub bits : bits_of (path_of walk.steps) ≡ run.state.bits
+  pub targets : targets_of (path_of walk.steps) ≡ run.state.targets
+  pub hash : run.state.hash ≡ chain (head_of (subject_of image session)) (returns_of (path_of walk.steps))
+  pub within : length walk.steps ≤ n
+
+abbrev pub HonestRunsWalk : Type 0
+HonestRunsWalk = OfHonestRuns IsWalkOfRun
+
+-- Honest runs are accepted: without a violation, and after at most so many instructions as a walk may have steps, the blob of the body is accepted with the executed path.
+abbrev pub HonestRunsAreAccepted : Type 0
+HonestRunsAreAccepted = OfHonestRuns (λ image session begin_at n run.
+    run.state.violation ≡ None → n ≤ path_limit → (bytes : List ℕ)
+    → IsBlobOf (body_of (opening_of image session begin_at) run.state) session.key bytes
+    → Accepts (subject_of image session) bytes (executed_path image.map session.op (window_of (opening_of image session begin_at) run)))
+
+-- The same as `verify` sees it: where each checked use was sound, the one verdict on the blob is the acceptance of the executed path.
+abbrev pub SoundRunsAreAccepted : Type 0
+SoundRunsAreAccepted = OfHonestRuns (λ image session begin_at n run.
+    All IsSound (uses_of image (opening_of image session begin_at) run) → n ≤ path_limit → (bytes : List ℕ)
+    → IsBlobOf (body_of (opening_of image session begin_at) run.state) session.key bytes
+    → (v : Verdict)
+    → IsVerdict (subject_of image session) bytes v ↔ (v ≡ Accept (executed_path image.map session.op (window_of (opening_of image session begin_at) run))))

@@ -1,0 +1,92 @@
+-- Worked windows and paths that tell the statements apart from weaker ones: from equal lists of cells, from a load somewhere, and from a false return somewhere.
+use Rattle.std.specs.Prelude.{◌≡◌, ◌+◌, ◌==◌, if◌then◌else◌, ℕ, List, [], ◌∷◌, ◌++◌, map, codes, false}
+use Rattle.oat_a64.specs.declared.inst.Inst.{Inst}
+use Rattle.oat_a64.specs.declared.inst.Inst.TheVariants.{Movz, Movk, Ldr, Svc}
+use Rattle.oat_a64.specs.Step.{Regs, Machine, act, first_regs}
+use Rattle.oat_mem.specs.DataMemory.{word_in}
+use Rattle.oat_map.specs.declared.edge.Edge.{Edge}
+use Rattle.oat_map.specs.declared.edge.Edge.TheVariants as edges
+use Rattle.oat_map.specs.declared.map.Map.{Map}
+use Rattle.oat_map.specs.declared.row.Row.TheVariants as rows
+use Rattle.oat_map.specs.Walk.{Step, passed}
+use Rattle.oat_image.specs.declared.image.Image.{Image}
+use Rattle.oat_journal.specs.Run.{Entry}
+use Rattle.oat_attest.specs.Headline.{uses_in, AllReadByLoad}
+use Rattle.oat_attest.specs.Lockstep.{Makes, Executes, PassesCells, PartsAt, AllReturnsMatch, PartsAtFirst}
+
+-- ---- an operation that uses one cell at two rows
+
+abbrev pub two_uses_map : Map
+two_uses_map = record {
+  functions = record { entry = 0x10000; name = codes "main"; params = 0; referenced = false } ∷ [];
+  blocks = [];
+  rows = rows.Begin 0x10000 1 ∷ rows.UseCell 0x10008 0 ∷ rows.UseCell 0x1001C 0 ∷ rows.End 0x10030 1 ∷ [];
+}
+
+abbrev pub two_uses : Image
+two_uses = record {
+  code =
+      0xD2800029 ∷ 0xD4000021 ∷ 0xD280000B ∷ 0xF2A8000B ∷ 0xF940016A ∷ 0xD2800009 ∷ 0xD40000E1
+      ∷ 0xD280000B ∷ 0xF2A8000B ∷ 0xF940016A ∷ 0xD2800009 ∷ 0xD40000E1 ∷ 0xD2800029 ∷ 0xD4000041 ∷ 0xD4000001 ∷ [];
+  words = [];
+  cells = 0 ∷ [];
+  map = two_uses_map;
+}
+
+-- an instruction that is made at an address, where X9, X10 and X11 hold the cell's number, its word and that word's address
+abbrev pub regs_at : (ℕ → ℕ) → ℕ → Regs
+regs_at memory pc = record first_regs {
+  x = λ k. if k == 10 then word_in memory 0x40000000 else (if k == 11 then 0x40000000 else 0);
+  pc = pc;
+}
+
+abbrev pub made_at : (ℕ → ℕ) → ℕ → Inst → Entry
+made_at memory pc inst =
+    let m : Machine = record { regs = regs_at memory pc; memory = memory } in
+    record { inst = inst; found = m; left = (act inst m).machine.regs }
+
+-- the group of a UseCell row of cell 0
+abbrev pub use_at : (ℕ → ℕ) → ℕ → List Entry
+use_at memory at =
+    made_at memory at (Movz 11 0 0) ∷ made_at memory (at + 4) (Movk 11 1 0x4000) ∷ made_at memory (at + 8) (Ldr 10 11 0)
+    ∷ made_at memory (at + 12) (Movz 9 0 0) ∷ made_at memory (at + 16) (Svc 7) ∷ []
+
+abbrev pub both_passed : List Step
+both_passed = passed ∷ passed ∷ []
+
+abbrev pub cells_used : List Entry → List ℕ
+cells_used window = map (λ checked. checked.cell) (uses_in two_uses [] window)
+
+pub record TwoUses (memory : ℕ → ℕ) : Type 0 where
+  -- the two rows are passed by their two groups, in order
+  pub paired : Executes two_uses 1 [] 0x10008 both_passed (use_at memory 0x10008 ++ use_at memory 0x1001C) 0x10030 []
+  -- the first row isn't passed by the second group
+  pub apart : (to : ℕ) (rest : List Entry)
+      → (m : Makes two_uses 1 0x10008 (rows.UseCell 0x10008 0) [] to (use_at memory 0x10008 ++ use_at memory 0x1001C) rest)
+      → m.group ≡ use_at memory 0x1001C → ⊥
+  -- a window that makes the two groups the other way round doesn't execute the passes, though it uses the same cells as the rows
+  pub exchanged : (place : ℕ) (rest : List Entry)
+      → Executes two_uses 1 [] 0x10008 both_passed (use_at memory 0x1001C ++ use_at memory 0x10008) place rest → ⊥
+  pub same_cells : PassesCells two_uses_map [] 0x10008 both_passed (cells_used (use_at memory 0x1001C ++ use_at memory 0x10008))
+  -- and a use isn't read by the load of the other group, though that stands two instructions before it and reads the cell's word
+  pub other_load : AllReadByLoad two_uses (made_at memory 0x10010 (Ldr 10 11 0) ∷ made_at memory 0x10028 (Movz 9 0 0) ∷ made_at memory 0x1002C (Svc 7) ∷ []) → ⊥
+
+-- ---- three calls, of which the second returns to the first one's site again
+
+abbrev pub three_calls : List Edge
+three_calls =
+    edges.Call 0x100 0x200 ∷ edges.Ret 0x200 0x104 ∷ edges.Call 0x104 0x200 ∷ edges.Ret 0x200 0x104 ∷ edges.Call 0x104 0x200 ∷ []
+
+abbrev pub run_of_three : List Edge
+run_of_three = three_calls ++ edges.Ret 0x200 0x104 ∷ []
+
+abbrev pub path_of_three : List Edge
+path_of_three = three_calls ++ edges.Ret 0x200 0x108 ∷ edges.End 1 ∷ []
+
+pub record SecondIsFalse : Type 0 where
+  -- they part at the third return, which is false
+  pub parting : PartsAt run_of_three (0x104 ∷ 0x104 ∷ 0x104 ∷ []) path_of_three
+  pub third : parting.common ≡ three_calls
+  -- but the second is false before it, so that this isn't the first false return
+  pub earlier : AllReturnsMatch three_calls → ⊥
+  pub not_first : (p : PartsAtFirst run_of_three (0x104 ∷ 0x104 ∷ 0x104 ∷ []) path_of_three) → p.parting.common ≡ three_calls → ⊥
