@@ -1,5 +1,5 @@
 -- What follows of a window that executes steps: its path, its records, where it leads, the cells that it uses.
-use Rattle.std.proofs.Common.{◌≡◌, ◌≢◌, ℕ, zero, suc, ◌+◌, ◌≤◌, Bool, true, false, not, eqb, List, [], ◌∷◌, ◌++◌, length, map, Contains, Option, Some, None, refl, sym, ap, ap₂, subst, ◌∙◌, inl, inr, arith, append_assoc, length-append}
+use Rattle.std.proofs.Common.{◌≡◌, ℕ, ◌+◌, ◌≤◌, Bool, true, false, not, List, [], ◌∷◌, ◌++◌, length, map, Contains, Option, Some, None, refl, sym, ap, ap₂, subst, ◌∙◌, inl, inr, arith, append_assoc, length-append}
 use Rattle.std.specs.List.{slice_get, filter_map, cons_option}
 use Rattle.std.specs.Option.{option_map}
 use Rattle.std.proofs.lemmas.Bool.{ne_eqb}
@@ -10,14 +10,13 @@ use Rattle.oat_map.specs.declared.edge.Edge.TheVariants as edges
 use Rattle.oat_map.specs.declared.map.Map.{Map}
 use Rattle.oat_map.specs.declared.row.Row.{Row}
 use Rattle.oat_map.specs.declared.row.Row.TheVariants as rows
-use Rattle.oat_map.specs.Rows.{next}
-use Rattle.oat_map.specs.Walk.{Step, passed, moved, edge_of as step_edge, path_of, bit_of, bits_of, target_of, targets_of, return_of, returns_of, RowGoes, Leads}
+use Rattle.oat_map.specs.Walk.{Step, moved, edge_of as step_edge, path_of, bit_of, bits_of, target_of, targets_of, return_of, returns_of, RowGoes, Leads}
 use Rattle.oat_image.specs.declared.image.Image.{Image}
-use Rattle.oat_measure.specs.Monitor.{Call, bit, target, returns, ends, defines, uses, seals}
+use Rattle.oat_measure.specs.Monitor.{Call, uses}
 use Rattle.oat_journal.specs.Run.{Entry}
 use Rattle.oat_a64.specs.Kinds.{is_transfer}
-use Rattle.oat_journal.specs.Window.{made_call, edge_of, executed_path, is_made, returned, recorded_bit, recorded_target}
-use Rattle.oat_attest.specs.Lockstep.{Placed, placed, plain, calling, AreQuiet, IsGroupRun, Makes, Executes, IsUsedBy, PassesCells}
+use Rattle.oat_journal.specs.Window.{made_call, edge_of, executed_path, returned, recorded_bit, recorded_target}
+use Rattle.oat_attest.specs.Lockstep.{Placed, placed, AreQuiet, IsGroupRun, Makes, Executes, IsUsedBy, PassesCells}
 use Rattle.oat_attest.proofs.Laid.{IsLaid}
 
 -- ---- what is seen of instructions

@@ -20,14 +20,14 @@ use Rattle.oat_blob.proofs.OneLayout.{one_body}
 use Rattle.oat_journal.specs.Run.{Entry, Given, start_memory}
 use Rattle.oat_mem.specs.DataMemory.{global_address, word_in}
 use Rattle.oat_journal.specs.Journal.{IsMade}
-use Rattle.oat_journal.specs.Window.{made_call, executed_path, returned, recorded_bit, bits_of_run, recorded_target, targets_of_run, returns_of_run}
+use Rattle.oat_journal.specs.Window.{made_call, executed_path, returned, bits_of_run, targets_of_run, returns_of_run}
 use Rattle.oat_journal.specs.Uses.{CheckedUse, defined_value, use_behind, uses_behind}
 use Rattle.oat_journal.specs.Measured.{dev, body_of, window_of, start_cells}
 use Rattle.oat_journal.specs.Trace.{IsQuiet, IsTrace}
 use Rattle.oat_journal.proofs.Traces.{windows_are_traces, runs_report_their_window}
 use Rattle.oat_verify.specs.Verdict.{Accepts, subject_of}
 use Rattle.oat_attest.specs.Headline.{IsSetting, opening_of, IsReported, calls_before}
-use Rattle.oat_attest.specs.Lockstep.{placed, Makes, Executes, ExecutesWalk, ExecutesUpToFirst, TakesPath, PassesCells, SamePath, Lockstep}
+use Rattle.oat_attest.specs.Lockstep.{placed, Makes, ExecutesWalk, ExecutesUpToFirst, PassesCells, SamePath, Lockstep}
 use Rattle.oat_attest.proofs.Laid.{IsLaid, laid, end_of, IsClear}
 use Rattle.oat_attest.proofs.Stretches.{Runs, last, more, GoesOn, moved_to, moved_itself}
 use Rattle.oat_attest.proofs.Executing.{seen, used, Agree, returns_agree, makes_path, makes_seen, makes_length, executed_seen, executed_edges, executed_leads, executed_length, executed_cells}

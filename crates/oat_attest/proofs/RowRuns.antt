@@ -1,5 +1,5 @@
 -- What a run does from a clear address on, by the row that it comes to next.
-use Rattle.std.proofs.Common.{append-nil, ◌≡◌, ℕ, ◌+◌, ◌⊎◌, Bool, true, false, cond, eqb, List, [], ◌∷◌, ◌++◌, map, Contains, Option, Some, refl, sym, ap, subst, ◌∙◌, inl, inr}
+use Rattle.std.proofs.Common.{append-nil, ◌≡◌, ℕ, ◌+◌, ◌⊎◌, Bool, true, false, cond, eqb, List, [], ◌∷◌, ◌++◌, Contains, Some, refl, sym, ap, subst, ◌∙◌, inl, inr}
 use Rattle.std.specs.List.{list_any}
 use Rattle.std.proofs.lemmas.Bool.{cases_Bool, and_parts, eqb-true, eq-eqb}
 use Rattle.std.proofs.lemmas.List.Folds.{Any-from_list_any}
@@ -7,17 +7,16 @@ use Rattle.oat_a64.specs.Step.{Regs}
 use Rattle.oat_map.specs.declared.edge.Edge.{Edge}
 use Rattle.oat_map.specs.declared.edge.Edge.TheVariants as edges
 use Rattle.oat_map.specs.declared.map.Function.{Function}
-use Rattle.oat_map.specs.declared.map.Map.{Map}
 use Rattle.oat_map.specs.declared.row.Row.{Row}
 use Rattle.oat_map.specs.declared.row.Row.TheVariants as rows
 use Rattle.oat_map.specs.Rows.{address_of, after, next, IsIndirectTarget}
 use Rattle.oat_image.specs.declared.image.Image.{Image}
-use Rattle.oat_measure.specs.Monitor.{Call, bit, ends}
+use Rattle.oat_measure.specs.Monitor.{bit}
 use Rattle.oat_journal.specs.Run.{Entry}
 use Rattle.oat_shape.specs.Shape.{IsReturnSite}
-use Rattle.oat_journal.specs.Window.{edge_over, executed_path, is_target, is_returned_to}
+use Rattle.oat_journal.specs.Window.{edge_over, is_target, is_returned_to}
 use Rattle.oat_attest.specs.Headline.{AllReadByLoad}
-use Rattle.oat_attest.specs.Lockstep.{Placed, placed, plain, calling, IsGroupRun, Makes}
+use Rattle.oat_attest.specs.Lockstep.{Placed, plain, calling, IsGroupRun, Makes}
 use Rattle.oat_attest.proofs.Laid.{IsLaid, IsClear}
 use Rattle.oat_attest.proofs.Places.{branch_apart, target_any, returned_any}
 use Rattle.oat_attest.proofs.Stretches.{Runs, moved_to, runs_stand, Crossed, Skipped}
@@ -130,17 +129,21 @@ run_icall image op from at params es come =
     let v = r.x 9 in
     elim (cases_Bool (list_any (is_target params v) image.map.functions)) [
       | inl any ↦
-          let edge : edge_over image.map (Some row) (at + 4) v ≡ Some (edges.ICall at v) = ap (λ (t : Bool). cond t (Some (edges.ICall at v)) (Some (edges.Stray (at + 4) v))) any in
-          (v, inl (
-            any_target image.map.functions params v any,
-            past image op from row (edges.ICall at v ∷ []) v es _ come (cross_icall image come.laid op at params come.has r come.skipped.rest (edges.ICall at v) edge come.skipped.runs) refl,
-          ))
+          let edge : edge_over image.map (Some row) (at + 4) v ≡ Some (edges.ICall at v) = ap (λ (t : Bool). cond t (Some (edges.ICall at v)) (Some (edges.Stray (at + 4) v))) any in (
+            v,
+            inl (
+              any_target image.map.functions params v any,
+              past image op from row (edges.ICall at v ∷ []) v es _ come (cross_icall image come.laid op at params come.has r come.skipped.rest (edges.ICall at v) edge come.skipped.runs) refl,
+            ),
+          )
       | inr none ↦
-          let edge : edge_over image.map (Some row) (at + 4) v ≡ Some (edges.Stray (at + 4) v) = ap (λ (t : Bool). cond t (Some (edges.ICall at v)) (Some (edges.Stray (at + 4) v))) none in
-          (v, inr (
-            λ target. never (list_any (is_target params v) image.map.functions) none (target_any image.map.functions params v target),
-            past image op from row (edges.Stray (at + 4) v ∷ []) v es _ come (cross_icall image come.laid op at params come.has r come.skipped.rest (edges.Stray (at + 4) v) edge come.skipped.runs) refl,
-          ))
+          let edge : edge_over image.map (Some row) (at + 4) v ≡ Some (edges.Stray (at + 4) v) = ap (λ (t : Bool). cond t (Some (edges.ICall at v)) (Some (edges.Stray (at + 4) v))) none in (
+            v,
+            inr (
+              λ target. never (list_any (is_target params v) image.map.functions) none (target_any image.map.functions params v target),
+              past image op from row (edges.Stray (at + 4) v ∷ []) v es _ come (cross_icall image come.laid op at params come.has r come.skipped.rest (edges.Stray (at + 4) v) edge come.skipped.runs) refl,
+            ),
+          )
     ]
 
 run_ret : (image : Image) (op from at : ℕ) (es : List Entry) → Come image op from (rows.Ret at) es → RowRuns image op from (rows.Ret at) es
@@ -150,17 +153,21 @@ run_ret image op from at es come =
     let v = r.x 30 in
     elim (cases_Bool (list_any (is_returned_to v) image.map.rows)) [
       | inl any ↦
-          let edge : edge_over image.map (Some row) (at + 4) v ≡ Some (edges.Ret at v) = ap (λ (t : Bool). cond t (Some (edges.Ret at v)) (Some (edges.Stray (at + 4) v))) any in
-          (v, inl (
-            any_returned image.map.rows v any,
-            past image op from row (edges.Ret at v ∷ []) v es _ come (cross_ret image come.laid op at come.has r come.skipped.rest (edges.Ret at v) edge come.skipped.runs) refl,
-          ))
+          let edge : edge_over image.map (Some row) (at + 4) v ≡ Some (edges.Ret at v) = ap (λ (t : Bool). cond t (Some (edges.Ret at v)) (Some (edges.Stray (at + 4) v))) any in (
+            v,
+            inl (
+              any_returned image.map.rows v any,
+              past image op from row (edges.Ret at v ∷ []) v es _ come (cross_ret image come.laid op at come.has r come.skipped.rest (edges.Ret at v) edge come.skipped.runs) refl,
+            ),
+          )
       | inr none ↦
-          let edge : edge_over image.map (Some row) (at + 4) v ≡ Some (edges.Stray (at + 4) v) = ap (λ (t : Bool). cond t (Some (edges.Ret at v)) (Some (edges.Stray (at + 4) v))) none in
-          (v, inr (
-            λ site. never (list_any (is_returned_to v) image.map.rows) none (returned_any image.map.rows v site),
-            past image op from row (edges.Stray (at + 4) v ∷ []) v es _ come (cross_ret image come.laid op at come.has r come.skipped.rest (edges.Stray (at + 4) v) edge come.skipped.runs) refl,
-          ))
+          let edge : edge_over image.map (Some row) (at + 4) v ≡ Some (edges.Stray (at + 4) v) = ap (λ (t : Bool). cond t (Some (edges.Ret at v)) (Some (edges.Stray (at + 4) v))) none in (
+            v,
+            inr (
+              λ site. never (list_any (is_returned_to v) image.map.rows) none (returned_any image.map.rows v site),
+              past image op from row (edges.Stray (at + 4) v ∷ []) v es _ come (cross_ret image come.laid op at come.has r come.skipped.rest (edges.Stray (at + 4) v) edge come.skipped.runs) refl,
+            ),
+          )
     ]
 
 -- a row that is passed leads behind its group

@@ -1,6 +1,6 @@
 -- The window of an honest sealed run is a walk, and its blob is accepted.
-use Rattle.std.proofs.Common.{◌≡◌, ◌⊎◌, inl, inr, ℕ, suc, ◌+◌, ◌≤◌, true, eqb, List, [], ◌∷◌, ◌++◌, Option, Some, None, refl, sym, ap, subst, ◌∙◌, arith, append-nil, length-append}
-use Rattle.std.specs.List.{slice_get, filter_map}
+use Rattle.std.proofs.Common.{◌≡◌, ◌⊎◌, inl, inr, ℕ, suc, true, eqb, List, [], ◌∷◌, ◌++◌, Some, None, refl, sym, ap, subst, ◌∙◌, arith}
+use Rattle.std.specs.List.{slice_get}
 use Rattle.std.proofs.lemmas.Bool.{eq-eqb}
 use Rattle.std.proofs.lemmas.List.Elements.{All-contains}
 use Rattle.oat_a64.specs.Step.{next_pc}
@@ -8,15 +8,13 @@ use Rattle.oat_chain.specs.Chain.{chain}
 use Rattle.oat_map.specs.declared.edge.Edge.{Edge}
 use Rattle.oat_map.specs.declared.edge.Edge.TheVariants as edges
 use Rattle.oat_map.specs.declared.row.Row.TheVariants.{Begin}
-use Rattle.oat_map.specs.declared.row.Row.TheVariants as rows
 use Rattle.oat_map.specs.Rows.{after}
-use Rattle.oat_map.specs.Walk.{Step, moved, Walk, path_of, bit_of, bits_of, target_of, targets_of, return_of, returns_of}
+use Rattle.oat_map.specs.Walk.{moved, Walk, bit_of, bits_of, target_of, targets_of, return_of, returns_of}
 use Rattle.oat_map.proofs.StackLemmas.{IsStack-empty}
-use Rattle.oat_image.specs.declared.image.Image.{Image}
-use Rattle.oat_measure.specs.Monitor.{Call, begins, ends}
+use Rattle.oat_measure.specs.Monitor.{begins, ends}
 use Rattle.oat_journal.specs.Run.{Entry}
 use Rattle.oat_journal.specs.Uses.{CheckedUse, IsSound}
-use Rattle.oat_journal.specs.Window.{made_call, executed_path, returned, recorded_bit, recorded_target, returns_of_run, bits_of_run, targets_of_run}
+use Rattle.oat_journal.specs.Window.{made_call, executed_path, returned, recorded_bit, recorded_target}
 use Rattle.oat_journal.specs.Measured.{dev, body_of, window_of, uses_of, first_unsound}
 use Rattle.oat_journal.specs.Trace.{IsQuiet, IsTrace}
 use Rattle.oat_journal.proofs.Reports.{runs_report_exactly}
@@ -27,14 +25,12 @@ use Rattle.oat_verify.specs.declared.verdict.Verdict.TheVariants.{Accept}
 use Rattle.oat_attest.specs.Headline.{opening_of}
 use Rattle.oat_attest.specs.Honest.{TracesAreWalks, HonestRunsWalk, HonestRunsAreAccepted, SoundRunsAreAccepted}
 use Rattle.oat_attest.specs.Lockstep.{ExecutesWalk}
-use Rattle.oat_map.specs.Turns.{GoesBack, turn_of}
 use Rattle.oat_attest.proofs.Lists.{contains-get}
 use Rattle.oat_attest.proofs.Laid.{laid}
 use Rattle.oat_attest.proofs.Stretches.{Runs, moved_to}
 use Rattle.oat_attest.proofs.Places.{called_none}
-use Rattle.oat_attest.proofs.CellCrossings.{BegunBy}
-use Rattle.oat_attest.proofs.Executing.{seen, bits_agree, targets_agree, returns_agree, executed_seen, executed_leads, executed_length, makes_length}
-use Rattle.oat_attest.proofs.Joining.{trace_runs, starts_at, steps_path, ended_records, walk_path, walk_records, walk_length}
+use Rattle.oat_attest.proofs.Executing.{bits_agree, targets_agree, returns_agree, executed_leads}
+use Rattle.oat_attest.proofs.Joining.{trace_runs, starts_at, walk_path, walk_records, walk_length}
 use Rattle.oat_attest.proofs.Lengths.{window-within}
 use Rattle.oat_attest.proofs.Walking.{NoneBegins, finds}
 

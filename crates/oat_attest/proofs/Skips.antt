@@ -1,5 +1,5 @@
 -- From a clear address, a run makes its quiet way to the next row; where no row is ahead, it never comes to the end that seals.
-use Rattle.std.proofs.Common.{◌≡◌, ℕ, zero, suc, Contains, ◌+◌, ◌*◌, ◌%◌, ◌^◌, ◌<◌, ◌≤◌, ◌⊎◌, Bool, true, false, not, cond, ◌&&◌, ◌||◌, leb, List, [], ◌∷◌, Option, Some, None, refl, sym, ap, ap₂, subst, ◌∙◌, inl, inr, arith, mod-eq_of_lt}
+use Rattle.std.proofs.Common.{◌≡◌, ℕ, zero, suc, Contains, ◌+◌, ◌*◌, ◌%◌, ◌^◌, ◌<◌, ◌≤◌, ◌⊎◌, Bool, true, false, not, cond, ◌&&◌, ◌||◌, leb, List, [], ◌∷◌, Some, None, refl, sym, ap, ap₂, subst, ◌∙◌, inl, inr, arith, mod-eq_of_lt}
 use Rattle.std.specs.List.{slice_get, find}
 use Rattle.std.proofs.lemmas.Bool.{cases_lt, cases_Bool, or_parts, le-leb, leb-false, ne_eqb}
 use Rattle.oat_a64.specs.declared.inst.Inst.{Inst}
@@ -11,7 +11,7 @@ use Rattle.oat_map.specs.declared.row.Row.TheVariants.{Jump, Branch, Call, ICall
 use Rattle.oat_map.specs.declared.row.Row.TheVariants as rows
 use Rattle.oat_map.specs.Rows.{address_of, next}
 use Rattle.oat_image.specs.declared.image.Image.{Image}
-use Rattle.oat_measure.specs.Monitor.{Call as MonitorCall, ends, uses, call_of, call_numbered}
+use Rattle.oat_measure.specs.Monitor.{ends, uses, call_of, call_numbered}
 use Rattle.oat_shape.specs.Groups.{Stands, IsGroup}
 use Rattle.oat_journal.specs.Run.{Entry, pc_of}
 use Rattle.oat_journal.specs.Journal.{IsMade, takes_input}
@@ -19,7 +19,7 @@ use Rattle.oat_a64.specs.Kinds.{is_measured, is_transfer}
 use Rattle.oat_journal.specs.Window.{made_call}
 use Rattle.oat_attest.proofs.Lists.{get-contains}
 use Rattle.oat_attest.proofs.Laid.{IsLaid, IsNext, IsClear}
-use Rattle.oat_attest.proofs.Stretches.{GoesOn, Runs, no_runs, head_of, moved_to, moved_itself, read_cons, Skipped}
+use Rattle.oat_attest.proofs.Stretches.{Runs, no_runs, head_of, moved_to, moved_itself, read_cons, Skipped}
 
 -- ---- an instruction that is neither a transfer nor measured
 

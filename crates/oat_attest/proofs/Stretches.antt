@@ -1,15 +1,14 @@
 -- Runs of instructions up to the end that seals, and the stretches of them that a row's group makes.
-use Rattle.std.proofs.Common.{◌≡◌, ℕ, zero, suc, true, false, not, List, [], ◌∷◌, ◌++◌, map, Option, Some, None, refl, sym, ap, ap₂, subst, ◌∙◌, arith}
-use Rattle.std.specs.List.{slice_get, cons_option}
+use Rattle.std.proofs.Common.{◌≡◌, ℕ, zero, suc, true, false, not, List, [], ◌∷◌, ◌++◌, map, Option, Some, refl, sym, ap, ap₂, subst, ◌∙◌, arith}
+use Rattle.std.specs.List.{cons_option}
 use Rattle.oat_a64.specs.declared.inst.Inst.{Inst}
 use Rattle.oat_a64.specs.Step.{Regs, Machine, act, instruction_at}
 use Rattle.oat_map.specs.declared.edge.Edge.{Edge}
 use Rattle.oat_image.specs.declared.image.Image.{Image}
 use Rattle.oat_measure.specs.Monitor.{Call, ends, uses, call_of}
 use Rattle.oat_shape.specs.Groups.{Stands}
-use Rattle.oat_journal.specs.Run.{Entry, pc_of}
+use Rattle.oat_journal.specs.Run.{Entry}
 use Rattle.oat_journal.specs.Journal.{IsMade, takes_input}
-use Rattle.oat_a64.specs.Kinds.{is_transfer}
 use Rattle.oat_journal.specs.Window.{made_call, edge_of, executed_path}
 use Rattle.oat_attest.specs.Headline.{ReadByLoad, AllReadByLoad}
 use Rattle.oat_attest.specs.Lockstep.{Placed, placed, AreQuiet, StandsAt}

@@ -1,5 +1,5 @@
 -- Lockstep: from one address on, a run executes the steps of a walk with the same records, up to the first return where they part.
-use Rattle.std.proofs.Common.{◌≡◌, ◌≢◌, ℕ, ◌+◌, Bool, true, false, List, [], ◌∷◌, ◌++◌, map, Contains, Option, Some, refl, sym, ap, subst, ◌∙◌, inl, inr, append-nil, append_assoc}
+use Rattle.std.proofs.Common.{◌≡◌, ◌≢◌, ℕ, ◌+◌, Bool, true, false, List, [], ◌∷◌, ◌++◌, Option, Some, refl, sym, ap, subst, ◌∙◌, inl, inr, append-nil, append_assoc}
 use Rattle.std.specs.List.{filter_map}
 use Rattle.std.proofs.lemmas.Bool.{cases_eq}
 use Rattle.std.proofs.lemmas.List.{append_cancel_left}
@@ -12,7 +12,6 @@ use Rattle.oat_map.specs.Rows.{after, next, IsIndirectTarget}
 use Rattle.oat_shape.specs.Shape.{IsReturnSite}
 use Rattle.oat_map.specs.Walk.{Step, passed, moved, path_of, bit_of, bits_of, target_of, targets_of, Returns, RowGoes, Leads}
 use Rattle.oat_image.specs.declared.image.Image.{Image}
-use Rattle.oat_measure.specs.Monitor.{Call}
 use Rattle.oat_journal.specs.Run.{Entry}
 use Rattle.oat_journal.specs.Window.{recorded_bit, bits_of_run, recorded_target, targets_of_run}
 use Rattle.oat_attest.specs.Headline.{AllReadByLoad}
@@ -21,7 +20,7 @@ use Rattle.oat_attest.proofs.Laid.{IsLaid, IsClear}
 use Rattle.oat_attest.proofs.Stretches.{Runs, moved_to}
 use Rattle.oat_attest.proofs.Places.{AreCalled, called_more, goes_site, goes_clear, returns_site}
 use Rattle.oat_attest.proofs.RowRuns.{Past, RowRuns, runs_row}
-use Rattle.oat_attest.proofs.Executing.{seen, Agree, bits_agree, targets_agree, makes_seen, step_seen, records_split}
+use Rattle.oat_attest.proofs.Executing.{bits_agree, targets_agree, makes_seen, step_seen, records_split}
 
 -- ---- the outcome
 
@@ -81,7 +80,7 @@ advance : (image : Image) (op : ℕ) (before : List Step) (t : ℕ) (row : Row) 
     → Outcome image op before t (step ∷ steps) place finish es
 advance image op before t row step s to went steps place finish es f same there gone =
     let p : Past image op t row (path_of (step ∷ [])) to es =
-        subst (λ (x : Step). Past image op t row (path_of (x ∷ [])) to es) (sym same) (subst (λ (x : ℕ). Past image op t row (path_of (s ∷ [])) x es) (sym there) gone) in
+    subst (λ (x : Step). Past image op t row (path_of (x ∷ [])) to es) (sym same) (subst (λ (x : ℕ). Past image op t row (path_of (s ∷ [])) x es) (sym there) gone) in
     elim (f.on p.rest p.regs p.runs
     (left bit_of step steps (bits_of_run es) (bits_of_run p.rest) (step_seen recorded_bit bit_of refl bits_agree image op before t row step to es p.rest f.goes p.makes) f.bits)
     (left target_of step steps (targets_of_run es) (targets_of_run p.rest) (step_seen recorded_target target_of refl targets_agree image op before t row step to es p.rest f.goes p.makes) f.targets)) [

@@ -1,5 +1,5 @@
 -- Each return of a trail goes to the site of its matching call, also where the call is looked for among the edges alone.
-use Rattle.std.proofs.Common.{◌≡◌, ℕ, List, [], ◌∷◌, ◌++◌, map, refl, sym, ap, subst, ◌∙◌, inl, inr, append-nil, append_assoc}
+use Rattle.std.proofs.Common.{◌≡◌, ℕ, List, [], ◌∷◌, ◌++◌, map, sym, ap, subst, ◌∙◌, inl, inr, append-nil, append_assoc}
 use Rattle.std.proofs.lemmas.List.Elements.{filter_map-append}
 use Rattle.oat_map.specs.declared.edge.Edge.{Edge}
 use Rattle.oat_map.specs.declared.edge.Edge.TheVariants as edges
@@ -58,7 +58,7 @@ true_returns flow (moved edge ∷ steps) before from to leads (f ∷ front) othe
     let same = head_is edge f (path_of steps) (front ++ edges.Ret at goes ∷ others) is in
     let on = true_returns flow steps (before ++ moved edge ∷ []) middle to rest front others at goes (tail_is edge f (path_of steps) (front ++ edges.Ret at goes ∷ others) is) in
     let whole : path_of (before ++ moved edge ∷ []) ++ front ≡ path_of before ++ f ∷ front =
-        ap (λ (xs : List Edge). xs ++ front) (path_moved before edge) ∙ append_assoc (path_of before) (edge ∷ []) front ∙ ap (λ (e : Edge). path_of before ++ e ∷ front) same in
+    ap (λ (xs : List Edge). xs ++ front) (path_moved before edge) ∙ append_assoc (path_of before) (edge ∷ []) front ∙ ap (λ (e : Edge). path_of before ++ e ∷ front) same in
     subst (λ (xs : List Edge). Returns (map moved xs) goes) whole on
 
 pub all_returns_match : (flow : Map) (steps : List Step) (from to : ℕ) → Leads flow [] from steps to → AllReturnsMatch (path_of steps)

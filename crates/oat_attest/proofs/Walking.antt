@@ -10,9 +10,8 @@ use Rattle.oat_map.specs.Walk.{Step, passed, moved, path_of, depth, RowGoes}
 use Rattle.oat_map.specs.Stack.{IsStack}
 use Rattle.oat_map.proofs.StackLemmas.{IsStack-passed, IsStack-jump, IsStack-branch, IsStack-call, IsStack-icall, IsStack-return, Returns-top, depth-is}
 use Rattle.oat_image.specs.declared.image.Image.{Image}
-use Rattle.oat_measure.specs.Monitor.{Call, begins}
 use Rattle.oat_journal.specs.Run.{Entry}
-use Rattle.oat_journal.specs.Window.{made_call, executed_path}
+use Rattle.oat_journal.specs.Window.{executed_path}
 use Rattle.oat_attest.specs.Lockstep.{Makes, Executes}
 use Rattle.oat_map.specs.Turns.{GoesBack, turn_of}
 use Rattle.oat_attest.proofs.Laid.{IsLaid, IsClear}

@@ -1,20 +1,19 @@
 -- The worked windows and paths.
-use Rattle.std.proofs.Common.{◌≡◌, ℕ, ◌+◌, ◌*◌, ◌<◌, suc, zero, List, [], ◌∷◌, ◌++◌, map, take, Some, Contains, length, ◌≤◌, refl, sym, ap, subst, ◌∙◌, arith, inl, inr}
+use Rattle.std.proofs.Common.{◌≡◌, ℕ, suc, zero, List, [], ◌∷◌, ◌++◌, map, Some, length, ◌≤◌, refl, sym, ap, subst, ◌∙◌, arith, inl}
 use Rattle.std.specs.List.{slice_get}
 use Rattle.std.specs.Option.{option_and_then}
-use Rattle.oat_map.specs.declared.edge.Edge.{Edge}
 use Rattle.oat_map.specs.declared.edge.Edge.TheVariants as edges
 use Rattle.oat_map.specs.declared.row.Row.{Row}
 use Rattle.oat_map.specs.declared.row.Row.TheVariants as rows
-use Rattle.oat_map.specs.Walk.{Step, passed, moved, Returns, LastCall, depth, return_site_of}
+use Rattle.oat_map.specs.Walk.{Step, moved, Returns, return_site_of}
 use Rattle.oat_map.proofs.WalkLemmas.{Returns-one}
 use Rattle.oat_journal.specs.Run.{Entry, pc_of}
-use Rattle.oat_attest.specs.Headline.{IsUseBy, IsLoadBy, ReadByLoad, AllReadByLoad}
-use Rattle.oat_attest.specs.Lockstep.{Placed, placed, Makes, Executes, PassesCells, PartsAt, AllReturnsMatch, PartsAtFirst}
+use Rattle.oat_attest.specs.Headline.{IsUseBy, IsLoadBy, AllReadByLoad}
+use Rattle.oat_attest.specs.Lockstep.{Placed, placed, Makes, Executes, PassesCells, AllReturnsMatch}
 use Rattle.oat_a64.specs.declared.inst.Inst.TheVariants.{Movz, Ldr, Svc}
 use Rattle.oat_mem.specs.DataMemory.{word_in}
 use Rattle.oat_attest.proofs.Lists.{get-contains}
-use Rattle.oat_attest.specs.Worked.{two_uses, two_uses_map, made_at, use_at, both_passed, cells_used, TwoUses, three_calls, run_of_three, path_of_three, SecondIsFalse}
+use Rattle.oat_attest.specs.Worked.{two_uses, two_uses_map, made_at, use_at, both_passed, cells_used, TwoUses, three_calls, SecondIsFalse}
 
 -- ---- two uses
 

@@ -49,7 +49,7 @@ pub record ShowsVerdict (words : List (List ℕ)) (contents : Contents) (verdict
 abbrev pub HeadlineHolds : Image → Session → List ℕ → List Edge → Type 0
 HeadlineHolds image session bytes path =
     (begin_at : ℕ) → BeginsAt image.map session.op begin_at
-    → OfRuns image session begin_at bytes (λ run. FollowedOrClashes image session begin_at run path)
+    → OfRuns image session begin_at bytes (FollowedOrClashes image session path)
 
 -- An acceptance was shown, and the headline holds of it.
 pub record ShowsAcceptance (words : List (List ℕ)) (contents : Contents)
