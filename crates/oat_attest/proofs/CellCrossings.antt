@@ -14,7 +14,7 @@ use Rattle.oat_measure.specs.Monitor.{Call, begins, ends, defines, uses, call_of
 use Rattle.oat_shape.specs.Groups.{Stands}
 use Rattle.oat_journal.specs.Run.{Entry, pc_of}
 use Rattle.oat_journal.specs.Window.{made_call, edge_of, executed_path}
-use Rattle.oat_attest.specs.Headline.{IsUseBy, IsLoadBy, AllReadByLoad}
+use Rattle.oat_attest.specs.Headline.{NamesCell, IsUseOf, IsLoadOf, AllReadByLoad}
 use Rattle.oat_attest.specs.Lockstep.{Placed, placed, plain, calling}
 use Rattle.oat_attest.proofs.Lists.{contains-get}
 use Rattle.oat_attest.proofs.Laid.{IsLaid}
@@ -71,17 +71,17 @@ stored r index cell p q low on memory =
 -- a use whose value was loaded two instructions before
 loads_use : (image : Image) (row : Row) (load move call : Entry) (rest : List Entry) (cell value index : ℕ) → Contains image.map.rows row
     → made_call load ≡ None → made_call move ≡ None → made_call call ≡ Some (uses cell value) → slice_get image.cells cell ≡ Some index
-    → IsUseBy row call cell → IsLoadBy row load (global_address index) → pc_of load + 8 ≡ pc_of call → value ≡ word_in load.found.memory (global_address index)
+    → NamesCell row cell → IsUseOf row call → IsLoadOf row load (global_address index) → pc_of load + 8 ≡ pc_of call → value ≡ word_in load.found.memory (global_address index)
     → AllReadByLoad image rest → AllReadByLoad image (load ∷ move ∷ call ∷ rest)
-loads_use image row load move call rest cell value index among none none' used has is_use is_load apart read all zero cell' value' index' e stands used' has' =
+loads_use image row load move call rest cell value index among none none' used has named is_use is_load apart read all zero cell' value' index' e stands used' has' =
     let same : load ≡ e = cc in
     let both : None ≡ Some (uses cell' value') = sym none ∙ ap made_call same ∙ used' in
     absurd (cc)
-loads_use image row load move call rest cell value index among none none' used has is_use is_load apart read all (suc zero) cell' value' index' e stands used' has' =
+loads_use image row load move call rest cell value index among none none' used has named is_use is_load apart read all (suc zero) cell' value' index' e stands used' has' =
     let same : move ≡ e = cc in
     let both : None ≡ Some (uses cell' value') = sym none' ∙ ap made_call same ∙ used' in
     absurd (cc)
-loads_use image row load move call rest cell value index among none none' used has is_use is_load apart read all (suc (suc zero)) cell' value' index' e stands used' has' =
+loads_use image row load move call rest cell value index among none none' used has named is_use is_load apart read all (suc (suc zero)) cell' value' index' e stands used' has' =
     let same : call ≡ e = cc in
     let both : Some (uses cell value) ≡ Some (uses cell' value') = sym used ∙ ap made_call same ∙ used' in
     let one : cell ≡ cell' = cc in
@@ -91,9 +91,10 @@ loads_use image row load move call rest cell value index among none none' used h
     record {
       row = row;
       among = among;
-      uses = subst (λ (c : ℕ). IsUseBy row e c) one (subst (λ (x : Entry). IsUseBy row x cell) same is_use);
+      names = subst (NamesCell row) one named;
+      called = subst (IsUseOf row) same is_use;
       load = load;
-      loads = subst (λ (i : ℕ). IsLoadBy row load (global_address i)) three is_load;
+      loaded = subst (λ (i : ℕ). IsLoadOf row load (global_address i)) three is_load;
       read = sym two ∙ read ∙ ap (λ i. word_in load.found.memory (global_address i)) three;
       before = 0;
       stands = refl;
@@ -101,7 +102,7 @@ loads_use image row load move call rest cell value index among none none' used h
       apart = apart ∙ ap (λ (x : Entry). x.found.regs.pc) same;
       behind = refl;
     }
-loads_use image row load move call rest cell value index among none none' used has is_use is_load apart read all (suc (suc (suc k))) cell' value' index' e stands used' has' =
+loads_use image row load move call rest cell value index among none none' used has named is_use is_load apart read all (suc (suc (suc k))) cell' value' index' e stands used' has' =
     read_behind image load (move ∷ call ∷ rest) (suc (suc k)) e cell' index' value'
     (read_behind image move (call ∷ rest) (suc k) e cell' index' value'
     (read_behind image call rest k e cell' index' value' (all k cell' value' index' e stands used' has')))
@@ -158,7 +159,7 @@ cross_load image op at cell index among low small short has load move call r es 
         places = refl;
         shows = refl;
         loads = λ all. subst (AllReadByLoad image) (sym whole)
-            (loads_use image row e1 e2 e3 c.rest cell value index among refl refl refl has (refl, refl) (refl, refl, refl) apart refl all);
+            (loads_use image row e1 e2 e3 c.rest cell value index among refl refl refl has refl refl (refl, refl, refl) apart refl all);
       };
     }
 

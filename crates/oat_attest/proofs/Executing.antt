@@ -16,7 +16,7 @@ use Rattle.oat_measure.specs.Monitor.{Call, uses}
 use Rattle.oat_journal.specs.Run.{Entry}
 use Rattle.oat_a64.specs.Kinds.{is_transfer}
 use Rattle.oat_journal.specs.Window.{made_call, edge_of, executed_path, returned, recorded_bit, recorded_target}
-use Rattle.oat_attest.specs.Lockstep.{Placed, placed, AreQuiet, IsGroupRun, Makes, Executes, IsUsedBy, PassesCells}
+use Rattle.oat_attest.specs.Lockstep.{Placed, placed, AreQuiet, IsGroupRun, Makes, Executes, AreUsedAt, PassesCells}
 use Rattle.oat_attest.proofs.Laid.{IsLaid}
 
 -- ---- what is seen of instructions
@@ -99,9 +99,9 @@ group_records flow (rows.Ret at) before step to group goes made =
 group_records flow (rows.Begin at op) before step to group goes made = absurd goes
 group_records flow (rows.End at op) before step to group goes made = absurd goes
 group_records flow (rows.UseCell at cell) before step to group goes made =
-    records_by step _ group _ goes.0 made.1 (record { bits = refl; targets = refl; returns = refl; some = omega arith })
+    records_by step _ group _ goes.0 made.3 (record { bits = refl; targets = refl; returns = refl; some = omega arith })
 group_records flow (rows.DefCell at cell) before step to group goes made =
-    records_by step _ group _ goes.0 made.1 (record { bits = refl; targets = refl; returns = refl; some = omega arith })
+    records_by step _ group _ goes.0 made.3 (record { bits = refl; targets = refl; returns = refl; some = omega arith })
 group_records flow (rows.Check at) before step to group goes made =
     records_by step _ group _ goes.0 made (record { bits = refl; targets = refl; returns = refl; some = omega arith })
 
@@ -194,11 +194,11 @@ abbrev pub used : List ℕ → Option Call → Option ℕ
 used cells (Some (uses cell value)) = option_map (λ index. cell) (slice_get cells cell)
 used cells _ = None
 
-cells_by : (image : Image) (row : Row) (group g : List Placed) → group ≡ g → IsUsedBy row (seen_placed (used image.cells) g) → IsUsedBy row (seen_placed (used image.cells) group)
-cells_by image row group g is u = subst (λ (x : List Placed). IsUsedBy row (seen_placed (used image.cells) x)) (sym is) u
+cells_by : (image : Image) (row : Row) (group g : List Placed) → group ≡ g → AreUsedAt row (seen_placed (used image.cells) g) → AreUsedAt row (seen_placed (used image.cells) group)
+cells_by image row group g is u = subst (λ (x : List Placed). AreUsedAt row (seen_placed (used image.cells) x)) (sym is) u
 
 group_cells : (image : Image) → IsLaid image → (row : Row) (before : List Step) (step : Step) (to : ℕ) (group : List Placed) → Contains image.map.rows row
-    → RowGoes image.map row before step to → IsGroupRun row (path_of (step ∷ [])) to group → IsUsedBy row (seen_placed (used image.cells) group)
+    → RowGoes image.map row before step to → IsGroupRun row (path_of (step ∷ [])) to group → AreUsedAt row (seen_placed (used image.cells) group)
 group_cells image laid (rows.Jump at place) before step to group has goes made = cells_by image (rows.Jump at place) group _ made refl
 group_cells image laid (rows.Branch at taken other) before step to group has (inl goes) made =
     cells_by image (rows.Branch at taken other) group _ (made_for (rows.Branch at taken other) step (moved (edges.Branch at true taken)) to group goes.0 made).2 refl
@@ -211,8 +211,10 @@ group_cells image laid (rows.Begin at op) before step to group has goes made = a
 group_cells image laid (rows.End at op) before step to group has goes made = absurd goes
 group_cells image laid (rows.UseCell at cell) before step to group has goes made =
     let (index, cell_is, moves, load, move, call) = laid.group (rows.UseCell at cell) has in
-    cells_by image (rows.UseCell at cell) group _ made.1 (ap (λ (o : Option ℕ). cons_option (option_map (λ i. cell) o) []) cell_is)
-group_cells image laid (rows.DefCell at cell) before step to group has goes made = cells_by image (rows.DefCell at cell) group _ made.1 refl
+    let (own, value, named, is) = made in
+    let there : slice_get image.cells own ≡ Some index = ap (slice_get image.cells) named ∙ cell_is in
+    (own, named, ap (seen_placed (used image.cells)) is ∙ ap (λ (o : Option ℕ). cons_option (option_map (λ i. own) o) []) there)
+group_cells image laid (rows.DefCell at cell) before step to group has goes made = cells_by image (rows.DefCell at cell) group _ made.3 refl
 group_cells image laid (rows.Check at) before step to group has goes made = cells_by image (rows.Check at) group _ made refl
 
 -- The cells that a window uses are those of the rows that its steps pass.

@@ -215,11 +215,11 @@ run_come image op from (rows.End at ended) es come = run_end image op from at en
 run_come image op from (rows.UseCell at cell) es come =
     let row = rows.UseCell at cell in
     let u = cross_use image come.laid op at cell come.has come.skipped.regs come.skipped.rest come.skipped.runs in
-    behind image op from row (at + 20) es come (come.laid.low row come.has).2 (past image op from row [] (at + 20) es _ come u.crossed (u.value, refl))
+    behind image op from row (at + 20) es come (come.laid.low row come.has).2 (past image op from row [] (at + 20) es _ come u.crossed (cell, u.value, refl, refl))
 run_come image op from (rows.DefCell at cell) es come =
     let row = rows.DefCell at cell in
     let d = cross_define image come.laid op at cell come.has come.skipped.regs come.skipped.rest come.skipped.runs in
-    behind image op from row (at + 20) es come (come.laid.low row come.has).2 (past image op from row [] (at + 20) es _ come d.crossed (d.value, refl))
+    behind image op from row (at + 20) es come (come.laid.low row come.has).2 (past image op from row [] (at + 20) es _ come d.crossed (cell, d.value, refl, refl))
 run_come image op from (rows.Check at) es come =
     let row = rows.Check at in
     behind image op from row (at + 8) es come (come.laid.low row come.has).2

@@ -102,9 +102,10 @@ pub read_behind : (image : Image) (e : Entry) (es : List Entry) (k : ℕ) (call 
 read_behind image e es k call cell index value r = record {
   row = r.row;
   among = r.among;
-  uses = r.uses;
+  names = r.names;
+  called = r.called;
   load = r.load;
-  loads = r.loads;
+  loaded = r.loaded;
   read = r.read;
   before = suc r.before;
   stands = r.stands;

@@ -8,7 +8,7 @@ use Rattle.oat_map.specs.declared.row.Row.TheVariants as rows
 use Rattle.oat_map.specs.Walk.{Step, moved, Returns, return_site_of}
 use Rattle.oat_map.proofs.WalkLemmas.{Returns-one}
 use Rattle.oat_journal.specs.Run.{Entry, pc_of}
-use Rattle.oat_attest.specs.Headline.{IsUseBy, IsLoadBy, AllReadByLoad}
+use Rattle.oat_attest.specs.Headline.{IsUseOf, IsLoadOf, AllReadByLoad}
 use Rattle.oat_attest.specs.Lockstep.{Placed, placed, Makes, Executes, PassesCells, AllReturnsMatch}
 use Rattle.oat_a64.specs.declared.inst.Inst.TheVariants.{Movz, Ldr, Svc}
 use Rattle.oat_mem.specs.DataMemory.{word_in}
@@ -29,7 +29,7 @@ paired memory = (
     way = [];
     quiet = tt;
     group = use_at memory 0x10008;
-    made = (_, refl);
+    made = (0, _, refl, refl);
     shows = refl;
     whole = refl;
   },
@@ -44,7 +44,7 @@ paired memory = (
       way = [];
       quiet = tt;
       group = use_at memory 0x1001C;
-      made = (_, refl);
+      made = (0, _, refl, refl);
       shows = refl;
       whole = refl;
     },
@@ -58,7 +58,7 @@ first_at x y xs ys h = ap (λ (p : Placed). p.at) (let same : x ≡ y = cc in sa
 apart : (memory : ℕ → ℕ) (to : ℕ) (rest : List Entry) → (m : Makes two_uses 1 0x10008 (rows.UseCell 0x10008 0) [] to (use_at memory 0x10008 ++ use_at memory 0x1001C) rest)
     → m.group ≡ use_at memory 0x1001C → ⊥
 apart memory to rest m is =
-    let same = first_at _ _ _ _ (sym (ap (map placed) is) ∙ m.made.1) in
+    let same = first_at _ _ _ _ (sym (ap (map placed) is) ∙ m.made.3) in
     absurd (omega arith)
 
 some_entry : (e f : Entry) → Some e ≡ Some f → e ≡ f
@@ -73,20 +73,20 @@ exchanged memory place rest (row, to, others, goes, m, on) =
     other_place (pc_of first) (ap pc_of (sym (some_entry _ _ is))) stands
 
 -- what stands at these places of the map
-use_row : (k : ℕ) (row : Row) (call : Entry) (cell : ℕ) → pc_of call ≡ 0x1002C → slice_get two_uses_map.rows k ≡ Some row → IsUseBy row call cell → row ≡ rows.UseCell 0x1001C 0
-use_row zero row call cell there is by =
+use_row : (k : ℕ) (row : Row) (call : Entry) → pc_of call ≡ 0x1002C → slice_get two_uses_map.rows k ≡ Some row → IsUseOf row call → row ≡ rows.UseCell 0x1001C 0
+use_row zero row call there is by =
     let same : rows.Begin 0x10000 1 ≡ row = cc in
-    absurd (subst (λ (r : Row). IsUseBy r call cell) (sym same) by)
-use_row (suc zero) row call cell there is by =
+    absurd (subst (λ (r : Row). IsUseOf r call) (sym same) by)
+use_row (suc zero) row call there is by =
     let same : rows.UseCell 0x10008 0 ≡ row = cc in
-    let own : IsUseBy (rows.UseCell 0x10008 0) call cell = subst (λ (r : Row). IsUseBy r call cell) (sym same) by in
-    let at = own.0 in
+    let own : IsUseOf (rows.UseCell 0x10008 0) call = subst (λ (r : Row). IsUseOf r call) (sym same) by in
+    let at : pc_of call ≡ 0x10018 = own in
     absurd (omega arith)
-use_row (suc (suc zero)) row call cell there is by = let same : rows.UseCell 0x1001C 0 ≡ row = cc in sym same
-use_row (suc (suc (suc zero))) row call cell there is by =
+use_row (suc (suc zero)) row call there is by = let same : rows.UseCell 0x1001C 0 ≡ row = cc in sym same
+use_row (suc (suc (suc zero))) row call there is by =
     let same : rows.End 0x10030 1 ≡ row = cc in
-    absurd (subst (λ (r : Row). IsUseBy r call cell) (sym same) by)
-use_row (suc (suc (suc (suc k)))) row call cell there is by = absurd (cc)
+    absurd (subst (λ (r : Row). IsUseOf r call) (sym same) by)
+use_row (suc (suc (suc (suc k)))) row call there is by = absurd (cc)
 
 -- no instruction of the window is the second row's load
 no_load : (memory : ℕ → ℕ) (k : ℕ) (load : Entry) → slice_get (made_at memory 0x10010 (Ldr 10 11 0) ∷ made_at memory 0x10028 (Movz 9 0 0) ∷ made_at memory 0x1002C (Svc 7) ∷ []) k ≡ Some load
@@ -99,13 +99,13 @@ no_load memory (suc (suc (suc k))) load is there = absurd (cc)
 other_load : (memory : ℕ → ℕ) → AllReadByLoad two_uses (made_at memory 0x10010 (Ldr 10 11 0) ∷ made_at memory 0x10028 (Movz 9 0 0) ∷ made_at memory 0x1002C (Svc 7) ∷ []) → ⊥
 other_load memory all =
     let r = all 2 0 (word_in memory 0x40000000) 0 _ refl refl refl in
-    let row = use_row r.among.0 r.row _ 0 refl (get-contains two_uses_map.rows r.row r.among) r.uses in
-    let loads = subst (λ (x : Row). IsLoadBy x r.load 0x40000000) row r.loads in
+    let row = use_row r.among.0 r.row _ refl (get-contains two_uses_map.rows r.row r.among) r.called in
+    let loads = subst (λ (x : Row). IsLoadOf x r.load 0x40000000) row r.loaded in
     no_load memory r.before r.load r.stands loads.0
 
 same_cells : (memory : ℕ → ℕ) → PassesCells two_uses_map [] 0x10008 both_passed (cells_used (use_at memory 0x1001C ++ use_at memory 0x10008))
 same_cells memory =
-    (rows.UseCell 0x10008 0, refl, 0x1001C, (refl, refl), 0 ∷ [], 0 ∷ [], refl, (rows.UseCell 0x1001C 0, refl, 0x10030, (refl, refl), 0 ∷ [], [], refl, refl, refl), refl)
+    (rows.UseCell 0x10008 0, refl, 0x1001C, (refl, refl), 0 ∷ [], 0 ∷ [], (0, refl, refl), (rows.UseCell 0x1001C 0, refl, 0x10030, (refl, refl), 0 ∷ [], [], (0, refl, refl), refl, refl), refl)
 
 pub two_uses_are_paired : (memory : ℕ → ℕ) → TwoUses memory
 two_uses_are_paired memory = record {

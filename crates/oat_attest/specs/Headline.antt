@@ -65,23 +65,30 @@ OfAcceptedRuns claim =
 
 -- ---- uses that were read by their own loads
 
--- An instruction is the monitor call of a row's group that uses a cell: where it stands, and which cells it may name.
-abbrev pub IsUseBy : Row → Entry → ℕ → Type 0
-IsUseBy (rows.UseCell at own) call cell = (pc_of call ≡ at + 16) × (cell ≡ own)
-IsUseBy _ call cell = ⊥
+-- the cells that a row may name in the monitor call of its group
+abbrev pub NamesCell : Row → ℕ → Type 0
+NamesCell (rows.UseCell at own) cell = cell ≡ own
+NamesCell (rows.DefCell at own) cell = cell ≡ own
+NamesCell _ cell = ⊥
 
--- An instruction is the load of a row's group: where it stands, its form, and the address that it reads.
-abbrev pub IsLoadBy : Row → Entry → ℕ → Type 0
-IsLoadBy (rows.UseCell at own) load address = (pc_of load ≡ at + 8) × (load.inst ≡ Ldr 10 11 0) × (load.found.regs.x 11 ≡ address)
-IsLoadBy _ load address = ⊥
+-- where the group of a row calls the monitor with a cell that it uses
+abbrev pub IsUseOf : Row → Entry → Type 0
+IsUseOf (rows.UseCell at own) call = pc_of call ≡ at + 16
+IsUseOf _ call = ⊥
+
+-- the load of the cell's word in the group of a row: where it stands, its form, and the address that it reads
+abbrev pub IsLoadOf : Row → Entry → ℕ → Type 0
+IsLoadOf (rows.UseCell at own) load address = (pc_of load ≡ at + 8) × (load.inst ≡ Ldr 10 11 0) × (load.found.regs.x 11 ≡ address)
+IsLoadOf _ load address = ⊥
 
 -- The value of the use that instruction k of the window makes was read from the cell's word by the load of its own group.
 pub record ReadByLoad (image : Image) (window : List Entry) (k : ℕ) (call : Entry) (cell index value : ℕ) : Type 0 where
   pub row : Row
   pub among : Contains image.map.rows row
-  pub uses : IsUseBy row call cell
+  pub names : NamesCell row cell
+  pub called : IsUseOf row call
   pub load : Entry
-  pub loads : IsLoadBy row load (global_address index)
+  pub loaded : IsLoadOf row load (global_address index)
   pub read : value ≡ word_in load.found.memory (global_address index)
   pub before : ℕ
   pub stands : slice_get window before ≡ Some load

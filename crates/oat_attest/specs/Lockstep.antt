@@ -16,7 +16,7 @@ use Rattle.oat_a64.specs.Kinds.{is_transfer}
 use Rattle.oat_journal.specs.Window.{executed_path, returns_of_run, made_call}
 use Rattle.oat_journal.specs.Measured.{dev, IsSealed, uses_of, first_unsound}
 use Rattle.oat_verify.specs.Verdict.{subject_of, head_of}
-use Rattle.oat_attest.specs.Headline.{opening_of, uses_in, OfAcceptedRuns, AllReadByLoad, Clashes}
+use Rattle.oat_attest.specs.Headline.{opening_of, uses_in, OfAcceptedRuns, AllReadByLoad, Clashes, NamesCell}
 
 -- ---- the run executes steps
 
@@ -45,10 +45,12 @@ IsGroupRun (rows.ICall at params) shown to group = group ≡ calling at (target 
 IsGroupRun (rows.Ret at) shown to group = group ≡ calling at (returns to) ∷ plain (at + 4) ∷ []
 IsGroupRun (rows.Begin at op) shown to group = ⊥
 IsGroupRun (rows.End at op) shown to group = group ≡ plain at ∷ calling (at + 4) (ends op) ∷ []
-IsGroupRun (rows.UseCell at cell) shown to group =
-    (value : ℕ) × (group ≡ plain at ∷ plain (at + 4) ∷ plain (at + 8) ∷ plain (at + 12) ∷ calling (at + 16) (uses cell value) ∷ [])
-IsGroupRun (rows.DefCell at cell) shown to group =
-    (value : ℕ) × (group ≡ plain at ∷ plain (at + 4) ∷ plain (at + 8) ∷ plain (at + 12) ∷ calling (at + 16) (defines cell value) ∷ [])
+IsGroupRun (rows.UseCell at own) shown to group =
+    (cell : ℕ) × (value : ℕ) × NamesCell (rows.UseCell at own) cell
+    × (group ≡ plain at ∷ plain (at + 4) ∷ plain (at + 8) ∷ plain (at + 12) ∷ calling (at + 16) (uses cell value) ∷ [])
+IsGroupRun (rows.DefCell at own) shown to group =
+    (cell : ℕ) × (value : ℕ) × NamesCell (rows.DefCell at own) cell
+    × (group ≡ plain at ∷ plain (at + 4) ∷ plain (at + 8) ∷ plain (at + 12) ∷ calling (at + 16) (defines cell value) ∷ [])
 IsGroupRun (rows.Check at) shown to group = group ≡ plain at ∷ []
 
 -- instructions that neither transfer control nor call the monitor
@@ -145,17 +147,17 @@ Lockstep = OfAcceptedRuns (λ image session path before window.
 
 -- ---- same path
 
--- the cells that the group of a row uses
-abbrev pub IsUsedBy : Row → List ℕ → Type 0
-IsUsedBy (rows.UseCell at cell) cells = cells ≡ cell ∷ []
-IsUsedBy _ cells = cells ≡ []
+-- the cells that are used where a row is passed
+abbrev pub AreUsedAt : Row → List ℕ → Type 0
+AreUsedAt (rows.UseCell at own) cells = (cell : ℕ) × NamesCell (rows.UseCell at own) cell × (cells ≡ cell ∷ [])
+AreUsedAt _ cells = cells ≡ []
 
 -- The cells that steps use at the rows that they pass, in their order, from an address on and behind the steps before.
 abbrev pub PassesCells : Map → List Step → ℕ → List Step → List ℕ → Type 0
 PassesCells flow before from [] cells = cells ≡ []
 PassesCells flow before from (step ∷ steps) cells =
     (row : Row) × (next flow.rows from ≡ Some row) × (to : ℕ) × RowGoes flow row before step to
-    × (here others : List ℕ) × IsUsedBy row here × PassesCells flow (before ++ step ∷ []) to steps others × (cells ≡ here ++ others)
+    × (here others : List ℕ) × AreUsedAt row here × PassesCells flow (before ++ step ∷ []) to steps others × (cells ≡ here ++ others)
 
 -- Same path: with equal returns the executed path is the accepted one. The run executes its walk, so that the checked uses are those of the rows that the walk passes, in order and each by its whole group; and each was read by the load of its own group.
 abbrev pub SamePath : Type 0
