@@ -15,7 +15,7 @@ use Rattle.oat_shape.specs.Groups.{Stands}
 use Rattle.oat_journal.specs.Run.{Entry, pc_of}
 use Rattle.oat_journal.specs.Window.{made_call, edge_of, executed_path}
 use Rattle.oat_attest.specs.Headline.{NamesCell, IsUseOf, IsLoadOf, AllReadByLoad}
-use Rattle.oat_attest.specs.Lockstep.{Placed, placed, plain, calling}
+use Rattle.oat_attest.specs.Lockstep.{Placed, placed_of, plain, calling}
 use Rattle.oat_attest.proofs.Lists.{contains-get}
 use Rattle.oat_attest.proofs.Laid.{IsLaid}
 use Rattle.oat_attest.proofs.Stretches.{Runs, last, more, machine, moved_to, entry_by, inst_is, none_read, read_behind, read_cons, Crossed, arrives, crossed_cons}
@@ -227,14 +227,14 @@ cross_define image laid op at cell has r es runs =
 -- the last instructions of a run, in the group of an End row
 pub record EndedBy (image : Image) (op at ended : ℕ) (es : List Entry) : Type 0 where
   pub own : ended ≡ op
-  pub places : map placed es ≡ plain at ∷ calling (at + 4) (ends op) ∷ []
+  pub places : map placed_of es ≡ plain at ∷ calling (at + 4) (ends op) ∷ []
   pub shows : executed_path image.map op es ≡ edges.End op ∷ []
   pub loads : AllReadByLoad image es
 
 -- the SVC that ends the run
 record EndsThere (image : Image) (op p : ℕ) (r : Regs) (es : List Entry) : Type 0 where
   nine : r.x 9 ≡ op
-  places : map placed es ≡ calling p (ends op) ∷ []
+  places : map placed_of es ≡ calling p (ends op) ∷ []
   shows : executed_path image.map op es ≡ edges.End op ∷ []
   loads : AllReadByLoad image es
 
@@ -264,7 +264,7 @@ cross_end image laid op at ended has r es runs =
     let low : ended < 2 ^ 64 = (let f = fits_row.1 in omega arith) in
     record {
       own = sym (shifted_zero ended low) ∙ e.nine;
-      places = ap (map placed) a.whole ∙ ap (λ (x : List Placed). plain at ∷ x) e.places;
+      places = ap (map placed_of) a.whole ∙ ap (λ (x : List Placed). plain at ∷ x) e.places;
       shows = ap (executed_path image.map op) a.whole ∙ e.shows;
       loads = subst (AllReadByLoad image) (sym a.whole) (read_cons image (entry_by (Movz 9 0 ended) (moved_to r at) a.memory) a.rest (λ c v u. cc) e.loads);
     }

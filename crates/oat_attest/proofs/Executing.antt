@@ -16,7 +16,7 @@ use Rattle.oat_measure.specs.Monitor.{Call, uses}
 use Rattle.oat_journal.specs.Run.{Entry}
 use Rattle.oat_a64.specs.Kinds.{is_transfer}
 use Rattle.oat_journal.specs.Window.{made_call, edge_of, executed_path, returned, recorded_bit, recorded_target}
-use Rattle.oat_attest.specs.Lockstep.{Placed, placed, AreQuiet, IsGroupRun, Makes, Executes, AreUsedAt, PassesCells}
+use Rattle.oat_attest.specs.Lockstep.{Placed, placed_of, AreQuiet, IsGroupRun, Makes, Executes, AreUsedAt, PassesCells}
 use Rattle.oat_attest.proofs.Laid.{IsLaid}
 
 -- ---- what is seen of instructions
@@ -28,7 +28,7 @@ seen see es = filter_map (λ (e : Entry). see (made_call e)) es
 abbrev pub seen_placed : {X : Type 0} → (Option Call → Option X) → List Placed → List X
 seen_placed see group = filter_map (λ (p : Placed). see p.call) group
 
-seen_group : {X : Type 0} (see : Option Call → Option X) (es : List Entry) → seen see es ≡ seen_placed see (map placed es)
+seen_group : {X : Type 0} (see : Option Call → Option X) (es : List Entry) → seen see es ≡ seen_placed see (map placed_of es)
 seen_group see [] = refl
 seen_group see (e ∷ es) = ap (cons_option (see (made_call e))) (seen_group see es)
 
@@ -57,7 +57,7 @@ makes_path image op from row shown to es rest m =
 
 pub makes_seen : {X : Type 0} (see : Option Call → Option X) → see None ≡ None
     → (image : Image) (op from : ℕ) (row : Row) (shown : List Edge) (to : ℕ) (es rest : List Entry) → (m : Makes image op from row shown to es rest)
-    → seen see es ≡ seen_placed see (map placed m.group) ++ seen see rest
+    → seen see es ≡ seen_placed see (map placed_of m.group) ++ seen see rest
 makes_seen see nothing image op from row shown to es rest m =
     ap (seen see) m.whole ∙ filter_map-append (λ (e : Entry). see (made_call e)) m.way (m.group ++ rest)
     ∙ ap₂ (λ xs ys. xs ++ ys) (seen_quiet see nothing m.way m.quiet)
@@ -138,7 +138,7 @@ pub step_seen : {X : Type 0} (see : Option Call → Option X) (g : Edge → Opti
     → Makes image op from row (path_of (step ∷ [])) to es rest → seen see es ≡ filter_map g (path_of (step ∷ [])) ++ seen see rest
 step_seen see g nothing agree image op before from row step to es rest goes m =
     makes_seen see nothing image op from row (path_of (step ∷ [])) to es rest m
-    ∙ ap (λ xs. xs ++ seen see rest) (agree image.map row before step to (map placed m.group) goes m.made)
+    ∙ ap (λ xs. xs ++ seen see rest) (agree image.map row before step to (map placed_of m.group) goes m.made)
 
 -- The records of a window that executes steps are those of the steps, and of what is left of it.
 pub executed_seen : {X : Type 0} (see : Option Call → Option X) (g : Edge → Option X) → see None ≡ None → Agree see g
@@ -169,12 +169,12 @@ executed_leads image op before from (step ∷ steps) es place rest (row, to, oth
     (to, (row, m.at_row, goes), executed_leads image op (before ++ step ∷ []) to steps others place rest on)
 
 pub makes_length : (image : Image) (op from : ℕ) (row : Row) (shown : List Edge) (to : ℕ) (es rest : List Entry) → (m : Makes image op from row shown to es rest)
-    → length (map placed m.group) + length rest ≤ length es
+    → length (map placed_of m.group) + length rest ≤ length es
 makes_length image op from row shown to es rest m =
     let whole = ap length m.whole in
     let one = length-append m.way (m.group ++ rest) in
     let two = length-append m.group rest in
-    let three = length-map m.group placed in
+    let three = length-map m.group placed_of in
     omega arith
 
 -- and there are no more of them than instructions
@@ -184,7 +184,7 @@ executed_length image op before from [] es place rest x = let same = ap length x
 executed_length image op before from (step ∷ steps) es place rest (row, to, others, goes, m, on) =
     let later = executed_length image op (before ++ step ∷ []) to steps others place rest on in
     let here = makes_length image op from row (path_of (step ∷ [])) to es others m in
-    let some = (group_records image.map row before step to (map placed m.group) goes m.made).some in
+    let some = (group_records image.map row before step to (map placed_of m.group) goes m.made).some in
     omega arith
 
 -- ---- the cells of uses
@@ -226,9 +226,9 @@ executed_cells image laid op before from (step ∷ steps) es place rest (row, to
   m.at_row,
   to,
   goes,
-  seen_placed (used image.cells) (map placed m.group),
+  seen_placed (used image.cells) (map placed_of m.group),
   seen (used image.cells) others,
-  group_cells image laid row before step to (map placed m.group) (laid.next_is from row m.at_row).has goes m.made,
+  group_cells image laid row before step to (map placed_of m.group) (laid.next_is from row m.at_row).has goes m.made,
   executed_cells image laid op (before ++ step ∷ []) to steps others place rest on none,
   makes_seen (used image.cells) refl image op from row (path_of (step ∷ [])) to es others m,
 )

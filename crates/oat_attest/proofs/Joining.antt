@@ -27,7 +27,7 @@ use Rattle.oat_journal.specs.Trace.{IsQuiet, IsTrace}
 use Rattle.oat_journal.proofs.Traces.{windows_are_traces, runs_report_their_window}
 use Rattle.oat_verify.specs.Verdict.{Accepts, subject_of}
 use Rattle.oat_attest.specs.Headline.{IsSetting, opening_of, IsReported, calls_before}
-use Rattle.oat_attest.specs.Lockstep.{placed, Makes, ExecutesWalk, ExecutesUpToFirst, PassesCells, SamePath, Lockstep}
+use Rattle.oat_attest.specs.Lockstep.{placed_of, Makes, ExecutesWalk, ExecutesUpToFirst, PassesCells, SamePath, Lockstep}
 use Rattle.oat_attest.proofs.Laid.{IsLaid, laid, end_of, IsClear}
 use Rattle.oat_attest.proofs.Stretches.{Runs, last, more, GoesOn, moved_to, moved_itself}
 use Rattle.oat_attest.proofs.Executing.{seen, used, Agree, returns_agree, makes_path, makes_seen, makes_length, executed_seen, executed_edges, executed_leads, executed_length, executed_cells}
@@ -206,7 +206,7 @@ pub walk_length : (image : Image) (op : ℕ) (steps : List Step) (walk : Walk im
 walk_length image op steps walk es x =
     let front = executed_length image op [] walk.partial.from walk.front es walk.place x.rest x.executes in
     let end = makes_length image op walk.place (rows.End walk.end_address op) (edges.End op ∷ []) _ x.rest [] x.ends in
-    let two : length (map placed x.ends.group) ≡ 2 = ap length x.ends.made in
+    let two : length (map placed_of x.ends.group) ≡ 2 = ap length x.ends.made in
     let all = ap length walk.whole in
     let one = length-append walk.front (moved (edges.End op) ∷ []) in
     omega arith

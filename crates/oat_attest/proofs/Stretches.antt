@@ -11,7 +11,7 @@ use Rattle.oat_journal.specs.Run.{Entry}
 use Rattle.oat_journal.specs.Journal.{IsMade, takes_input}
 use Rattle.oat_journal.specs.Window.{made_call, edge_of, executed_path}
 use Rattle.oat_attest.specs.Headline.{ReadByLoad, AllReadByLoad}
-use Rattle.oat_attest.specs.Lockstep.{Placed, placed, AreQuiet, StandsAt}
+use Rattle.oat_attest.specs.Lockstep.{Placed, placed_of, AreQuiet, StandsAt}
 
 -- ---- runs
 
@@ -130,7 +130,7 @@ pub record Crossed (image : Image) (op : ℕ) (es : List Entry) (group : List Pl
   pub whole : es ≡ stretch ++ rest
   pub regs : Regs
   pub runs : Runs image.code op (moved_to regs to) rest
-  pub places : map placed stretch ≡ group
+  pub places : map placed_of stretch ≡ group
   pub shows : executed_path image.map op stretch ≡ shown
   pub loads : AllReadByLoad image rest → AllReadByLoad image es
 

@@ -9,7 +9,7 @@ use Rattle.oat_map.specs.Walk.{Step, moved, Returns, return_site_of}
 use Rattle.oat_map.proofs.WalkLemmas.{Returns-one}
 use Rattle.oat_journal.specs.Run.{Entry, pc_of}
 use Rattle.oat_attest.specs.Headline.{IsUseOf, IsLoadOf, AllReadByLoad}
-use Rattle.oat_attest.specs.Lockstep.{Placed, placed, Makes, Executes, PassesCells, AllReturnsMatch}
+use Rattle.oat_attest.specs.Lockstep.{Placed, placed_of, Makes, Executes, PassesCells, AllReturnsMatch}
 use Rattle.oat_a64.specs.declared.inst.Inst.TheVariants.{Movz, Ldr, Svc}
 use Rattle.oat_mem.specs.DataMemory.{word_in}
 use Rattle.oat_attest.proofs.Lists.{get-contains}
@@ -58,7 +58,7 @@ first_at x y xs ys h = ap (λ (p : Placed). p.at) (let same : x ≡ y = cc in sa
 apart : (memory : ℕ → ℕ) (to : ℕ) (rest : List Entry) → (m : Makes two_uses 1 0x10008 (rows.UseCell 0x10008 0) [] to (use_at memory 0x10008 ++ use_at memory 0x1001C) rest)
     → m.group ≡ use_at memory 0x1001C → ⊥
 apart memory to rest m is =
-    let same = first_at _ _ _ _ (sym (ap (map placed) is) ∙ m.made.3) in
+    let same = first_at _ _ _ _ (sym (ap (map placed_of) is) ∙ m.made.3) in
     absurd (omega arith)
 
 some_entry : (e f : Entry) → Some e ≡ Some f → e ≡ f

@@ -25,8 +25,8 @@ pub record Placed : Type 0 where
   pub at : ℕ
   pub call : Option Call
 
-abbrev pub placed : Entry → Placed
-placed e = record { at = pc_of e; call = made_call e }
+abbrev pub placed_of : Entry → Placed
+placed_of e = record { at = pc_of e; call = made_call e }
 
 abbrev pub plain : ℕ → Placed
 plain at = record { at = at; call = None }
@@ -69,7 +69,7 @@ pub record Makes (image : Image) (op from : ℕ) (row : Row) (shown : List Edge)
   pub way : List Entry
   pub quiet : AreQuiet way
   pub group : List Entry
-  pub made : IsGroupRun row shown to (map placed group)
+  pub made : IsGroupRun row shown to (map placed_of group)
   pub shows : executed_path image.map op group ≡ shown
   pub whole : window ≡ way ++ (group ++ rest)
 
