@@ -9,7 +9,7 @@ use Rattle.oat_a64.specs.declared.inst.Inst.{Inst}
 use Rattle.oat_a64.specs.declared.inst.Inst.TheVariants.{AddImm, SubImm, SubsImm, AddReg, SubReg, SubsReg, AndReg, OrrReg, EorReg, Madd, Msub, Udiv, Sdiv, Lslv, Lsrv, Asrv, Movz, Movk, Csinc, Ldr, Str, B, Bl, BCond, Cbz, Cbnz, Blr, Ret, Svc, Brk, Nop}
 use Rattle.oat_a64.specs.Fetch.{inst_of}
 use Rattle.oat_bits.specs.Words.{wrap, difference}
-use Rattle.oat_a64.specs.Step.{Machine, Outcome, IsBounded, StepKeepsBounds, reg, reg_or_sp, set, with_reg, with_reg_or_sp, branch_target, next_pc, goes_on, jumps, jumps_if, links, subtracts, loads, stores, act, acts, decodes, step, word_at, holds}
+use Rattle.oat_a64.specs.Step.{Machine, Effect, IsBounded, StepKeepsBounds, reg, reg_or_sp, set, with_reg, with_reg_or_sp, branch_target, next_pc, goes_on, jumps, jumps_if, links, subtracts, loads, stores, act, acts, decodes, step, word_at, holds}
 
 branch_target-lt : (pc : ℕ) (z : ℤ) → branch_target pc z < 2 ^ 64
 branch_target-lt pc (pos n) = omega arith
@@ -46,7 +46,7 @@ linked m b address l =
 rests : (m : Machine) → IsBounded m → IsBounded (goes_on m m.regs).machine
 rests m b = moves m b (next_pc m.regs.pc) (omega arith)
 
-either : (t : Bool) (a b : Outcome) → IsBounded a.machine → IsBounded b.machine → IsBounded (cond t a b).machine
+either : (t : Bool) (a b : Effect) → IsBounded a.machine → IsBounded b.machine → IsBounded (cond t a b).machine
 either true a b p q = p
 either false a b p q = q
 

@@ -28,7 +28,7 @@ pub record Machine : Type 0 where
   pub memory : ℕ → ℕ
 
 -- the machine that an instruction leaves, and what it tells
-pub record Outcome : Type 0 where
+pub record Effect : Type 0 where
   pub machine : Machine
   pub event : Event
 
@@ -87,55 +87,55 @@ abbrev pub branch_target : ℕ → ℤ → ℕ
 branch_target pc (pos words) = wrap (pc + 4 * words)
 branch_target pc (negsuc words) = difference pc (4 * suc words)
 
-abbrev pub outcome : Machine → Event → Outcome
-outcome m told = record { machine = m; event = told }
+abbrev pub effect : Machine → Event → Effect
+effect m told = record { machine = m; event = told }
 
 -- nothing has changed
-abbrev pub fault : Machine → FaultKind → Outcome
-fault m kind = outcome m (event.Fault kind)
+abbrev pub fault : Machine → FaultKind → Effect
+fault m kind = effect m (event.Fault kind)
 
 -- with these registers on to the next instruction
-abbrev pub goes_on : Machine → Regs → Outcome
-goes_on m r = outcome (record m { regs = record r { pc = next_pc r.pc } }) event.Next
+abbrev pub goes_on : Machine → Regs → Effect
+goes_on m r = effect (record m { regs = record r { pc = next_pc r.pc } }) event.Next
 
-abbrev pub jumps : Machine → Regs → ℕ → Outcome
-jumps m r address = outcome (record m { regs = record r { pc = address } }) event.Next
+abbrev pub jumps : Machine → Regs → ℕ → Effect
+jumps m r address = effect (record m { regs = record r { pc = address } }) event.Next
 
-abbrev pub jumps_if : Bool → Machine → ℕ → Outcome
+abbrev pub jumps_if : Bool → Machine → ℕ → Effect
 jumps_if test m address = if test then jumps m m.regs address else goes_on m m.regs
 
 -- the address of the next instruction goes into X30
-abbrev pub links : Machine → ℕ → Outcome
+abbrev pub links : Machine → ℕ → Effect
 links m address = jumps m (with_reg m.regs 30 (next_pc m.regs.pc)) address
 
-abbrev pub subtracts : Machine → ℕ → ℕ → ℕ → Outcome
+abbrev pub subtracts : Machine → ℕ → ℕ → ℕ → Effect
 subtracts m rd a b = goes_on m (with_reg (with_flags m.regs a b) rd (difference a b))
 
-abbrev pub loads : Machine → ℕ → ℕ → Outcome
+abbrev pub loads : Machine → ℕ → ℕ → Effect
 loads m rt address =
     if can_access address then goes_on m (with_reg m.regs rt (word_in m.memory address))
     else fault m (Access address)
 
-abbrev pub stores : Machine → ℕ → ℕ → Outcome
+abbrev pub stores : Machine → ℕ → ℕ → Effect
 stores m rt address =
     if can_access address then goes_on (record m { memory = with_word m.memory address (reg m.regs rt) }) m.regs
     else fault m (Access address)
 
 -- a monitor call has a number up to 9
-abbrev pub calls_monitor : Machine → ℕ → Outcome
+abbrev pub calls_monitor : Machine → ℕ → Effect
 calls_monitor m number =
-    if nat_le number 9 then outcome (goes_on m m.regs).machine (event.Svc number)
+    if nat_le number 9 then effect (goes_on m m.regs).machine (event.Svc number)
     else fault m (Undefined m.regs.pc)
 
 -- a trap has a number from 1 to 4
-abbrev pub traps : Machine → ℕ → Outcome
+abbrev pub traps : Machine → ℕ → Effect
 traps m number =
-    if nat_le 1 number && nat_le number 4 then outcome m (event.Brk number)
+    if nat_le 1 number && nat_le number 4 then effect m (event.Brk number)
     else fault m (Undefined m.regs.pc)
 
 -- ---- one row for each form, under the name of its section
 
-abbrev pub act : Inst → Machine → Outcome
+abbrev pub act : Inst → Machine → Effect
 -- ADD (immediate)
 act (AddImm rd rn imm) m = goes_on m (with_reg_or_sp m.regs rd (wrap (reg_or_sp m.regs rn + imm)))
 -- SUB (immediate)
@@ -223,15 +223,15 @@ word_at code address =
 abbrev pub instruction_at : List ℕ → ℕ → Option Inst
 instruction_at code address = option_and_then inst_of (word_at code address)
 
-abbrev pub acts : Option Inst → Machine → Outcome
+abbrev pub acts : Option Inst → Machine → Effect
 acts None m = fault m (Undefined m.regs.pc)
 acts (Some i) m = act i m
 
-abbrev pub decodes : Option ℕ → Machine → Outcome
+abbrev pub decodes : Option ℕ → Machine → Effect
 decodes None m = fault m (Fetch m.regs.pc)
 decodes (Some word) m = acts (inst_of word) m
 
-unfoldable pub step : List ℕ → Machine → Outcome
+unfoldable pub step : List ℕ → Machine → Effect
 step code m = decodes (word_at code m.regs.pc) m
 
 -- the registers at the start of a run

@@ -2,7 +2,7 @@
 use Rattle.std.specs.Prelude.{slice_index}
 use Rattle.oat_mem.specs.DataMemory.{Regions, byte_at}
 use Rattle.oat_a64.specs.declared.event.Event.{Event}
-use Rattle.oat_a64.specs.Step.{Regs, Machine, Outcome}
+use Rattle.oat_a64.specs.Step.{Regs, Machine, Effect}
 use Rattle.oat_cpu.specs.declared.cpu.Cpu.{Cpu}
 
 abbrev pub regs_of : Cpu → Regs
@@ -13,5 +13,5 @@ abbrev pub machine_of : Cpu → Regions → Machine
 machine_of cpu memory = record { regs = regs_of cpu; memory = byte_at memory }
 
 -- the processor and the memory that a step left, with what it told
-abbrev pub outcome_of : Cpu → Regions → Event → Outcome
-outcome_of cpu memory event = record { machine = machine_of cpu memory; event = event }
+abbrev pub effect_of : Cpu → Regions → Event → Effect
+effect_of cpu memory event = record { machine = machine_of cpu memory; event = event }

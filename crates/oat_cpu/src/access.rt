@@ -2,7 +2,7 @@
 ghost use Rattle.std.specs.Prelude.{◌≡◌, ◌+◌, ◌*◌};
 ghost use Rattle.oat_bits.specs.Words.{wrap};
 ghost use Rattle.oat_a64.specs.Step.{loads, stores};
-ghost use Rattle.oat_cpu.specs.Processor.{machine_of, outcome_of};
+ghost use Rattle.oat_cpu.specs.Processor.{machine_of, effect_of};
 
 use crate::cpu::Cpu;
 use oat_a64::{Event, FaultKind};
@@ -10,7 +10,7 @@ use oat_mem::Memory;
 
 impl Cpu {
     pub(crate) fn load(&mut self, register: u8, address: u64, memory: &Memory) -> Event
-        ensures { outcome_of self.new memory.now result ≡ loads (machine_of self.old memory.now) register address }
+        ensures { effect_of self.new memory.now result ≡ loads (machine_of self.old memory.now) register address }
     {
         match memory.read8(address) {
             Some(value) => self.finish(register, value),
@@ -19,7 +19,7 @@ impl Cpu {
     }
 
     pub(crate) fn store(&mut self, register: u8, address: u64, memory: &mut Memory) -> Event
-        ensures { outcome_of self.new memory.new result ≡ stores (machine_of self.old memory.old) register address }
+        ensures { effect_of self.new memory.new result ≡ stores (machine_of self.old memory.old) register address }
     {
         if memory.write8(address, self.read(register)) {
             self.go_on()

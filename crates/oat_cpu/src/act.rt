@@ -1,7 +1,7 @@
 // What each instruction does.
 ghost use Rattle.std.specs.Prelude.{◌≡◌};
 ghost use Rattle.oat_a64.specs.Step.{act};
-ghost use Rattle.oat_cpu.specs.Processor.{machine_of, outcome_of};
+ghost use Rattle.oat_cpu.specs.Processor.{machine_of, effect_of};
 
 use crate::access::address_of;
 use crate::cpu::Cpu;
@@ -11,7 +11,7 @@ use oat_mem::Memory;
 
 impl Cpu {
     pub(crate) fn act(&mut self, inst: Inst, memory: &mut Memory) -> Event
-        ensures { outcome_of self.new memory.new result ≡ act inst (machine_of self.old memory.old) }
+        ensures { effect_of self.new memory.new result ≡ act inst (machine_of self.old memory.old) }
     {
         match inst {
             Inst::AddImm { rd, rn, imm } => {

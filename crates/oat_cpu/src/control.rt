@@ -2,7 +2,7 @@
 ghost use Rattle.std.specs.Prelude.{◌≡◌, if◌then◌else◌};
 ghost use Rattle.oat_mem.specs.DataMemory.{Regions};
 ghost use Rattle.oat_a64.specs.Step.{calls_monitor, next_pc, traps, with_reg};
-ghost use Rattle.oat_cpu.specs.Processor.{machine_of, outcome_of, regs_of};
+ghost use Rattle.oat_cpu.specs.Processor.{machine_of, effect_of, regs_of};
 
 use crate::cpu::Cpu;
 use oat_a64::{Event, FaultKind};
@@ -45,7 +45,7 @@ impl Cpu {
     }
 
     pub(crate) fn call_monitor(&mut self, number: u16) -> Event
-        ensures { (memory : Regions) → outcome_of self.new memory result ≡ calls_monitor (machine_of self.old memory) number }
+        ensures { (memory : Regions) → effect_of self.new memory result ≡ calls_monitor (machine_of self.old memory) number }
     {
         if number > 9 {
             return Event::Fault(FaultKind::Undefined(self.pc));
@@ -55,7 +55,7 @@ impl Cpu {
     }
 
     pub(crate) fn trap(&self, number: u16) -> Event
-        ensures { (memory : Regions) → outcome_of self.now memory result ≡ traps (machine_of self.now memory) number }
+        ensures { (memory : Regions) → effect_of self.now memory result ≡ traps (machine_of self.now memory) number }
     {
         if number >= 1 && number <= 4 {
             Event::Brk(number)

@@ -17,7 +17,7 @@ pub struct Cpu {
 
 impl Cpu {
     ghost use Rattle.oat_a64.specs.Step.{first_regs, step};
-    ghost use Rattle.oat_cpu.specs.Processor.{machine_of, outcome_of, regs_of};
+    ghost use Rattle.oat_cpu.specs.Processor.{machine_of, effect_of, regs_of};
 
     /// The state at the start of a run.
     pub fn start() -> Self
@@ -37,7 +37,7 @@ impl Cpu {
     /// Makes the instruction at PC. After a trap or a fault nothing has changed.
     #[tactic(auto, unfolding(oat_a64::specs::Step::step))]
     pub fn step(&mut self, code: &[u32], memory: &mut Memory) -> Event
-        ensures { outcome_of self.new memory.new result ≡ step code.now (machine_of self.old memory.old) }
+        ensures { effect_of self.new memory.new result ≡ step code.now (machine_of self.old memory.old) }
     {
         let Some(word) = word_at(code, self.pc) else {
             return Event::Fault(FaultKind::Fetch(self.pc));

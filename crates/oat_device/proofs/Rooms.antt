@@ -8,17 +8,18 @@ use Rattle.oat_a64.specs.declared.event.Event.TheVariants as event
 use Rattle.oat_a64.specs.declared.inst.Inst.{Inst}
 use Rattle.oat_a64.specs.Fetch.{inst_of}
 use Rattle.oat_a64.specs.declared.inst.Inst.TheVariants.{BCond, Cbz, Cbnz, Ldr, Str, Svc, Brk}
-use Rattle.oat_a64.specs.Step.{Regs, Machine, Outcome, instruction_at, word_at, act, acts, decodes, step, holds, reg, reg_or_sp, wrap, next_pc}
+use Rattle.oat_a64.specs.Step.{Regs, Machine, Effect, instruction_at, word_at, act, acts, decodes, step, holds, reg, reg_or_sp, wrap, next_pc}
 use Rattle.oat_mem.specs.DataMemory.{can_access}
 use Rattle.oat_case.specs.declared.case.Write.{Write}
 use Rattle.oat_case.specs.Limits.{IsInLimits, RisesFrom}
 use Rattle.oat_measure.specs.declared.engine.Engine.{Engine}
-use Rattle.oat_measure.specs.Monitor.{Call, call_numbered}
-use Rattle.oat_journal.specs.Run.{Running, found, makes, told, called, takes, turn}
+use Rattle.oat_measure.specs.Monitor.{call_numbered}
+use Rattle.oat_measure.specs.declared.call.MonitorCall.{MonitorCall}
+use Rattle.oat_journal.specs.Run.{Running, found, makes, told, called, with_input, turn}
 use Rattle.oat_device.specs.Records.{bits_taken, targets_taken}
 use Rattle.oat_device.specs.declared.bare.BareRun.{BareRun}
 use Rattle.oat_device.specs.declared.course.Course.{Course}
-use Rattle.oat_device.specs.Standing.{HasRoom, IsReady, IsSpaced, opening_of, spare_bits, spare_targets}
+use Rattle.oat_device.specs.Standing.{HasRoom, IsReady, IsSpaced, engine_opening, spare_bits, spare_targets}
 use Rattle.oat_journal.specs.Progress.{call_told}
 use Rattle.oat_journal.proofs.Progress.{turn-going}
 
@@ -46,7 +47,7 @@ abbrev IsCall : Event → Inst → Machine → Machine → Type 0
 IsCall (event.Svc number) i m left = (i ≡ Svc number) × (left.regs.pc ≡ next_pc m.regs.pc)
 IsCall _ i m left = Unit {0}
 
-call-if : (t : Bool) (a b : Outcome) (i : Inst) (m : Machine) → IsCall a.event i m a.machine → IsCall b.event i m b.machine → IsCall (cond t a b).event i m (cond t a b).machine
+call-if : (t : Bool) (a b : Effect) (i : Inst) (m : Machine) → IsCall a.event i m a.machine → IsCall b.event i m b.machine → IsCall (cond t a b).event i m (cond t a b).machine
 call-if true a b i m p q = p
 call-if false a b i m p q = q
 
@@ -79,19 +80,19 @@ step-called code m number h = decodes-called (word_at code m.regs.pc) m number h
 
 -- ---- which calls take records
 
-abbrev TakesNone : (Call → ℕ) → Option Call → Type 0
+abbrev TakesNone : (MonitorCall → ℕ) → Option MonitorCall → Type 0
 TakesNone taken None = Unit {0}
 TakesNone taken (Some call) = taken call ≡ 0
 
-abbrev TakesOne : (Call → ℕ) → Option Call → Type 0
+abbrev TakesOne : (MonitorCall → ℕ) → Option MonitorCall → Type 0
 TakesOne taken None = ⊥
 TakesOne taken (Some call) = taken call ≡ 1
 
-none-if : (taken : Call → ℕ) (t : Bool) (a b : Option Call) → TakesNone taken a → TakesNone taken b → TakesNone taken (cond t a b)
+none-if : (taken : MonitorCall → ℕ) (t : Bool) (a b : Option MonitorCall) → TakesNone taken a → TakesNone taken b → TakesNone taken (cond t a b)
 none-if taken true a b p q = p
 none-if taken false a b p q = q
 
-none-unless : (taken : Call → ℕ) (t : Bool) (a b : Option Call) → t ≡ false → TakesNone taken b → TakesNone taken (cond t a b)
+none-unless : (taken : MonitorCall → ℕ) (t : Bool) (a b : Option MonitorCall) → t ≡ false → TakesNone taken b → TakesNone taken (cond t a b)
 none-unless taken true a b off q = absurd (cc)
 none-unless taken false a b off q = q
 
@@ -106,10 +107,10 @@ no-target number r other =
     (none-unless targets_taken (eqb number 4) _ _ other (none-if targets_taken (eqb number 5) _ _ refl (none-if targets_taken (eqb number 6) _ _ refl (none-if targets_taken (eqb number 7) _ _ refl tt))))))
 
 -- a record is taken by the call of its number alone
-abbrev TakenBy : (Call → ℕ) → ℕ → Event → Call → Type 0
+abbrev TakenBy : (MonitorCall → ℕ) → ℕ → Event → MonitorCall → Type 0
 TakenBy taken number e call = (taken call ≡ 0) ⊎ ((taken call ≡ 1) × (e ≡ event.Svc number))
 
-bit-by : (e : Event) (r : Regs) (call : Call) → call_told e r ≡ Some call → TakenBy bits_taken 3 e call
+bit-by : (e : Event) (r : Regs) (call : MonitorCall) → call_told e r ≡ Some call → TakenBy bits_taken 3 e call
 bit-by event.Next r call h = absurd (cc)
 bit-by (event.Brk number) r call h = absurd (cc)
 bit-by (event.Fault kind) r call h = absurd (cc)
@@ -122,7 +123,7 @@ bit-by (event.Svc number) r call h =
       | inr other ↦ inl (subst (TakesNone bits_taken) h (no-bit number r other))
     ]
 
-target-by : (e : Event) (r : Regs) (call : Call) → call_told e r ≡ Some call → TakenBy targets_taken 4 e call
+target-by : (e : Event) (r : Regs) (call : MonitorCall) → call_told e r ≡ Some call → TakenBy targets_taken 4 e call
 target-by event.Next r call h = absurd (cc)
 target-by (event.Brk number) r call h = absurd (cc)
 target-by (event.Fault kind) r call h = absurd (cc)
@@ -135,16 +136,16 @@ target-by (event.Svc number) r call h =
       | inr other ↦ inl (subst (TakesNone targets_taken) h (no-target number r other))
     ]
 
-takes-by : (code : List ℕ) (m : Machine) (number next : ℕ) (taken : Call → ℕ) (call : Call) → TakenBy taken number (step code m).event call → next ≡ (step code m).machine.regs.pc
+takes-by : (code : List ℕ) (m : Machine) (number next : ℕ) (taken : MonitorCall → ℕ) (call : MonitorCall) → TakenBy taken number (step code m).event call → next ≡ (step code m).machine.regs.pc
     → Takes code number m.regs.pc next (taken call)
 takes-by code m number next taken call (inl none) at = inl none
 takes-by code m number next taken call (inr one) at = let c = step-called code m number one.1 in inr (one.0, c.0, at ∙ c.1)
 
-pub takes-bits : (code : List ℕ) (m : Machine) (r : Regs) (next : ℕ) (call : Call) → call_told (step code m).event r ≡ Some call → next ≡ (step code m).machine.regs.pc
+pub takes-bits : (code : List ℕ) (m : Machine) (r : Regs) (next : ℕ) (call : MonitorCall) → call_told (step code m).event r ≡ Some call → next ≡ (step code m).machine.regs.pc
     → Takes code 3 m.regs.pc next (bits_taken call)
 takes-bits code m r next call h at = takes-by code m 3 next bits_taken call (bit-by (step code m).event r call h) at
 
-pub takes-targets : (code : List ℕ) (m : Machine) (r : Regs) (next : ℕ) (call : Call) → call_told (step code m).event r ≡ Some call → next ≡ (step code m).machine.regs.pc
+pub takes-targets : (code : List ℕ) (m : Machine) (r : Regs) (next : ℕ) (call : MonitorCall) → call_told (step code m).event r ≡ Some call → next ≡ (step code m).machine.regs.pc
     → Takes code 4 m.regs.pc next (targets_taken call)
 takes-targets code m r next call h at = takes-by code m 4 next targets_taken call (target-by (step code m).event r call h) at
 
@@ -154,7 +155,7 @@ pc-if : (t : Bool) (a b : Running) (pc : ℕ) → a.machine.regs.pc ≡ pc → b
 pc-if true a b pc p q = p
 pc-if false a b pc p q = q
 
-takes-pc : (s : Running) (m : Machine) (inputs : List ℤ) → (takes s m inputs).machine.regs.pc ≡ m.regs.pc
+takes-pc : (s : Running) (m : Machine) (inputs : List ℤ) → (with_input s m inputs).machine.regs.pc ≡ m.regs.pc
 takes-pc s m [] = refl
 takes-pc s m (value ∷ others) = refl
 
@@ -169,7 +170,7 @@ pub turn-pc : (code : List ℕ) (writes : List Write) (s : Running) → s.end �
 turn-pc code writes s going =
     ap (λ (x : Running). x.machine.regs.pc) (turn-going code writes s going) ∙ told-pc s (step code (found writes s)).machine (step code (found writes s)).event
 
-pub turn-takes : (code : List ℕ) (writes : List Write) (s next : Running) (e : Event) (call : Call) → s.end ≡ None → e ≡ (step code (found writes s)).event
+pub turn-takes : (code : List ℕ) (writes : List Write) (s next : Running) (e : Event) (call : MonitorCall) → s.end ≡ None → e ≡ (step code (found writes s)).event
     → Some call ≡ call_told e s.machine.regs → next ≡ turn code writes s
     → Takes code 3 s.machine.regs.pc next.machine.regs.pc (bits_taken call) × Takes code 4 s.machine.regs.pc next.machine.regs.pc (targets_taken call)
 turn-takes code writes s next e call going told_is call_is next_is =
@@ -189,13 +190,13 @@ pub record Kept (old new : BareRun) : Type 0 where
   pub fit : AllByRecursion IsInLimits new.writes.now
   pub rise : RisesFrom (old.made + 1) new.writes.now
 
-some-opening : (a b : Option Engine) → opening_of a ≡ opening_of b → IsSome b → IsSome a
+some-opening : (a b : Option Engine) → engine_opening a ≡ engine_opening b → IsSome b → IsSome a
 some-opening (Some e) b same some = refl
 some-opening None None same some = absurd (cc)
 some-opening None (Some e) same some = absurd (cc)
 
 pub ready-next : (now next : Course) (bare : BareRun) (bits targets : ℕ) → IsReady now → now.bare.made < now.steps → Kept now.bare bare → next.bare ≡ record bare { end = next.bare.end }
-    → next.steps ≡ now.steps → opening_of next.engine ≡ opening_of now.engine
+    → next.steps ≡ now.steps → engine_opening next.engine ≡ engine_opening now.engine
     → Takes now.bare.code.now 3 now.bare.cpu.pc bare.cpu.pc bits → Takes now.bare.code.now 4 now.bare.cpu.pc bare.cpu.pc targets
     → spare_bits now.engine ≤ spare_bits next.engine + bits → spare_targets now.engine ≤ spare_targets next.engine + targets → IsReady next
 ready-next now next bare bits targets ready left kept same steps opening takes_bits takes_targets bits_spare targets_spare =

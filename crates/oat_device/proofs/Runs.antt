@@ -26,9 +26,9 @@ use Rattle.oat_shape.specs.Shape.{Holds, IsShaped}
 use Rattle.oat_shape.proofs.Scans.{at_contains}
 use Rattle.oat_device.specs.declared.course.Course.{Course}
 use Rattle.oat_device.specs.Bare.{DoesFrom, running_of}
-use Rattle.oat_journal.specs.Measured.{Run, dev, start_cells, opening, body_of, IsSealed}
-use Rattle.oat_device.specs.Standing.{IsOpening, IsReady, Stands, end_of, opening_of, progress_of, reported, state_of}
-use Rattle.oat_journal.specs.Progress.{Progress, after_turns, behind, call_told, first_of, going_on, next_of, progress_of_run}
+use Rattle.oat_journal.specs.Measured.{Run, dev, start_cells, opening_of, body_of, IsSealed, IsOpenedFor}
+use Rattle.oat_device.specs.Standing.{IsReady, Stands, end_of, engine_opening, progress_of, reported, state_of}
+use Rattle.oat_journal.specs.Progress.{Progress, after_turns, with_measurement, call_told, first_of, going_on, measured_turn, progress_of_run}
 use Rattle.oat_journal.proofs.Progress.{Ends, turns_are_the_run}
 
 -- ---- the one opening
@@ -39,7 +39,7 @@ same-begin m op a b paired has_a has_b =
     let j = at_contains m.rows (Begin b op) has_b in
     elim (cases_lt i.0 j.0) [
       | inl before ↦ absurd (paired b j.0 (Begin b op) j.1 refl i.0 a before i.1)
-      | inr behind ↦
+      | inr past ↦
           elim (cases_lt j.0 i.0) [
             | inl after ↦ absurd (paired a i.0 (Begin a op) i.1 refl j.0 b after j.1)
             | inr again ↦
@@ -49,14 +49,14 @@ same-begin m op a b paired has_a has_b =
           ]
     ]
 
-pub same-opening : (image : Image) (session : Session) (o p : Opening) → IsShaped image → IsOpening image session o → IsOpening image session p → o ≡ p
+pub same-opening : (image : Image) (session : Session) (o p : Opening) → IsShaped image → IsOpenedFor image session o → IsOpenedFor image session p → o ≡ p
 same-opening image session o p shaped a b =
     let one : a.1.0 ≡ b.1.0 = same-begin image.map session.op a.1.0 b.1.0 shaped.paired a.1.1 b.1.1 in
     let at : a.0 ≡ b.0 = a.1.2 ∙ ap (λ (k : ℕ). k + 4) one ∙ sym b.1.2 in
-    a.2 ∙ ap (opening session (sha256 (image_text image))) at ∙ sym b.2
+    a.2 ∙ ap (opening_of image session) at ∙ sym b.2
 
 -- the run of a device, with any opening that it can have
-pub run-is : (device : Course) (image : Image) (case : Case) (n : ℕ) (o : Opening) → Stands device image case n → IsOpening image case.session o
+pub run-is : (device : Course) (image : Image) (case : Case) (n : ℕ) (o : Opening) → Stands device image case n → IsOpenedFor image case.session o
     → progress_of device ≡ progress_of_run (dev image o case.inputs case.writes n)
 run-is device image case n o s is =
     subst (λ (x : Opening). progress_of device ≡ progress_of_run (dev image x case.inputs case.writes n)) (same-opening image case.session s.opening o s.shaped s.opens is) s.run
@@ -93,20 +93,20 @@ first-run image case o = turns_are_the_run image o case.inputs case.writes 0
 -- ---- turn by turn
 
 -- the writes that are left do as all of them do
-next-left : (code : List ℕ) (left writes : List Write) (o : Opening) (p : Progress) → DoesFrom p.running.made left writes → next_of code left o p ≡ next_of code writes o p
+next-left : (code : List ℕ) (left writes : List Write) (o : Opening) (p : Progress) → DoesFrom p.running.made left writes → measured_turn code left o p ≡ measured_turn code writes o p
 unfolding turn
 next-left code left writes o p does =
     let s = p.running in
     let same : found left s ≡ found writes s = ap (λ (memory : ℕ → ℕ). record s.machine { memory = memory }) (does s.made s.machine.memory (omega arith)) in
-    ap (λ (m : Machine). behind (record p { running = turn_of s.end s (makes s (step code m)) }) (measured o p.state (call_told (step code m).event s.machine.regs))) same
+    ap (λ (m : Machine). with_measurement (record p { running = turn_of s.end s (makes s (step code m)) }) (measured o p.state (call_told (step code m).event s.machine.regs))) same
 
 one-more : List ℕ → List Write → Opening → Progress → Progress
-one-more code writes o p = going_on p.running.end p (next_of code writes o p)
+one-more code writes o p = going_on p.running.end p (measured_turn code writes o p)
 
-after-next : (code : List ℕ) (writes : List Write) (o : Opening) (n : ℕ) (p : Progress) → after_turns code writes o (suc n) p ≡ going_on (after_turns code writes o n p).running.end (after_turns code writes o n p) (next_of code writes o (after_turns code writes o n p))
+after-next : (code : List ℕ) (writes : List Write) (o : Opening) (n : ℕ) (p : Progress) → after_turns code writes o (suc n) p ≡ going_on (after_turns code writes o n p).running.end (after_turns code writes o n p) (measured_turn code writes o (after_turns code writes o n p))
 unfolding after_turns
 after-next code writes o zero p = refl
-after-next code writes o (suc n) p = after-next code writes o n (going_on p.running.end p (next_of code writes o p))
+after-next code writes o (suc n) p = after-next code writes o n (going_on p.running.end p (measured_turn code writes o p))
 
 still : (code : List ℕ) (writes : List Write) (o : Opening) (k : ℕ) (p : Progress) → Ends (after_turns code writes o k p).running → (d : ℕ) → after_turns code writes o (k + d) p ≡ after_turns code writes o k p
 still code writes o k p ends zero = let same : k + 0 ≡ k = omega arith in ap (λ (n : ℕ). after_turns code writes o n p) same
@@ -114,8 +114,8 @@ still code writes o k p ends (suc d) =
     let same : k + suc d ≡ suc (k + d) = omega arith in
     ap (λ (n : ℕ). after_turns code writes o n p) same
     ∙ after-next code writes o (k + d) p
-    ∙ ap (λ (q : Progress). going_on q.running.end q (next_of code writes o q)) (still code writes o k p ends d)
-    ∙ ap (λ (e : Option DeviceEnd). going_on e (after_turns code writes o k p) (next_of code writes o (after_turns code writes o k p))) ends.is
+    ∙ ap (λ (q : Progress). going_on q.running.end q (measured_turn code writes o q)) (still code writes o k p ends d)
+    ∙ ap (λ (e : Option DeviceEnd). going_on e (after_turns code writes o k p) (measured_turn code writes o (after_turns code writes o k p))) ends.is
 
 -- the run of n instructions, turn by turn
 turned-run : (image : Image) (case : Case) (o : Opening) (n : ℕ) → after_turns image.code case.writes o n (first_of image case.inputs) ≡ progress_of_run (dev image o case.inputs case.writes n)
@@ -146,8 +146,8 @@ stays device image case k m why s ended later within =
 
 -- what one turn does
 pub record Turned (now next : Course) : Type 0 where
-  pub after : (o : Opening) → opening_of now.engine ≡ Some o → progress_of next ≡ next_of now.bare.code.now now.bare.writes.now o (progress_of now)
-  pub opening : opening_of next.engine ≡ opening_of now.engine
+  pub after : (o : Opening) → engine_opening now.engine ≡ Some o → progress_of next ≡ measured_turn now.bare.code.now now.bare.writes.now o (progress_of now)
+  pub opening : engine_opening next.engine ≡ engine_opening now.engine
   pub steps : next.steps ≡ now.steps
   pub code : next.bare.code.now ≡ now.bare.code.now
   pub made : next.bare.made ≡ now.bare.made + 1
@@ -159,11 +159,11 @@ stands-next now next image case k t going counted below s =
     let p = first_of image case.inputs in
     let o = s.opening in
     let here : progress_of now ≡ after_turns image.code case.writes o k p = s.run ∙ sym (turned-run image case o k) in
-    let first : progress_of next ≡ next_of image.code now.bare.writes.now o (progress_of now) =
-    t.after o s.measures ∙ ap (λ (code : List ℕ). next_of code now.bare.writes.now o (progress_of now)) s.code in
-    let all : progress_of next ≡ next_of image.code case.writes o (progress_of now) = first ∙ next-left image.code now.bare.writes.now case.writes o (progress_of now) s.writes in
-    let on : next_of image.code case.writes o (progress_of now) ≡ going_on now.bare.end (progress_of now) (next_of image.code case.writes o (progress_of now)) =
-    sym (ap (λ (e : Option DeviceEnd). going_on e (progress_of now) (next_of image.code case.writes o (progress_of now))) going) in
+    let first : progress_of next ≡ measured_turn image.code now.bare.writes.now o (progress_of now) =
+    t.after o s.measures ∙ ap (λ (code : List ℕ). measured_turn code now.bare.writes.now o (progress_of now)) s.code in
+    let all : progress_of next ≡ measured_turn image.code case.writes o (progress_of now) = first ∙ next-left image.code now.bare.writes.now case.writes o (progress_of now) s.writes in
+    let on : measured_turn image.code case.writes o (progress_of now) ≡ going_on now.bare.end (progress_of now) (measured_turn image.code case.writes o (progress_of now)) =
+    sym (ap (λ (e : Option DeviceEnd). going_on e (progress_of now) (measured_turn image.code case.writes o (progress_of now))) going) in
     let count : suc k ≡ k + 1 = omega arith in
     record {
       shaped = s.shaped;
@@ -174,7 +174,7 @@ stands-next now next image case k t going counted below s =
       opens = s.opens;
       measures = t.opening ∙ s.measures;
       run = all ∙ on
-          ∙ ap (λ (q : Progress). going_on q.running.end q (next_of image.code case.writes o q)) here
+          ∙ ap (λ (q : Progress). going_on q.running.end q (measured_turn image.code case.writes o q)) here
           ∙ sym (after-next image.code case.writes o k p)
           ∙ ap (λ (n : ℕ). after_turns image.code case.writes o n p) count
           ∙ turned-run image case o (k + 1);
@@ -248,7 +248,7 @@ again first now k w image case s = by-first first.bare.end refl where
 
 -- ---- the sealed state
 
-pub sealed-is : (device : Course) (image : Image) (case : Case) (n : ℕ) (o : Opening) → Stands device image case n → IsOpening image case.session o
+pub sealed-is : (device : Course) (image : Image) (case : Case) (n : ℕ) (o : Opening) → Stands device image case n → IsOpenedFor image case.session o
     → {B : Type 0} (now : B → Monitored) (result : Option B)
     → MatchOption result ((state_of device.engine).stage ≡ sealed → ⊥) (λ b. device.engine ≡ Some (engine.After (now b)))
     → MatchOption result (IsSealed (dev image o case.inputs case.writes n) → ⊥)
@@ -261,7 +261,7 @@ sealed-is device image case n o s is now (Some b) some =
     let state = ap (λ (p : Progress). p.state) (run-is device image case n o s is) in
     let here = ap state_of some in
     let opens : shown.opening ≡ o =
-    let own : opening_of (Some (engine.After shown)) ≡ Some s.opening = sym (ap opening_of some) ∙ s.measures in
+    let own : engine_opening (Some (engine.After shown)) ≡ Some s.opening = sym (ap engine_opening some) ∙ s.measures in
     let same : s.opening ≡ o = same-opening image case.session s.opening o s.shaped s.opens is in
     cc in
     let both = sym here ∙ state in

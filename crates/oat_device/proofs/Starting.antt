@@ -7,9 +7,8 @@ use Rattle.std.proofs.Math.Path.{fun_ext}
 use Rattle.std.proofs.lemmas.Bool.{eq-eqb, le-leb, and_from, or_left}
 use Rattle.std.proofs.lemmas.List.{at_drop_more, map_more, take_all}
 use Rattle.std.proofs.lemmas.Option.{slice_get-map}
-use Rattle.oat_mem.specs.DataMemory.{can_access, fits, word_in, with_word, global_base, global_size}
+use Rattle.oat_mem.specs.DataMemory.{can_access, fits, word_in, with_word, global_base, global_size, global_address}
 use Rattle.oat_image.specs.declared.image.InitWord.{InitWord}
-use Rattle.oat_mem.specs.DataMemory.{global_address}
 use Rattle.oat_journal.specs.Run.{start_memory}
 
 -- ---- data memory

@@ -1,4 +1,3 @@
-pub mod Calls
 pub mod Standing
 pub mod Records
 pub mod Bare

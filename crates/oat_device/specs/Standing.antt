@@ -22,13 +22,8 @@ use Rattle.oat_shape.specs.Shape.{IsShaped}
 use Rattle.oat_map.specs.Rows.{BeginsAt}
 use Rattle.oat_device.specs.declared.course.Course.{Course}
 use Rattle.oat_device.specs.Bare.{DoesFrom, running_of}
-use Rattle.oat_journal.specs.Measured.{Run, dev, opening, body_of}
+use Rattle.oat_journal.specs.Measured.{IsOpenedFor, Run, body_of, dev}
 use Rattle.oat_journal.specs.Progress.{Progress, progress_of_run}
-
--- What the window of a session's operation is opened for, on an image: it opens at the SVC of that operation's Begin group.
-abbrev pub IsOpening : Image → Session → Opening → Type 0
-IsOpening image session o =
-    (begin_at : ℕ) × BeginsAt image.map session.op begin_at × (o ≡ opening session (sha256 (image_text image)) begin_at)
 
 -- how a run ended; without an end it is out of steps
 abbrev pub end_of : Run → DeviceEnd
@@ -48,8 +43,8 @@ abbrev pub progress_of : Course → Progress
 progress_of device = record { running = running_of device.bare; state = state_of device.engine }
 
 -- what the device's window is opened for
-abbrev pub opening_of : Option Engine → Option Opening
-opening_of engine = option_map (λ held. (engine_shown held).opening) engine
+abbrev pub engine_opening : Option Engine → Option Opening
+engine_opening engine = option_map (λ held. (engine_shown held).opening) engine
 
 -- ---- room for what is still to come
 
@@ -92,8 +87,8 @@ pub record Stands (device : Course) (image : Image) (case : Case) (n : ℕ) : Ty
   pub steps : device.steps ≡ case.steps
   pub within : n ≤ case.steps
   pub opening : Opening
-  pub opens : IsOpening image case.session opening
-  pub measures : opening_of device.engine ≡ Some opening
+  pub opens : IsOpenedFor image case.session opening
+  pub measures : engine_opening device.engine ≡ Some opening
   pub run : progress_of device ≡ progress_of_run (dev image opening case.inputs case.writes n)
   pub going : device.bare.end ≡ None → device.bare.made ≡ n
   pub writes : DoesFrom device.bare.made device.bare.writes.now case.writes
@@ -101,5 +96,5 @@ pub record Stands (device : Course) (image : Image) (case : Case) (n : ℕ) : Ty
 -- What is claimed of the run for which a device stands, and of what its window is opened for.
 abbrev pub OfItsRun : Course → (Opening → Run → Type 0) → Type 0
 OfItsRun device Claim =
-    (image : Image) (case : Case) (n : ℕ) (o : Opening) → Stands device image case n → IsOpening image case.session o
+    (image : Image) (case : Case) (n : ℕ) (o : Opening) → Stands device image case n → IsOpenedFor image case.session o
     → Claim o (dev image o case.inputs case.writes n)

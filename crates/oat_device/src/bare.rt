@@ -3,7 +3,7 @@ ghost use Rattle.std.specs.Prelude.{◌≡◌, ◌+◌, ◌<◌, ◌≤◌, ◌^
 ghost use Rattle.std.specs.List.{AllByRecursion};
 ghost use Rattle.oat_a64.specs.Step.{step};
 ghost use Rattle.oat_case.specs.Limits.{IsInLimits, RisesFrom};
-ghost use Rattle.oat_journal.specs.Run.{called, ended, found, goes_on, puts, takes, told, trap_of, turn};
+ghost use Rattle.oat_journal.specs.Run.{called, ends_with, found, moves_on, with_output, with_input, told, trap_of, turn};
 ghost use Rattle.oat_device.specs.Bare.{HasSame, DoesFrom, running_of};
 
 use crate::writes::make_due;
@@ -45,7 +45,7 @@ fn trap_of(number: u16) -> TrapKind
 impl<'a> BareRun<'a> {
     fn go_on(&mut self)
         requires { self.old.made < 2 ^ 63 }
-        ensures after { running_of self.new ≡ goes_on (running_of self.old) (running_of self.old).machine }
+        ensures after { running_of self.new ≡ moves_on (running_of self.old) (running_of self.old).machine }
         ensures same { HasSame self.old self.new }
     {
         self.made += 1;
@@ -53,7 +53,7 @@ impl<'a> BareRun<'a> {
 
     fn end_with(&mut self, why: DeviceEnd)
         requires { self.old.made < 2 ^ 63 }
-        ensures after { running_of self.new ≡ ended (running_of self.old) (running_of self.old).machine why }
+        ensures after { running_of self.new ≡ ends_with (running_of self.old) (running_of self.old).machine why }
         ensures same { HasSame self.old self.new }
     {
         self.made += 1;
@@ -62,7 +62,7 @@ impl<'a> BareRun<'a> {
 
     fn take(&mut self)
         requires { self.old.made < 2 ^ 63 }
-        ensures after { running_of self.new ≡ takes (running_of self.old) (running_of self.old).machine self.old.inputs.now }
+        ensures after { running_of self.new ≡ with_input (running_of self.old) (running_of self.old).machine self.old.inputs.now }
         ensures same { HasSame self.old self.new }
     {
         match self.inputs.split_first() {
@@ -78,7 +78,7 @@ impl<'a> BareRun<'a> {
     fn put(&mut self)
         requires countable { self.old.made < 2 ^ 63 }
         requires room { vec_len self.old.outputs < vec_capacity self.old.outputs }
-        ensures after { running_of self.new ≡ puts (running_of self.old) (running_of self.old).machine }
+        ensures after { running_of self.new ≡ with_output (running_of self.old) (running_of self.old).machine }
         ensures same { HasSame self.old self.new }
     {
         self.outputs.push_reserved(self.cpu.x[0].cast_signed());

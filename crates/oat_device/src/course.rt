@@ -1,5 +1,5 @@
 //! The run of a device in the making: turn by turn the bare run, and the monitor that takes its calls.
-ghost use Rattle.std.specs.Prelude.{◌≡◌, ◌<◌, ◌≤◌, ◌+◌, ℕ, IsSome, None, Some, option_map};
+ghost use Rattle.std.specs.Prelude.{◌≡◌, ◌<◌, ◌≤◌, ◌+◌, ℕ, IsSome, None, Some};
 ghost use Rattle.oat_case.specs.declared.case.Case.{Case as CaseGiven};
 ghost use Rattle.oat_cpu.specs.Processor.{regs_of};
 ghost use Rattle.oat_image.specs.declared.image.Image.{Image as ImageGiven};
@@ -7,17 +7,16 @@ ghost use Rattle.oat_measure.specs.declared.opening.Opening.{Opening as OpeningG
 ghost use Rattle.oat_measure.specs.Measurement.{measured};
 ghost use Rattle.oat_device.specs.Bare.{DoesFrom};
 ghost use Rattle.oat_device.specs.Records.{bits_taken, targets_taken};
-ghost use Rattle.oat_device.specs.Standing.{IsReady, OfItsRun, Stands, end_of, opening_of, progress_of, spare_bits, spare_targets, state_of};
-ghost use Rattle.oat_journal.specs.Progress.{behind, call_told, next_of};
-ghost use Rattle.oat_device.specs.Calls.{call_of};
+ghost use Rattle.oat_device.specs.Standing.{IsReady, OfItsRun, Stands, end_of, engine_opening, progress_of, spare_bits, spare_targets, state_of};
+ghost use Rattle.oat_journal.specs.Progress.{with_measurement, call_told, measured_turn};
 
 use crate::bare::BareRun;
-use crate::call::{MonitorCall, call_numbered};
+use crate::call::call_numbered;
 use crate::monitor::told;
 use oat_a64::Event;
 use oat_cpu::Cpu;
 use oat_journal::DeviceEnd;
-use oat_measure::Engine;
+use oat_measure::{Engine, MonitorCall};
 
 #[derive(Drop)]
 pub struct Course<'a> {
@@ -29,7 +28,7 @@ pub struct Course<'a> {
 }
 
 fn call_told(event: Event, found: &Cpu) -> Option<MonitorCall>
-    ensures { option_map call_of result ≡ call_told event (regs_of found.now) }
+    ensures { result ≡ call_told event (regs_of found.now) }
 {
     match event {
         Event::Svc(number) => call_numbered(number, found),
@@ -41,12 +40,12 @@ impl<'a> Course<'a> {
     // The monitor takes a call.
     fn tell(&mut self, call: MonitorCall)
         requires engine { IsSome self.old.engine }
-        requires bits { bits_taken (call_of call) ≤ spare_bits self.old.engine }
-        requires targets { targets_taken (call_of call) ≤ spare_targets self.old.engine }
-        ensures after { (o : OpeningGiven) → opening_of self.old.engine ≡ Some o → progress_of self.new ≡ behind (progress_of self.old) (measured o (state_of self.old.engine) (Some (call_of call))) }
-        ensures opening { opening_of self.new.engine ≡ opening_of self.old.engine }
-        ensures bits { spare_bits self.old.engine ≤ spare_bits self.new.engine + bits_taken (call_of call) }
-        ensures targets { spare_targets self.old.engine ≤ spare_targets self.new.engine + targets_taken (call_of call) }
+        requires bits { bits_taken call ≤ spare_bits self.old.engine }
+        requires targets { targets_taken call ≤ spare_targets self.old.engine }
+        ensures after { (o : OpeningGiven) → engine_opening self.old.engine ≡ Some o → progress_of self.new ≡ with_measurement (progress_of self.old) (measured o (state_of self.old.engine) (Some call)) }
+        ensures opening { engine_opening self.new.engine ≡ engine_opening self.old.engine }
+        ensures bits { spare_bits self.old.engine ≤ spare_bits self.new.engine + bits_taken call }
+        ensures targets { spare_targets self.old.engine ≤ spare_targets self.new.engine + targets_taken call }
         ensures steps { self.new.steps ≡ self.old.steps }
         ensures bare { self.new.bare ≡ record self.old.bare { end = self.new.bare.end } }
     {
@@ -62,8 +61,8 @@ impl<'a> Course<'a> {
         requires going { self.old.bare.end ≡ None }
         requires left { self.old.bare.made < self.old.steps }
         requires ready { IsReady self.old }
-        ensures after { (o : OpeningGiven) → opening_of self.old.engine ≡ Some o → progress_of self.new ≡ next_of self.old.bare.code.now self.old.bare.writes.now o (progress_of self.old) }
-        ensures opening { opening_of self.new.engine ≡ opening_of self.old.engine }
+        ensures after { (o : OpeningGiven) → engine_opening self.old.engine ≡ Some o → progress_of self.new ≡ measured_turn self.old.bare.code.now self.old.bare.writes.now o (progress_of self.old) }
+        ensures opening { engine_opening self.new.engine ≡ engine_opening self.old.engine }
         ensures steps { self.new.steps ≡ self.old.steps }
         ensures code { self.new.bare.code.now ≡ self.old.bare.code.now }
         ensures made { self.new.bare.made ≡ self.old.bare.made + 1 }

@@ -11,6 +11,7 @@ mod start;
 mod tests;
 mod writes;
 
-pub use call::{MonitorCall, call_numbered};
+pub use call::call_numbered;
 pub use device::Device;
 pub use oat_journal::{DeviceEnd, StopKind};
+pub use oat_measure::MonitorCall;

@@ -1,19 +1,16 @@
 //! What a monitor call does to the one engine of a run.
 ghost use Rattle.std.specs.Prelude.{◌≡◌, ◌+◌, ◌≤◌, Some, Ok};
 ghost use Rattle.oat_measure.specs.Measurement.{measured, measuring, sealed, unmeasured};
-ghost use Rattle.oat_measure.specs.Monitor as calls;
+ghost use Rattle.oat_measure.specs.declared.call.MonitorCall.TheVariants as svc;
 ghost use Rattle.oat_measure.specs.Monitored.{Keeps, state_at};
 ghost use Rattle.oat_measure.specs.Transitions.{engine_shown, engine_state};
 ghost use Rattle.oat_device.specs.Records.{bits_taken, targets_taken};
 ghost use Rattle.oat_journal.specs.Progress.{kept, stop_of};
-ghost use Rattle.oat_device.specs.Calls.{call_of};
 
-use crate::call::MonitorCall;
-use oat_journal::StopKind;
-use oat_measure::{Begun, Ended, Engine, Measuring, Sealed, Unmeasured};
+use oat_measure::{Begun, Ended, Engine, Measuring, MonitorCall, Sealed, StopKind, Unmeasured};
 
 fn told_before(mut before: Unmeasured, call: MonitorCall) -> Engine
-    ensures state { measured before.opening (state_at unmeasured before) (Some (call_of call)) ≡ Ok (engine_state result) }
+    ensures state { measured before.opening (state_at unmeasured before) (Some call) ≡ Ok (engine_state result) }
     ensures keeps { Keeps before (engine_shown result) }
 {
     match call {
@@ -31,8 +28,8 @@ fn told_before(mut before: Unmeasured, call: MonitorCall) -> Engine
 
 // An end of another operation than the window's stops the run.
 fn ended(inside: Measuring, op: u64) -> (Engine, Option<StopKind>)
-    ensures state { engine_state result.0 ≡ kept (state_at measuring inside) (measured inside.opening (state_at measuring inside) (Some (calls.ends op))) }
-    ensures stop { result.1 ≡ stop_of (measured inside.opening (state_at measuring inside) (Some (calls.ends op))) }
+    ensures state { engine_state result.0 ≡ kept (state_at measuring inside) (measured inside.opening (state_at measuring inside) (Some (svc.End op))) }
+    ensures stop { result.1 ≡ stop_of (measured inside.opening (state_at measuring inside) (Some (svc.End op))) }
     ensures keeps { Keeps inside (engine_shown result.0) }
 {
     match inside.end(op) {
@@ -42,13 +39,13 @@ fn ended(inside: Measuring, op: u64) -> (Engine, Option<StopKind>)
 }
 
 fn told_inside(mut inside: Measuring, call: MonitorCall) -> (Engine, Option<StopKind>)
-    requires bits { bits_taken (call_of call) ≤ inside.spare_bits }
-    requires targets { targets_taken (call_of call) ≤ inside.spare_targets }
-    ensures state { engine_state result.0 ≡ kept (state_at measuring inside) (measured inside.opening (state_at measuring inside) (Some (call_of call))) }
-    ensures stop { result.1 ≡ stop_of (measured inside.opening (state_at measuring inside) (Some (call_of call))) }
+    requires bits { bits_taken call ≤ inside.spare_bits }
+    requires targets { targets_taken call ≤ inside.spare_targets }
+    ensures state { engine_state result.0 ≡ kept (state_at measuring inside) (measured inside.opening (state_at measuring inside) (Some call)) }
+    ensures stop { result.1 ≡ stop_of (measured inside.opening (state_at measuring inside) (Some call)) }
     ensures opening { (engine_shown result.0).opening ≡ inside.opening }
-    ensures bits { inside.spare_bits ≤ (engine_shown result.0).spare_bits + bits_taken (call_of call) }
-    ensures targets { inside.spare_targets ≤ (engine_shown result.0).spare_targets + targets_taken (call_of call) }
+    ensures bits { inside.spare_bits ≤ (engine_shown result.0).spare_bits + bits_taken call }
+    ensures targets { inside.spare_targets ≤ (engine_shown result.0).spare_targets + targets_taken call }
 {
     match call {
         MonitorCall::Begin { .. } => return (Engine::Inside(inside), Some(StopKind::Nested)),
@@ -63,7 +60,7 @@ fn told_inside(mut inside: Measuring, call: MonitorCall) -> (Engine, Option<Stop
 }
 
 fn told_after(mut after: Sealed, call: MonitorCall) -> Engine
-    ensures state { measured after.opening (state_at sealed after) (Some (call_of call)) ≡ Ok (engine_state result) }
+    ensures state { measured after.opening (state_at sealed after) (Some call) ≡ Ok (engine_state result) }
     ensures keeps { Keeps after (engine_shown result) }
 {
     if let MonitorCall::Define { cell, value } = call {
@@ -74,13 +71,13 @@ fn told_after(mut after: Sealed, call: MonitorCall) -> Engine
 
 /// The engine behind a monitor call, and why that stops the run, where it does.
 pub fn told(engine: Engine, call: MonitorCall) -> (Engine, Option<StopKind>)
-    requires bits { bits_taken (call_of call) ≤ (engine_shown engine).spare_bits }
-    requires targets { targets_taken (call_of call) ≤ (engine_shown engine).spare_targets }
-    ensures state { engine_state result.0 ≡ kept (engine_state engine) (measured (engine_shown engine).opening (engine_state engine) (Some (call_of call))) }
-    ensures stop { result.1 ≡ stop_of (measured (engine_shown engine).opening (engine_state engine) (Some (call_of call))) }
+    requires bits { bits_taken call ≤ (engine_shown engine).spare_bits }
+    requires targets { targets_taken call ≤ (engine_shown engine).spare_targets }
+    ensures state { engine_state result.0 ≡ kept (engine_state engine) (measured (engine_shown engine).opening (engine_state engine) (Some call)) }
+    ensures stop { result.1 ≡ stop_of (measured (engine_shown engine).opening (engine_state engine) (Some call)) }
     ensures opening { (engine_shown result.0).opening ≡ (engine_shown engine).opening }
-    ensures bits { (engine_shown engine).spare_bits ≤ (engine_shown result.0).spare_bits + bits_taken (call_of call) }
-    ensures targets { (engine_shown engine).spare_targets ≤ (engine_shown result.0).spare_targets + targets_taken (call_of call) }
+    ensures bits { (engine_shown engine).spare_bits ≤ (engine_shown result.0).spare_bits + bits_taken call }
+    ensures targets { (engine_shown engine).spare_targets ≤ (engine_shown result.0).spare_targets + targets_taken call }
 {
     match engine {
         Engine::Before(before) => (told_before(before, call), None),

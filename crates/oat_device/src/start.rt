@@ -5,8 +5,7 @@ ghost use Rattle.oat_measure.specs.Monitored.{cells_of};
 ghost use Rattle.oat_mem.specs.DataMemory.{byte_at};
 ghost use Rattle.oat_journal.specs.Run.{start_memory};
 ghost use Rattle.oat_map.specs.Rows.{IsOperation};
-ghost use Rattle.oat_journal.specs.Measured.{start_cells};
-ghost use Rattle.oat_device.specs.Standing.{IsOpening};
+ghost use Rattle.oat_journal.specs.Measured.{start_cells, IsOpenedFor};
 
 use oat_case::Session;
 use oat_image::Image;
@@ -47,7 +46,7 @@ pub fn start_cells(alloc: Global, image: &Image, memory: &Memory) -> Result<Vec<
 /// What the window of a session's operation is opened for.
 pub fn opening(shaped: &Shaped, session: &Session) -> Opening
     requires { IsOperation shaped.now.map session.now.op }
-    ensures { IsOpening shaped.now session.now result }
+    ensures { IsOpenedFor shaped.now session.now result }
 {
     Opening {
         nonce: session.nonce,

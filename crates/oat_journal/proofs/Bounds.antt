@@ -2,7 +2,7 @@
 use Rattle.std.proofs.Common.{◌≡◌, ◌+◌, ◌^◌, ◌<◌, ◌==◌, ◌&&◌, ℕ, zero, suc, ℤ, pos, negsuc, Bool, true, false, cond, eqb, ltb, List, [], ◌∷◌, slice_get, slice_index, Option, Some, None, refl, sym, subst, ◌∙◌, arith, lit<, FitsSigned}
 use Rattle.std.specs.Int.{w64}
 use Rattle.std.specs.List.{filter, fold, All}
-use Rattle.oat_mem.specs.DataMemory.{with_bytes, with_word, IsBytes}
+use Rattle.oat_mem.specs.DataMemory.{with_bytes, with_word, IsBytes, global_address}
 use Rattle.oat_mem.proofs.Words.{memory_stays_bytes}
 use Rattle.oat_a64.specs.declared.event.Event.{Event}
 use Rattle.oat_a64.specs.declared.event.Event.TheVariants as event
@@ -12,8 +12,7 @@ use Rattle.oat_case.specs.declared.case.Write.{Write}
 use Rattle.oat_image.specs.declared.image.Image.{Image}
 use Rattle.oat_image.specs.declared.image.InitWord.{InitWord}
 use Rattle.oat_journal.specs.declared.end.DeviceEnd.{DeviceEnd}
-use Rattle.oat_mem.specs.DataMemory.{global_address}
-use Rattle.oat_journal.specs.Run.{Running, Entry, IsWrite, start_memory, started, poked, found, told, takes, makes, turn, turn_of, entry, from_entry, journal_from}
+use Rattle.oat_journal.specs.Run.{Running, Entry, IsWrite, start_memory, started, poked, found, told, with_input, makes, turn, turn_of, entry, from_entry, journal_from}
 use Rattle.oat_journal.specs.Journal.{IsEntryBounded, JournalIsBounded}
 use Rattle.oat_journal.proofs.Turns.{EntryIs, entry-is}
 
@@ -69,7 +68,7 @@ within-if : (t : Bool) (a b : Running) → Within a → Within b → Within (con
 within-if true a b p q = p
 within-if false a b p q = q
 
-within-takes : (s : Running) (m : Machine) → IsBounded m → (inputs : List ℤ) → All (FitsSigned w64) inputs → All (FitsSigned w64) s.inputs → Within (takes s m inputs)
+within-takes : (s : Running) (m : Machine) → IsBounded m → (inputs : List ℤ) → All (FitsSigned w64) inputs → All (FitsSigned w64) s.inputs → Within (with_input s m inputs)
 within-takes s m b [] h g = record { machine = b; inputs = g }
 within-takes s m b (z ∷ zs) h g = record {
   machine = record { x = set-lt m.regs.x 0 (unsigned z) b.x (input-lt z (all-first (FitsSigned w64) z zs h)); sp = b.sp; pc = b.pc; bytes = b.bytes };

@@ -9,7 +9,7 @@ use Rattle.oat_image.specs.Worked.{one_jump}
 use Rattle.oat_measure.specs.Measurement.{measures}
 use Rattle.oat_journal.specs.declared.end.DeviceEnd.{DeviceEnd}
 use Rattle.oat_journal.specs.declared.end.DeviceEnd.TheVariants.{Halted}
-use Rattle.oat_journal.specs.Run.{Running, Entry, started, found, makes, turns, entry_of, from_entry, journal, journal_from, bare}
+use Rattle.oat_journal.specs.Run.{Running, Entry, started, found, makes, turns, made_entry, from_entry, journal, journal_from, bare}
 use Rattle.oat_journal.proofs.Turns.{turn-is}
 use Rattle.oat_journal.specs.Worked.{one_jump_opening, one_jump_run, ShowsOneJump, OneJumpIsMeasured}
 
@@ -25,17 +25,17 @@ journal-goes : (code : List ℕ) (n : ℕ) (s : Running) (i : Inst) → s.end �
     → journal_from code [] (suc n) s ≡ entry_by s i ∷ journal_from code [] n (made_by s i)
 unfolding journal_from
 journal-goes code n s i going at on =
-    ap (λ (r : Running). from_entry (entry_of (instruction_at code s.machine.regs.pc) (found [] s) r.end r) (journal_from code [] n r)) (turn-is code [] s i going at)
-    ∙ ap (λ (o : Option Inst). from_entry (entry_of o (found [] s) (made_by s i).end (made_by s i)) (journal_from code [] n (made_by s i))) at
-    ∙ ap (λ (e : Option DeviceEnd). from_entry (entry_of (Some i) (found [] s) e (made_by s i)) (journal_from code [] n (made_by s i))) on
+    ap (λ (r : Running). from_entry (made_entry (instruction_at code s.machine.regs.pc) (found [] s) r.end r) (journal_from code [] n r)) (turn-is code [] s i going at)
+    ∙ ap (λ (o : Option Inst). from_entry (made_entry o (found [] s) (made_by s i).end (made_by s i)) (journal_from code [] n (made_by s i))) at
+    ∙ ap (λ (e : Option DeviceEnd). from_entry (made_entry (Some i) (found [] s) e (made_by s i)) (journal_from code [] n (made_by s i))) on
 
 journal-ends : (code : List ℕ) (n : ℕ) (s : Running) (i : Inst) (why : DeviceEnd) → s.end ≡ None → instruction_at code s.machine.regs.pc ≡ Some i → (made_by s i).end ≡ Some why
     → journal_from code [] (suc n) s ≡ []
 unfolding journal_from
 journal-ends code n s i why going at off =
-    ap (λ (r : Running). from_entry (entry_of (instruction_at code s.machine.regs.pc) (found [] s) r.end r) (journal_from code [] n r)) (turn-is code [] s i going at)
-    ∙ ap (λ (o : Option Inst). from_entry (entry_of o (found [] s) (made_by s i).end (made_by s i)) (journal_from code [] n (made_by s i))) at
-    ∙ ap (λ (e : Option DeviceEnd). from_entry (entry_of (Some i) (found [] s) e (made_by s i)) (journal_from code [] n (made_by s i))) off
+    ap (λ (r : Running). from_entry (made_entry (instruction_at code s.machine.regs.pc) (found [] s) r.end r) (journal_from code [] n r)) (turn-is code [] s i going at)
+    ∙ ap (λ (o : Option Inst). from_entry (made_entry o (found [] s) (made_by s i).end (made_by s i)) (journal_from code [] n (made_by s i))) at
+    ∙ ap (λ (e : Option DeviceEnd). from_entry (made_entry (Some i) (found [] s) e (made_by s i)) (journal_from code [] n (made_by s i))) off
 
 turns-go : (code : List ℕ) (n : ℕ) (s : Running) (i : Inst) → s.end ≡ None → instruction_at code s.machine.regs.pc ≡ Some i
     → turns code [] (suc n) s ≡ turns code [] n (made_by s i)

@@ -5,20 +5,22 @@ use Rattle.oat_a64.specs.declared.event.Event.TheVariants as event
 use Rattle.oat_a64.specs.declared.inst.Inst.{Inst}
 use Rattle.oat_a64.specs.Fetch.{inst_of}
 use Rattle.oat_a64.specs.declared.inst.Inst.TheVariants.{BCond, Cbz, Cbnz, Ldr, Str, Svc, Brk}
-use Rattle.oat_a64.specs.Step.{Regs, Machine, Outcome, instruction_at, word_at, act, acts, decodes, step, holds, reg, reg_or_sp, wrap}
+use Rattle.oat_a64.specs.Step.{Regs, Machine, Effect, instruction_at, word_at, act, acts, decodes, step, holds, reg, reg_or_sp, wrap}
 use Rattle.oat_mem.specs.DataMemory.{can_access}
 use Rattle.oat_case.specs.declared.case.Write.{Write}
 use Rattle.oat_image.specs.declared.image.Image.{Image}
 use Rattle.oat_measure.specs.declared.opening.Opening.{Opening}
-use Rattle.oat_measure.specs.Monitor.{Call, call_of, call_numbered}
-use Rattle.oat_measure.specs.Measurement.{State, Stop, Measured, booted, behind as joined, measured, measures}
+use Rattle.oat_measure.specs.Monitor.{call_of, call_numbered}
+use Rattle.oat_measure.specs.declared.call.MonitorCall.{MonitorCall}
+use Rattle.oat_measure.specs.Measurement.{State, Measured, booted, with_rest, measured, measures}
+use Rattle.oat_measure.specs.declared.stop.StopKind.{StopKind}
 use Rattle.oat_journal.specs.declared.end.DeviceEnd.{DeviceEnd}
 use Rattle.oat_journal.specs.declared.end.DeviceEnd.TheVariants.{Stopped}
-use Rattle.oat_journal.specs.Run.{Running, Entry, started, found, makes, told, called, turn, turns, turn_of, entry, entry_of, from_entry, journal_from}
+use Rattle.oat_journal.specs.Run.{Running, Entry, started, found, makes, told, called, turn, turns, turn_of, entry, made_entry, from_entry, journal_from}
 use Rattle.oat_journal.specs.Window.{made_call}
 use Rattle.oat_journal.proofs.Turns.{EntryIs, entry-is, step-is}
-use Rattle.oat_journal.specs.Measured.{run_until, start_cells, stop_kind}
-use Rattle.oat_journal.specs.Progress.{Progress, call_told, kept, stop_of, stopped_by, next_of, going_on, after_turns, progress_of_run, TurnsAreTheRun}
+use Rattle.oat_journal.specs.Measured.{run_until, start_cells}
+use Rattle.oat_journal.specs.Progress.{Progress, call_told, kept, stop_of, stopped_by, measured_turn, going_on, after_turns, progress_of_run, TurnsAreTheRun}
 
 -- ---- the call of an entry
 
@@ -27,7 +29,7 @@ abbrev Fits : Event → Inst → Regs → Type 0
 Fits (event.Fault kind) i r = Unit {0}
 Fits e i r = call_told e r ≡ call_of i r
 
-fits-if : (t : Bool) (a b : Outcome) (i : Inst) (r : Regs) → Fits a.event i r → Fits b.event i r → Fits (cond t a b).event i r
+fits-if : (t : Bool) (a b : Effect) (i : Inst) (r : Regs) → Fits a.event i r → Fits b.event i r → Fits (cond t a b).event i r
 fits-if true a b i r p q = p
 fits-if false a b i r p q = q
 
@@ -59,7 +61,7 @@ call-of-entry code writes s e is =
     let stepped : step code m ≡ act e.inst m = step-is code m e.inst is.fetched in
     let made : turn code writes s ≡ makes s (act e.inst m) = turn-going code writes s is.going ∙ ap (makes s) stepped in
     let on : (makes s (act e.inst m)).end ≡ None = sym (ap (λ (x : Running). x.end) made) ∙ is.goes_on in
-    ap (λ (o : Outcome). call_told o.event s.machine.regs) stepped
+    ap (λ (o : Effect). call_told o.event s.machine.regs) stepped
     ∙ fits-going s (act e.inst m).machine (act e.inst m).event e.inst s.machine.regs on (tells e.inst m s.machine.regs)
     ∙ ap (λ (x : Machine). call_of e.inst x.regs) (sym is.found)
 
@@ -88,7 +90,7 @@ not-fetched None s m h = record { why = _; is = refl }
 not-fetched (Some word) s m h = subst (λ (o : Option Inst). Ends (makes s (acts o m))) (sym h) (record { why = _; is = refl })
 
 no-entry : (code : List ℕ) (writes : List Write) (s : Running) → s.end ≡ None → (o : Option Inst) (e : Option DeviceEnd)
-    → instruction_at code s.machine.regs.pc ≡ o → (turn code writes s).end ≡ e → entry_of o (found writes s) e (turn code writes s) ≡ None → Ends (turn code writes s)
+    → instruction_at code s.machine.regs.pc ≡ o → (turn code writes s).end ≡ e → made_entry o (found writes s) e (turn code writes s) ≡ None → Ends (turn code writes s)
 unfolding step
 no-entry code writes s going o (Some why) at is h = record { why = why; is = is }
 no-entry code writes s going (Some i) None at is h = absurd (cc)
@@ -110,7 +112,7 @@ pub progress-stays : (code : List ℕ) (writes : List Write) (o : Opening) (n : 
 unfolding after_turns
 progress-stays code writes o zero p ends = refl
 progress-stays code writes o (suc n) p ends =
-    ap (λ (e : Option DeviceEnd). after_turns code writes o n (going_on e p (next_of code writes o p))) ends.is ∙ progress-stays code writes o n p ends
+    ap (λ (e : Option DeviceEnd). after_turns code writes o n (going_on e p (measured_turn code writes o p))) ends.is ∙ progress-stays code writes o n p ends
 
 no-entries : (code : List ℕ) (writes : List Write) (n : ℕ) (s : Running) → entry code writes s ≡ None → journal_from code writes n s ≡ []
 unfolding journal_from
@@ -119,9 +121,9 @@ no-entries code writes (suc n) s none = ap (λ (e : Option Entry). from_entry e 
 
 -- ---- the whole run
 
-abbrev until : List ℕ → List Write → ℕ → Running → Measured → Option Stop → Progress
+abbrev until : List ℕ → List Write → ℕ → Running → Measured → Option StopKind → Progress
 until code writes n s m None = record { running = turns code writes n s; state = m.state }
-until code writes n s m (Some stop) = record { running = record (turns code writes m.taken s) { end = Some (Stopped (stop_kind stop)) }; state = m.state }
+until code writes n s m (Some stop) = record { running = record (turns code writes m.taken s) { end = Some (Stopped stop) }; state = m.state }
 
 abbrev run_from : List ℕ → List Write → Opening → ℕ → Running → State → Measured
 run_from code writes o n s st = measures o st (map made_call (journal_from code writes n s))
@@ -130,16 +132,16 @@ abbrev Same : List ℕ → List Write → Opening → ℕ → Running → State 
 Same code writes o n s st =
     after_turns code writes o n (record { running = s; state = st }) ≡ until code writes n s (run_from code writes o n s st) (run_from code writes o n s st).stop
 
-abbrev advanced : List ℕ → List Write → Running → State → Result State Stop → Progress
+abbrev advanced : List ℕ → List Write → Running → State → Result State StopKind → Progress
 advanced code writes s st r = record { running = stopped_by (stop_of r) (turn code writes s); state = kept st r }
 
-next-is : (code : List ℕ) (writes : List Write) (o : Opening) (n : ℕ) (s : Running) (st : State) (call : Option Call) → s.end ≡ None
+next-is : (code : List ℕ) (writes : List Write) (o : Opening) (n : ℕ) (s : Running) (st : State) (call : Option MonitorCall) → s.end ≡ None
     → call_told (step code (found writes s)).event s.machine.regs ≡ call
     → after_turns code writes o (suc n) (record { running = s; state = st }) ≡ after_turns code writes o n (advanced code writes s st (measured o st call))
 unfolding after_turns
 next-is code writes o n s st call going is =
-    ap (λ (e : Option DeviceEnd). after_turns code writes o n (going_on e (record { running = s; state = st }) (next_of code writes o (record { running = s; state = st })))) going
-    ∙ ap (λ (c : Option Call). after_turns code writes o n (advanced code writes s st (measured o st c))) is
+    ap (λ (e : Option DeviceEnd). after_turns code writes o n (going_on e (record { running = s; state = st }) (measured_turn code writes o (record { running = s; state = st })))) going
+    ∙ ap (λ (c : Option MonitorCall). after_turns code writes o n (advanced code writes s st (measured o st c))) is
 
 same-at : (code : List ℕ) (writes : List Write) (o : Opening) (n : ℕ) (s : Running) (st : State) (last : Running) (js : List Entry) → js ≡ [] → turns code writes n s ≡ last
     → until code writes n s (measures o st (map made_call js)) (measures o st (map made_call js)).stop ≡ record { running = last; state = st }
@@ -155,21 +157,21 @@ same-none code writes o n s st js none stay = same-at code writes o n s st s js 
 add-one-is : (k : ℕ) → k + 1 ≡ suc k
 add-one-is k = omega arith
 
-until-next : (code : List ℕ) (writes : List Write) (n : ℕ) (s : Running) (m : Measured) (stop : Option Stop)
+until-next : (code : List ℕ) (writes : List Write) (n : ℕ) (s : Running) (m : Measured) (stop : Option StopKind)
     → until code writes (suc n) s (record m { taken = m.taken + 1 }) stop ≡ until code writes n (turn code writes s) m stop
 unfolding turns
 until-next code writes n s m None = refl
 until-next code writes n s m (Some stop) =
-    ap (λ (k : ℕ). record { running = record (turns code writes k s) { end = Some (Stopped (stop_kind stop)) }; state = m.state }) (add-one-is m.taken)
+    ap (λ (k : ℕ). record { running = record (turns code writes k s) { end = Some (Stopped stop) }; state = m.state }) (add-one-is m.taken)
 
-same-step : (code : List ℕ) (writes : List Write) (o : Opening) (n : ℕ) (s : Running) (st : State) (calls : List (Option Call)) → (r : Result State Stop)
+same-step : (code : List ℕ) (writes : List Write) (o : Opening) (n : ℕ) (s : Running) (st : State) (calls : List (Option MonitorCall)) → (r : Result State StopKind)
     → ((next : State) → after_turns code writes o n (record { running = turn code writes s; state = next }) ≡ until code writes n (turn code writes s) (measures o next calls) (measures o next calls).stop)
-    → after_turns code writes o n (advanced code writes s st r) ≡ until code writes (suc n) s (joined st r (λ (next : State). measures o next calls)) (joined st r (λ (next : State). measures o next calls)).stop
+    → after_turns code writes o n (advanced code writes s st r) ≡ until code writes (suc n) s (with_rest st r (λ (next : State). measures o next calls)) (with_rest st r (λ (next : State). measures o next calls)).stop
 unfolding turns
 same-step code writes o n s st calls (Ok next) rest =
     rest next ∙ sym (until-next code writes n s (measures o next calls) (measures o next calls).stop)
 same-step code writes o n s st calls (Err stop) rest =
-    progress-stays code writes o n (record { running = record (turn code writes s) { end = Some (Stopped (stop_kind stop)) }; state = st }) (record { why = Stopped (stop_kind stop); is = refl })
+    progress-stays code writes o n (record { running = record (turn code writes s) { end = Some (Stopped stop) }; state = st }) (record { why = Stopped stop; is = refl })
 
 turns-next : (code : List ℕ) (writes : List Write) (n : ℕ) (s : Running) → turns code writes (suc n) s ≡ turns code writes n (turn code writes s)
 unfolding turns
@@ -179,7 +181,7 @@ journal-next : (code : List ℕ) (writes : List Write) (n : ℕ) (s : Running) (
 unfolding journal_from
 journal-next code writes n s e is = ap (λ (x : Option Entry). from_entry x (journal_from code writes n (turn code writes s))) is
 
-measures-next : (o : Opening) (st : State) (call : Option Call) (calls : List (Option Call)) → measures o st (call ∷ calls) ≡ joined st (measured o st call) (λ (next : State). measures o next calls)
+measures-next : (o : Opening) (st : State) (call : Option MonitorCall) (calls : List (Option MonitorCall)) → measures o st (call ∷ calls) ≡ with_rest st (measured o st call) (λ (next : State). measures o next calls)
 unfolding measures
 measures-next o st call calls = refl
 
@@ -202,7 +204,7 @@ same-entry : (code : List ℕ) (writes : List Write) (o : Opening) (n : ℕ) (s 
 same-entry code writes o n s st e is rest =
     let w = entry-is code writes s e is in
     let calls = map made_call (journal_from code writes n (turn code writes s)) in
-    let m : run_from code writes o (suc n) s st ≡ joined st (measured o st (made_call e)) (λ (next : State). measures o next calls) =
+    let m : run_from code writes o (suc n) s st ≡ with_rest st (measured o st (made_call e)) (λ (next : State). measures o next calls) =
     ap (λ (js : List Entry). measures o st (map made_call js)) (journal-next code writes n s e is) ∙ measures-next o st (made_call e) calls in
     next-is code writes o n s st (made_call e) w.going (call-of-entry code writes s e w)
     ∙ same-step code writes o n s st calls (measured o st (made_call e)) rest
@@ -220,7 +222,7 @@ unfolding after_turns journal_from measures turns
 same code writes o zero s st = refl
 same code writes o (suc n) s st = same-by code writes o n s st (λ next. same code writes o n (turn code writes s) next) s.end (entry code writes s) refl refl
 
-as-run : (image : Image) (inputs : List ℤ) (writes : List Write) (n : ℕ) (m : Measured) (stop : Option Stop)
+as-run : (image : Image) (inputs : List ℤ) (writes : List Write) (n : ℕ) (m : Measured) (stop : Option StopKind)
     → until image.code writes n (started image inputs) m stop ≡ progress_of_run (run_until image inputs writes n m stop)
 as-run image inputs writes n m None = refl
 as-run image inputs writes n m (Some stop) = refl

@@ -6,15 +6,21 @@ use Rattle.sha2.specs.Sha256.{sha256}
 use Rattle.oat_blob.specs.declared.body.Violation.{Violation}
 use Rattle.oat_chain.specs.Chain.{begin_record, link}
 use Rattle.oat_measure.specs.declared.opening.Opening.{Opening}
-use Rattle.oat_measure.specs.Monitor.{Call, begins, ends, bit, target, returns, defines, uses, opens}
-use Rattle.oat_measure.specs.Measurement.{State, Stage, unmeasured, measuring, sealed, Stop, nested, wrong_end, Cells, booted, defined, violated, inside, before as unopened, after as closed, behind as joined, measured, measures}
-use Rattle.oat_journal.specs.Window.{ahead, behind as after_begin, through_end, window}
+use Rattle.oat_measure.specs.Monitor.{opens}
+use Rattle.oat_measure.specs.declared.call.MonitorCall.{MonitorCall}
+use Rattle.oat_measure.specs.declared.call.MonitorCall.TheVariants as svc
+use Rattle.oat_measure.specs.Measurement.{State, Stage, unmeasured, measuring, sealed, booted, violated, inside_window, before_window, after_window, with_rest, measured, measures}
+use Rattle.oat_measure.specs.declared.stop.StopKind.{StopKind}
+use Rattle.oat_measure.specs.declared.stop.StopKind.TheVariants.{Nested, WrongEnd}
+use Rattle.oat_events.specs.Cells.{Cells, defined}
+use Rattle.oat_events.specs.Windows.{beyond, through}
+use Rattle.oat_journal.specs.Window.{opens_window, seals_window, up_to_window, window}
 use Rattle.oat_journal.specs.Uses.{CheckedUse, IsSound, define_of, last_of, defined_value, uses_behind}
 use Rattle.oat_journal.specs.Measured.{first_unsound}
 use Rattle.oat_journal.specs.Violations.{same, uses_among, ViolationsAreExact, NoViolationIsSound}
 
 abbrev Calls : Type 0
-Calls = List (Option Call)
+Calls = List (Option MonitorCall)
 
 -- ---- what a cell holds: the value that it was last defined as
 
@@ -30,11 +36,11 @@ append-none [] = refl
 append-none (v ∷ vs) = ap (λ (rest : List ℕ). v ∷ rest) (append-none vs)
 
 -- a call that defines nothing
-value-other : (j word : ℕ) (before : Calls) (call : Option Call) → define_of j call ≡ None → defined_value word j (before ++ call ∷ []) ≡ defined_value word j before
+value-other : (j word : ℕ) (before : Calls) (call : Option MonitorCall) → define_of j call ≡ None → defined_value word j (before ++ call ∷ []) ≡ defined_value word j before
 value-other j word before call none =
     ap (last_of word) (filter_map-append (define_of j) before (call ∷ []) ∙ ap (λ (o : Option ℕ). filter_map (define_of j) before ++ cons_option o []) none ∙ append-none (filter_map (define_of j) before))
 
-value-defined : (j word value : ℕ) (before : Calls) (call : Option Call) → define_of j call ≡ Some value → defined_value word j (before ++ call ∷ []) ≡ value
+value-defined : (j word value : ℕ) (before : Calls) (call : Option MonitorCall) → define_of j call ≡ Some value → defined_value word j (before ++ call ∷ []) ≡ value
 value-defined j word value before call some =
     ap (last_of word) (filter_map-append (define_of j) before (call ∷ []) ∙ ap (λ (o : Option ℕ). filter_map (define_of j) before ++ cons_option o []) some)
     ∙ last_of-behind word value (filter_map (define_of j) before)
@@ -43,66 +49,66 @@ map-same : (o : Option ℕ) (f g : ℕ → ℕ) → ((word : ℕ) → f word ≡
 map-same None f g h = refl
 map-same (Some word) f g h = ap Some (h word)
 
-held-other : (words : Cells) (before : Calls) (cells : Cells) (call : Option Call) → ((j : ℕ) → define_of j call ≡ None) → Held words before cells → Held words (before ++ call ∷ []) cells
+held-other : (words : Cells) (before : Calls) (cells : Cells) (call : Option MonitorCall) → ((j : ℕ) → define_of j call ≡ None) → Held words before cells → Held words (before ++ call ∷ []) cells
 unfolding Held
 held-other words before cells call none held j =
     held j ∙ map-same (words j) _ _ (λ (word : ℕ). sym (value-other j word before call (none j)))
 
 -- the cell that is defined, and the others
-held-some : (words : Cells) (before : Calls) (cell value j : ℕ) → define_of j (Some (defines cell value)) ≡ Some value → (o : Option ℕ)
-    → cond (is_some (option_map (λ (word : ℕ). defined_value word j before) o)) (Some value) (option_map (λ (word : ℕ). defined_value word j before) o) ≡ option_map (λ (word : ℕ). defined_value word j (before ++ Some (defines cell value) ∷ [])) o
+held-some : (words : Cells) (before : Calls) (cell value j : ℕ) → define_of j (Some (svc.Define cell value)) ≡ Some value → (o : Option ℕ)
+    → cond (is_some (option_map (λ (word : ℕ). defined_value word j before) o)) (Some value) (option_map (λ (word : ℕ). defined_value word j before) o) ≡ option_map (λ (word : ℕ). defined_value word j (before ++ Some (svc.Define cell value) ∷ [])) o
 held-some words before cell value j at None = refl
-held-some words before cell value j at (Some word) = ap Some (sym (value-defined j word value before (Some (defines cell value)) at))
+held-some words before cell value j at (Some word) = ap Some (sym (value-defined j word value before (Some (svc.Define cell value)) at))
 
 held-at : (words : Cells) (before : Calls) (cells : Cells) (cell value j : ℕ) → Held words before cells → (t : Bool) → eqb j cell ≡ t
-    → cond (t && is_some (cells j)) (Some value) (cells j) ≡ option_map (λ (word : ℕ). defined_value word j (before ++ Some (defines cell value) ∷ [])) (words j)
+    → cond (t && is_some (cells j)) (Some value) (cells j) ≡ option_map (λ (word : ℕ). defined_value word j (before ++ Some (svc.Define cell value) ∷ [])) (words j)
 unfolding Held
 held-at words before cells cell value j held true is =
-    subst (λ (o : Option ℕ). cond (is_some o) (Some value) o ≡ option_map (λ (word : ℕ). defined_value word j (before ++ Some (defines cell value) ∷ [])) (words j)) (sym (held j))
+    subst (λ (o : Option ℕ). cond (is_some o) (Some value) o ≡ option_map (λ (word : ℕ). defined_value word j (before ++ Some (svc.Define cell value) ∷ [])) (words j)) (sym (held j))
     (held-some words before cell value j (ap (λ (t : Bool). cond t (Some value) None) is) (words j))
 held-at words before cells cell value j held false is =
-    held j ∙ map-same (words j) _ _ (λ (word : ℕ). sym (value-other j word before (Some (defines cell value)) (ap (λ (t : Bool). cond t (Some value) None) is)))
+    held j ∙ map-same (words j) _ _ (λ (word : ℕ). sym (value-other j word before (Some (svc.Define cell value)) (ap (λ (t : Bool). cond t (Some value) None) is)))
 
 held-is : (words : Cells) (before : Calls) (cells : Cells) → Held words before cells → (j : ℕ) → cells j ≡ option_map (λ (word : ℕ). defined_value word j before) (words j)
 unfolding Held
 held-is words before cells held j = held j
 
-held-define : (words : Cells) (before : Calls) (cells : Cells) (cell value : ℕ) → Held words before cells → Held words (before ++ Some (defines cell value) ∷ []) (defined cells cell value)
+held-define : (words : Cells) (before : Calls) (cells : Cells) (cell value : ℕ) → Held words before cells → Held words (before ++ Some (svc.Define cell value) ∷ []) (defined cells cell value)
 unfolding Held
 held-define words before cells cell value held j = held-at words before cells cell value j held (eqb j cell) refl
 
 -- ---- one call of the fold
 
-pub step-ok : (o : Opening) (s : State) (call : Option Call) (next : State) (calls : Calls) → measured o s call ≡ Ok next → (measures o s (call ∷ calls)).state ≡ (measures o next calls).state
+pub step-ok : (o : Opening) (s : State) (call : Option MonitorCall) (next : State) (calls : Calls) → measured o s call ≡ Ok next → (measures o s (call ∷ calls)).state ≡ (measures o next calls).state
 unfolding measures
-step-ok o s call next calls h = ap (λ (r : Result State Stop). (joined s r (λ (n : State). measures o n calls)).state) h
+step-ok o s call next calls h = ap (λ (r : Result State StopKind). (with_rest s r (λ (n : State). measures o n calls)).state) h
 
-pub step-err : (o : Opening) (s : State) (call : Option Call) (stop : Stop) (calls : Calls) → measured o s call ≡ Err stop → (measures o s (call ∷ calls)).state ≡ s
+pub step-err : (o : Opening) (s : State) (call : Option MonitorCall) (stop : StopKind) (calls : Calls) → measured o s call ≡ Err stop → (measures o s (call ∷ calls)).state ≡ s
 unfolding measures
-step-err o s call stop calls h = ap (λ (r : Result State Stop). (joined s r (λ (n : State). measures o n calls)).state) h
+step-err o s call stop calls h = ap (λ (r : Result State StopKind). (with_rest s r (λ (n : State). measures o n calls)).state) h
 
 pub no-calls : (o : Opening) (s : State) → (measures o s []).state ≡ s
 unfolding measures
 no-calls o s = refl
 
-abbrev by_stage : Opening → State → Call → Stage → Result State Stop
-by_stage o s call unmeasured = Ok (unopened o s call)
-by_stage o s call measuring = inside o s call
-by_stage o s call sealed = Ok (closed s call)
+abbrev by_stage : Opening → State → MonitorCall → Stage → Result State StopKind
+by_stage o s call unmeasured = Ok (before_window o s call)
+by_stage o s call measuring = inside_window o s call
+by_stage o s call sealed = Ok (after_window s call)
 
-pub staged : (o : Opening) (s : State) (call : Call) (stage : Stage) → s.stage ≡ stage → measured o s (Some call) ≡ by_stage o s call stage
-staged o s call unmeasured is = ap (λ (stage : Stage). elim stage as (λ _. Result State Stop) [ unmeasured ↦ Ok (unopened o s call) | measuring ↦ inside o s call | sealed ↦ Ok (closed s call) ]) is
-staged o s call measuring is = ap (λ (stage : Stage). elim stage as (λ _. Result State Stop) [ unmeasured ↦ Ok (unopened o s call) | measuring ↦ inside o s call | sealed ↦ Ok (closed s call) ]) is
-staged o s call sealed is = ap (λ (stage : Stage). elim stage as (λ _. Result State Stop) [ unmeasured ↦ Ok (unopened o s call) | measuring ↦ inside o s call | sealed ↦ Ok (closed s call) ]) is
+pub staged : (o : Opening) (s : State) (call : MonitorCall) (stage : Stage) → s.stage ≡ stage → measured o s (Some call) ≡ by_stage o s call stage
+staged o s call unmeasured is = ap (λ (stage : Stage). elim stage as (λ _. Result State StopKind) [ unmeasured ↦ Ok (before_window o s call) | measuring ↦ inside_window o s call | sealed ↦ Ok (after_window s call) ]) is
+staged o s call measuring is = ap (λ (stage : Stage). elim stage as (λ _. Result State StopKind) [ unmeasured ↦ Ok (before_window o s call) | measuring ↦ inside_window o s call | sealed ↦ Ok (after_window s call) ]) is
+staged o s call sealed is = ap (λ (stage : Stage). elim stage as (λ _. Result State StopKind) [ unmeasured ↦ Ok (before_window o s call) | measuring ↦ inside_window o s call | sealed ↦ Ok (after_window s call) ]) is
 
 -- ---- behind the window
 
-pub closed-stage : (s : State) (call : Call) → (closed s call).stage ≡ s.stage
-closed-stage s (defines cell value) = refl
+pub closed-stage : (s : State) (call : MonitorCall) → (after_window s call).stage ≡ s.stage
+closed-stage s (svc.Define cell value) = refl
 closed-stage s _ = refl
 
-closed-violation : (s : State) (call : Call) → (closed s call).violation ≡ s.violation
-closed-violation s (defines cell value) = refl
+closed-violation : (s : State) (call : MonitorCall) → (after_window s call).violation ≡ s.violation
+closed-violation s (svc.Define cell value) = refl
 closed-violation s _ = refl
 
 abbrev violation_in : State → Option Violation
@@ -115,8 +121,8 @@ sealed-keeps : (o : Opening) (s : State) (calls : Calls) → s.stage ≡ sealed 
 sealed-keeps o s [] is = ap violation_in (no-calls o s)
 sealed-keeps o s (None ∷ calls) is = ap violation_in (step-ok o s None s calls refl) ∙ sealed-keeps o s calls is
 sealed-keeps o s (Some call ∷ calls) is =
-    ap violation_in (step-ok o s (Some call) (closed s call) calls (staged o s call sealed is))
-    ∙ sealed-keeps o (closed s call) calls (closed-stage s call ∙ is) ∙ closed-violation s call
+    ap violation_in (step-ok o s (Some call) (after_window s call) calls (staged o s call sealed is))
+    ∙ sealed-keeps o (after_window s call) calls (closed-stage s call ∙ is) ∙ closed-violation s call
 
 -- ---- inside the window
 
@@ -155,60 +161,60 @@ abbrev Exact : Opening → State → Calls → Option Violation → Type 0
 Exact o s calls v = (measures o s calls).state.stage ≡ sealed → (measures o s calls).state.violation ≡ v
 
 -- what holds behind a call holds of it
-behind-call : (o : Opening) (s next : State) (call : Option Call) (calls : Calls) (v : Option Violation) → measured o s call ≡ Ok next → Exact o next calls v → Exact o s (call ∷ calls) v
+behind-call : (o : Opening) (s next : State) (call : Option MonitorCall) (calls : Calls) (v : Option Violation) → measured o s call ≡ Ok next → Exact o next calls v → Exact o s (call ∷ calls) v
 behind-call o s next call calls v to rest h =
     let step = step-ok o s call next calls to in
     ap violation_in step ∙ rest (sym (ap stage_of step) ∙ h)
 
 -- a stop inside the window seals nothing
-at-stop : (o : Opening) (s : State) (call : Option Call) (stop : Stop) (calls : Calls) (v : Option Violation) → s.stage ≡ measuring → measured o s call ≡ Err stop → Exact o s (call ∷ calls) v
+at-stop : (o : Opening) (s : State) (call : Option MonitorCall) (stop : StopKind) (calls : Calls) (v : Option Violation) → s.stage ≡ measuring → measured o s call ≡ Err stop → Exact o s (call ∷ calls) v
 at-stop o s call stop calls v is to h = not-sealed s.stage is (sym (ap stage_of (step-err o s call stop calls to)) ∙ h)
 
 -- the violation of the window's rest
 abbrev in_rest : Opening → Cells → Calls → State → Calls → Option Violation
-in_rest o words before s calls = first_of s.violation (first_unsound (uses_behind words before (through_end same o.op calls)))
+in_rest o words before s calls = first_of s.violation (first_unsound (uses_behind words before (through (seals_window same o.op) calls)))
 
 at-end : (o : Opening) (words : Cells) (before : Calls) (s : State) (op : ℕ) (calls : Calls) → s.stage ≡ measuring → (t : Bool) → eqb op o.op ≡ t
-    → Exact o s (Some (ends op) ∷ calls) (first_of s.violation (first_unsound (uses_behind words before (cond t (Some (ends op) ∷ []) (Some (ends op) ∷ through_end same o.op calls)))))
+    → Exact o s (Some (svc.End op) ∷ calls) (first_of s.violation (first_unsound (uses_behind words before (cond t (Some (svc.End op) ∷ []) (Some (svc.End op) ∷ through (seals_window same o.op) calls)))))
 at-end o words before s op calls is true end =
-    behind-call o s (record s { stage = sealed }) (Some (ends op)) calls _
-    (staged o s (ends op) measuring is ∙ ap (λ (t : Bool). cond t (Ok (record s { stage = sealed })) (Err wrong_end)) end)
+    behind-call o s (record s { stage = sealed }) (Some (svc.End op)) calls _
+    (staged o s (svc.End op) measuring is ∙ ap (λ (t : Bool). cond t (Ok (record s { stage = sealed })) (Err WrongEnd)) end)
     (λ h. sealed-keeps o (record s { stage = sealed }) calls refl ∙ sym (first_of-none s.violation))
 at-end o words before s op calls is false end =
-    at-stop o s (Some (ends op)) wrong_end calls _ is
-    (staged o s (ends op) measuring is ∙ ap (λ (t : Bool). cond t (Ok (record s { stage = sealed })) (Err wrong_end)) end)
+    at-stop o s (Some (svc.End op)) WrongEnd calls _ is
+    (staged o s (svc.End op) measuring is ∙ ap (λ (t : Bool). cond t (Ok (record s { stage = sealed })) (Err WrongEnd)) end)
 
 inside-exact : (o : Opening) (words : Cells) (before : Calls) (s : State) (calls : Calls) → s.stage ≡ measuring → Held words before s.cells → Exact o s calls (in_rest o words before s calls)
 inside-exact o words before s [] is held = λ h. not-sealed s.stage is (sym (ap stage_of (no-calls o s)) ∙ h)
 inside-exact o words before s (None ∷ calls) is held =
     behind-call o s s None calls _ refl
     (inside-exact o words (before ++ None ∷ []) s calls is (held-other words before s.cells None (λ _. refl) held))
-inside-exact o words before s (Some (begins op at) ∷ calls) is held =
-    at-stop o s (Some (begins op at)) nested calls _ is (staged o s (begins op at) measuring is)
-inside-exact o words before s (Some (ends op) ∷ calls) is held =
+inside-exact o words before s (Some (svc.Begin op at) ∷ calls) is held =
+    at-stop o s (Some (svc.Begin op at)) Nested calls _ is (staged o s (svc.Begin op at) measuring is)
+inside-exact o words before s (Some (svc.End op) ∷ calls) is held =
     at-end o words before s op calls is (eqb op o.op) refl
-inside-exact o words before s (Some (bit value) ∷ calls) is held =
-    let call = Some (bit value) in
-    behind-call o s (record s { bits = s.bits ++ not (eqb value 0) ∷ [] }) call calls _ (staged o s (bit value) measuring is)
+inside-exact o words before s (Some (svc.Bit value) ∷ calls) is held =
+    let call = Some (svc.Bit value) in
+    behind-call o s (record s { bits = s.bits ++ not (eqb value 0) ∷ [] }) call calls _ (staged o s (svc.Bit value) measuring is)
     (inside-exact o words (before ++ call ∷ []) (record s { bits = s.bits ++ not (eqb value 0) ∷ [] }) calls is (held-other words before s.cells call (λ _. refl) held))
-inside-exact o words before s (Some (target address) ∷ calls) is held =
-    let call = Some (target address) in
-    behind-call o s (record s { targets = s.targets ++ address ∷ [] }) call calls _ (staged o s (target address) measuring is)
+inside-exact o words before s (Some (svc.Target address) ∷ calls) is held =
+    let call = Some (svc.Target address) in
+    behind-call o s (record s { targets = s.targets ++ address ∷ [] }) call calls _ (staged o s (svc.Target address) measuring is)
     (inside-exact o words (before ++ call ∷ []) (record s { targets = s.targets ++ address ∷ [] }) calls is (held-other words before s.cells call (λ _. refl) held))
-inside-exact o words before s (Some (returns address) ∷ calls) is held =
-    let call = Some (returns address) in
-    behind-call o s (record s { hash = sha256 (link s.hash address) }) call calls _ (staged o s (returns address) measuring is)
+inside-exact o words before s (Some (svc.Return address) ∷ calls) is held =
+    let call = Some (svc.Return address) in
+    behind-call o s (record s { hash = sha256 (link s.hash address) }) call calls _ (staged o s (svc.Return address) measuring is)
     (inside-exact o words (before ++ call ∷ []) (record s { hash = sha256 (link s.hash address) }) calls is (held-other words before s.cells call (λ _. refl) held))
-inside-exact o words before s (Some (defines cell value) ∷ calls) is held =
-    let call = Some (defines cell value) in
-    behind-call o s (record s { cells = defined s.cells cell value }) call calls _ (staged o s (defines cell value) measuring is)
+inside-exact o words before s (Some (svc.Define cell value) ∷ calls) is held =
+    let call = Some (svc.Define cell value) in
+    behind-call o s (record s { cells = defined s.cells cell value }) call calls _ (staged o s (svc.Define cell value) measuring is)
     (inside-exact o words (before ++ call ∷ []) (record s { cells = defined s.cells cell value }) calls is (held-define words before s.cells cell value held))
-inside-exact o words before s (Some (uses cell value) ∷ calls) is held =
-    let call = Some (uses cell value) in
+inside-exact o words before s (Some (svc.Use cell value) ∷ calls) is held =
+    let call = Some (svc.Use cell value) in
     let next = record s { violation = violated s.violation cell (s.cells cell) value } in
-    let later = uses_behind words (before ++ call ∷ []) (through_end same o.op calls) in
+    let later = uses_behind words (before ++ call ∷ []) (through (seals_window same o.op) calls) in
     let rest = inside-exact o words (before ++ call ∷ []) next calls is (held-other words before s.cells call (λ _. refl) held) in
-    λ h. behind-call o s next call calls _ (staged o s (uses cell value) measuring is) rest h
+    λ h. behind-call o s next call calls _ (staged o s (svc.Use cell value) measuring is) rest h
     ∙ ap (λ (c : Option ℕ). first_of (violated s.violation cell c value) (first_unsound later)) (held-is words before s.cells held cell)
     ∙ use-first cell value before s.violation (words cell) later
 
@@ -216,21 +222,21 @@ inside-exact o words before s (Some (uses cell value) ∷ calls) is held =
 
 abbrev in_window : Opening → Cells → Calls → Calls → Option Violation
 in_window o words before calls =
-    first_unsound (uses_behind words (before ++ ahead same o.op o.begin_at calls) (window same o.op o.begin_at calls))
+    first_unsound (uses_behind words (before ++ up_to_window same o.op o.begin_at calls) (window same o.op o.begin_at calls))
 
 -- a call that doesn't open the window
-passes-by : (o : Opening) (words : Cells) (before : Calls) (call : Option Call) (calls : Calls)
-    → in_window o words (before ++ call ∷ []) calls ≡ first_unsound (uses_behind words (before ++ call ∷ ahead same o.op o.begin_at calls) (window same o.op o.begin_at calls))
+passes-by : (o : Opening) (words : Cells) (before : Calls) (call : Option MonitorCall) (calls : Calls)
+    → in_window o words (before ++ call ∷ []) calls ≡ first_unsound (uses_behind words (before ++ call ∷ up_to_window same o.op o.begin_at calls) (window same o.op o.begin_at calls))
 passes-by o words before call calls =
-    ap (λ (front : Calls). first_unsound (uses_behind words front (window same o.op o.begin_at calls))) (append_assoc before (call ∷ []) (ahead same o.op o.begin_at calls))
+    ap (λ (front : Calls). first_unsound (uses_behind words front (window same o.op o.begin_at calls))) (append_assoc before (call ∷ []) (up_to_window same o.op o.begin_at calls))
 
 abbrev Awaits : Opening → Cells → Calls → Type 0
 Awaits o words calls =
     (before : Calls) (s : State) → s.stage ≡ unmeasured → s.violation ≡ None → Held words before s.cells → Exact o s calls (in_window o words before calls)
 
-stays-out : (o : Opening) (words : Cells) (call : Option Call) (calls : Calls) → Awaits o words calls
+stays-out : (o : Opening) (words : Cells) (call : Option MonitorCall) (calls : Calls) → Awaits o words calls
     → (before : Calls) (s next : State) → measured o s call ≡ Ok next → next.stage ≡ unmeasured → next.violation ≡ None → Held words (before ++ call ∷ []) next.cells
-    → Exact o s (call ∷ calls) (first_unsound (uses_behind words (before ++ call ∷ ahead same o.op o.begin_at calls) (window same o.op o.begin_at calls)))
+    → Exact o s (call ∷ calls) (first_unsound (uses_behind words (before ++ call ∷ up_to_window same o.op o.begin_at calls) (window same o.op o.begin_at calls)))
 stays-out o words call calls rest before s next to is none held =
     behind-call o s next call calls _ to
     (λ h. rest (before ++ call ∷ []) next is none held h ∙ passes-by o words before call calls)
@@ -238,48 +244,48 @@ stays-out o words call calls rest before s next to is none held =
 at-begin : (o : Opening) (words : Cells) (op at : ℕ) (calls : Calls) → Awaits o words calls
     → (before : Calls) (s : State) → s.stage ≡ unmeasured → s.violation ≡ None → Held words before s.cells
     → (t : Bool) → (eqb op o.op && eqb at o.begin_at) ≡ t
-    → Exact o s (Some (begins op at) ∷ calls) (first_unsound (uses_behind words
-    (before ++ cond t (Some (begins op at) ∷ []) (Some (begins op at) ∷ ahead same o.op o.begin_at calls))
-    (through_end same o.op (cond t calls (after_begin same o.op o.begin_at calls)))))
+    → Exact o s (Some (svc.Begin op at) ∷ calls) (first_unsound (uses_behind words
+    (before ++ cond t (Some (svc.Begin op at) ∷ []) (Some (svc.Begin op at) ∷ up_to_window same o.op o.begin_at calls))
+    (through (seals_window same o.op) (cond t calls (beyond (opens_window same o.op o.begin_at) calls)))))
 at-begin o words op at calls rest before s is none held true opens =
-    let call = Some (begins op at) in
+    let call = Some (svc.Begin op at) in
     let next = record s { stage = measuring; hash = sha256 (begin_record o.nonce o.op o.digest) } in
     behind-call o s next call calls _
-    (staged o s (begins op at) unmeasured is ∙ ap (λ (t : Bool). Ok (cond t next s)) opens)
+    (staged o s (svc.Begin op at) unmeasured is ∙ ap (λ (t : Bool). Ok (cond t next s)) opens)
     (λ h.
     inside-exact o words (before ++ call ∷ []) next calls refl (held-other words before s.cells call (λ _. refl) held) h
-    ∙ ap (λ (v : Option Violation). first_of v (first_unsound (uses_behind words (before ++ call ∷ []) (through_end same o.op calls)))) none)
+    ∙ ap (λ (v : Option Violation). first_of v (first_unsound (uses_behind words (before ++ call ∷ []) (through (seals_window same o.op) calls)))) none)
 at-begin o words op at calls rest before s is none held false opens =
-    let call = Some (begins op at) in
+    let call = Some (svc.Begin op at) in
     let next = record s { stage = measuring; hash = sha256 (begin_record o.nonce o.op o.digest) } in
     stays-out o words call calls rest before s s
-    (staged o s (begins op at) unmeasured is ∙ ap (λ (t : Bool). Ok (cond t next s)) opens)
+    (staged o s (svc.Begin op at) unmeasured is ∙ ap (λ (t : Bool). Ok (cond t next s)) opens)
     is none (held-other words before s.cells call (λ _. refl) held)
 
 awaits : (o : Opening) (words : Cells) (calls : Calls) → Awaits o words calls
 awaits o words [] before s is none held = λ h. not-open s.stage is (sym (ap stage_of (no-calls o s)) ∙ h)
 awaits o words (None ∷ calls) before s is none held =
     stays-out o words None calls (awaits o words calls) before s s refl is none (held-other words before s.cells None (λ _. refl) held)
-awaits o words (Some (begins op at) ∷ calls) before s is none held =
+awaits o words (Some (svc.Begin op at) ∷ calls) before s is none held =
     at-begin o words op at calls (awaits o words calls) before s is none held (eqb op o.op && eqb at o.begin_at) refl
-awaits o words (Some (defines cell value) ∷ calls) before s is none held =
-    stays-out o words (Some (defines cell value)) calls (awaits o words calls) before s (record s { cells = defined s.cells cell value })
-    (staged o s (defines cell value) unmeasured is) is none (held-define words before s.cells cell value held)
-awaits o words (Some (ends op) ∷ calls) before s is none held =
-    stays-out o words (Some (ends op)) calls (awaits o words calls) before s s
-    (staged o s (ends op) unmeasured is) is none (held-other words before s.cells (Some (ends op)) (λ _. refl) held)
-awaits o words (Some (bit value) ∷ calls) before s is none held =
-    stays-out o words (Some (bit value)) calls (awaits o words calls) before s s
-    (staged o s (bit value) unmeasured is) is none (held-other words before s.cells (Some (bit value)) (λ _. refl) held)
-awaits o words (Some (target address) ∷ calls) before s is none held =
-    stays-out o words (Some (target address)) calls (awaits o words calls) before s s
-    (staged o s (target address) unmeasured is) is none (held-other words before s.cells (Some (target address)) (λ _. refl) held)
-awaits o words (Some (returns address) ∷ calls) before s is none held =
-    stays-out o words (Some (returns address)) calls (awaits o words calls) before s s
-    (staged o s (returns address) unmeasured is) is none (held-other words before s.cells (Some (returns address)) (λ _. refl) held)
-awaits o words (Some (uses cell value) ∷ calls) before s is none held =
-    stays-out o words (Some (uses cell value)) calls (awaits o words calls) before s s
-    (staged o s (uses cell value) unmeasured is) is none (held-other words before s.cells (Some (uses cell value)) (λ _. refl) held)
+awaits o words (Some (svc.Define cell value) ∷ calls) before s is none held =
+    stays-out o words (Some (svc.Define cell value)) calls (awaits o words calls) before s (record s { cells = defined s.cells cell value })
+    (staged o s (svc.Define cell value) unmeasured is) is none (held-define words before s.cells cell value held)
+awaits o words (Some (svc.End op) ∷ calls) before s is none held =
+    stays-out o words (Some (svc.End op)) calls (awaits o words calls) before s s
+    (staged o s (svc.End op) unmeasured is) is none (held-other words before s.cells (Some (svc.End op)) (λ _. refl) held)
+awaits o words (Some (svc.Bit value) ∷ calls) before s is none held =
+    stays-out o words (Some (svc.Bit value)) calls (awaits o words calls) before s s
+    (staged o s (svc.Bit value) unmeasured is) is none (held-other words before s.cells (Some (svc.Bit value)) (λ _. refl) held)
+awaits o words (Some (svc.Target address) ∷ calls) before s is none held =
+    stays-out o words (Some (svc.Target address)) calls (awaits o words calls) before s s
+    (staged o s (svc.Target address) unmeasured is) is none (held-other words before s.cells (Some (svc.Target address)) (λ _. refl) held)
+awaits o words (Some (svc.Return address) ∷ calls) before s is none held =
+    stays-out o words (Some (svc.Return address)) calls (awaits o words calls) before s s
+    (staged o s (svc.Return address) unmeasured is) is none (held-other words before s.cells (Some (svc.Return address)) (λ _. refl) held)
+awaits o words (Some (svc.Use cell value) ∷ calls) before s is none held =
+    stays-out o words (Some (svc.Use cell value)) calls (awaits o words calls) before s s
+    (staged o s (svc.Use cell value) unmeasured is) is none (held-other words before s.cells (Some (svc.Use cell value)) (λ _. refl) held)
 
 -- ---- the laws
 

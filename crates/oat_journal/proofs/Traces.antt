@@ -9,11 +9,17 @@ use Rattle.oat_case.specs.declared.case.Write.{Write}
 use Rattle.oat_chain.specs.Chain.{begin_record, chain, link}
 use Rattle.oat_image.specs.declared.image.Image.{Image}
 use Rattle.oat_measure.specs.declared.opening.Opening.{Opening}
-use Rattle.oat_measure.specs.Monitor.{Call, begins, ends, bit, target, returns, defines, uses, call_of, opens, seals}
-use Rattle.oat_measure.specs.Measurement.{State, unmeasured, measuring, sealed, Stop, nested, wrong_end, booted, defined, violated, after as closed, measured, measures}
-use Rattle.oat_journal.specs.Run.{Entry, Given, journal, next_of}
+use Rattle.oat_measure.specs.Monitor.{call_of, opens, seals}
+use Rattle.oat_measure.specs.declared.call.MonitorCall.{MonitorCall}
+use Rattle.oat_measure.specs.declared.call.MonitorCall.TheVariants as svc
+use Rattle.oat_measure.specs.Measurement.{State, unmeasured, measuring, sealed, booted, violated, after_window, measured, measures}
+use Rattle.oat_measure.specs.declared.stop.StopKind.{StopKind}
+use Rattle.oat_measure.specs.declared.stop.StopKind.TheVariants.{Nested, WrongEnd}
+use Rattle.oat_events.specs.Cells.{defined}
+use Rattle.oat_journal.specs.Run.{Entry, AreGiven, journal, next_of}
 use Rattle.oat_journal.specs.Journal.{takes_input, IsMade}
-use Rattle.oat_journal.specs.Window.{made_call, is_made, behind as after_begin, through_end, window, returned, recorded_bit, recorded_target, returns_of_run, bits_of_run, targets_of_run}
+use Rattle.oat_events.specs.Windows.{beyond, through}
+use Rattle.oat_journal.specs.Window.{made_call, is_made, opens_window, seals_window, window, returned, recorded_bit, recorded_target, returns_of_run, bits_of_run, targets_of_run}
 use Rattle.oat_journal.proofs.Linkage.{journal_is_made, journal_is_linked}
 use Rattle.oat_journal.proofs.Bounds.{journal_is_bounded}
 use Rattle.oat_journal.specs.Measured.{Run, run_until, start_cells, dev, IsSealed, window_of}
@@ -61,63 +67,63 @@ pub record Holds (s : State) (chain_is : List ℕ) (bits_are : List Bool) (targe
   pub targets : s.targets ≡ targets_are
 
 -- the state behind a list has gathered what this part of it made
-abbrev Gathers : {X : Type 0} → (X → Option Call) → State → State → List X → Type 0
+abbrev Gathers : {X : Type 0} → (X → Option MonitorCall) → State → State → List X → Type 0
 Gathers call s later xs =
     Holds later (chained s.hash (filter_map (λ x. returned (call x)) xs)) (s.bits ++ filter_map (λ x. recorded_bit (call x)) xs) (s.targets ++ filter_map (λ x. recorded_target (call x)) xs)
 
 -- one call inside a window that leaves it open
-pub record Adds (s next : State) (call : Option Call) : Type 0 where
+pub record Adds (s next : State) (call : Option MonitorCall) : Type 0 where
   pub measuring : next.stage ≡ measuring
   pub goes_on : (op : ℕ) → is_made (seals op) call ≡ false
   pub quiet : IsQuiet call
   pub holds : Holds next (chained s.hash (cons_option (returned call) [])) (s.bits ++ cons_option (recorded_bit call) []) (s.targets ++ cons_option (recorded_target call) [])
 
-pub record Ended {X : Type 0} (call : X → Option Call) (o : Opening) (s : State) (xs : List X) : Type 0 where
+pub record Ended {X : Type 0} (call : X → Option MonitorCall) (o : Opening) (s : State) (xs : List X) : Type 0 where
   pub front : List X
   pub last : X
   pub beyond : List X
   pub whole : xs ≡ front ++ last ∷ beyond
-  pub window : through_end call o.op xs ≡ front ++ last ∷ []
-  pub seals : call last ≡ Some (ends o.op)
+  pub window : through (seals_window call o.op) xs ≡ front ++ last ∷ []
+  pub seals : call last ≡ Some (svc.End o.op)
   pub quiet : (k : ℕ) (x : X) → slice_get front k ≡ Some x → IsQuiet (call x)
-  pub gathers : Gathers call s (measures o s (map call xs)).state (through_end call o.op xs)
+  pub gathers : Gathers call s (measures o s (map call xs)).state (through (seals_window call o.op) xs)
 
-abbrev Sealed : Opening → State → List (Option Call) → Type 0
+abbrev Sealed : Opening → State → List (Option MonitorCall) → Type 0
 Sealed o s calls = (measures o s calls).state.stage ≡ sealed
 
 -- behind the window nothing more is gathered
 
-closed-hash : (s : State) (call : Call) → (closed s call).hash ≡ s.hash
-closed-hash s (defines cell value) = refl
+closed-hash : (s : State) (call : MonitorCall) → (after_window s call).hash ≡ s.hash
+closed-hash s (svc.Define cell value) = refl
 closed-hash s _ = refl
 
-closed-bits : (s : State) (call : Call) → (closed s call).bits ≡ s.bits
-closed-bits s (defines cell value) = refl
+closed-bits : (s : State) (call : MonitorCall) → (after_window s call).bits ≡ s.bits
+closed-bits s (svc.Define cell value) = refl
 closed-bits s _ = refl
 
-closed-targets : (s : State) (call : Call) → (closed s call).targets ≡ s.targets
-closed-targets s (defines cell value) = refl
+closed-targets : (s : State) (call : MonitorCall) → (after_window s call).targets ≡ s.targets
+closed-targets s (svc.Define cell value) = refl
 closed-targets s _ = refl
 
-kept : {A : Type 0} (part : State → A) → ((s : State) (call : Call) → part (closed s call) ≡ part s) → (o : Opening) (s : State) (calls : List (Option Call)) → s.stage ≡ sealed → part (measures o s calls).state ≡ part s
+kept : {A : Type 0} (part : State → A) → ((s : State) (call : MonitorCall) → part (after_window s call) ≡ part s) → (o : Opening) (s : State) (calls : List (Option MonitorCall)) → s.stage ≡ sealed → part (measures o s calls).state ≡ part s
 kept part same o s [] is = ap part (no-calls o s)
 kept part same o s (None ∷ calls) is = ap part (step-ok o s None s calls refl) ∙ kept part same o s calls is
 kept part same o s (Some call ∷ calls) is =
-    ap part (step-ok o s (Some call) (closed s call) calls (staged o s call sealed is))
-    ∙ kept part same o (closed s call) calls (closed-stage s call ∙ is) ∙ same s call
+    ap part (step-ok o s (Some call) (after_window s call) calls (staged o s call sealed is))
+    ∙ kept part same o (after_window s call) calls (closed-stage s call ∙ is) ∙ same s call
 
 -- ---- inside the window
 
-quiet-more : {X : Type 0} (call : X → Option Call) (x : X) (front : List X) → IsQuiet (call x) → ((k : ℕ) (y : X) → slice_get front k ≡ Some y → IsQuiet (call y)) → (k : ℕ) (y : X) → slice_get (x ∷ front) k ≡ Some y → IsQuiet (call y)
+quiet-more : {X : Type 0} (call : X → Option MonitorCall) (x : X) (front : List X) → IsQuiet (call x) → ((k : ℕ) (y : X) → slice_get front k ≡ Some y → IsQuiet (call y)) → (k : ℕ) (y : X) → slice_get (x ∷ front) k ≡ Some y → IsQuiet (call y)
 quiet-more {X} call x front first rest zero y h =
     let q : x ≡ y = (cc) in subst (λ (z : X). IsQuiet (call z)) q first
 quiet-more call x front first rest (suc k) y h = rest k y h
 
-goes-on : {X : Type 0} (call : X → Option Call) (o : Opening) (s next : State) (x : X) (xs : List X) → measured o s (call x) ≡ Ok next → Adds s next (call x) → Ended call o next xs → Ended call o s (x ∷ xs)
+goes-on : {X : Type 0} (call : X → Option MonitorCall) (o : Opening) (s next : State) (x : X) (xs : List X) → measured o s (call x) ≡ Ok next → Adds s next (call x) → Ended call o next xs → Ended call o s (x ∷ xs)
 goes-on {X} call o s next x xs to adds w =
     let step : (measures o s (map call (x ∷ xs))).state ≡ (measures o next (map call xs)).state = step-ok o s (call x) next (map call xs) to in
-    let all : through_end call o.op (x ∷ xs) ≡ x ∷ through_end call o.op xs = ap (λ (t : Bool). cond t (x ∷ []) (x ∷ through_end call o.op xs)) (adds.goes_on o.op) in
-    let rest = through_end call o.op xs in
+    let all : through (seals_window call o.op) (x ∷ xs) ≡ x ∷ through (seals_window call o.op) xs = ap (λ (t : Bool). cond t (x ∷ []) (x ∷ through (seals_window call o.op) xs)) (adds.goes_on o.op) in
+    let rest = through (seals_window call o.op) xs in
     let gathers : Gathers call s (measures o next (map call xs)).state (x ∷ rest) = record {
       hash = w.gathers.hash ∙ ap (λ (h : List ℕ). chained h (filter_map (λ (y : X). returned (call y)) rest)) adds.holds.hash
           ∙ sym (chained-more s.hash (returned (call x)) (filter_map (λ (y : X). returned (call y)) rest));
@@ -138,16 +144,16 @@ goes-on {X} call o s next x xs to adds w =
     }
 
 -- the end that seals
-seals-at : {X : Type 0} (call : X → Option Call) (o : Opening) (s : State) (x : X) (xs : List X) → call x ≡ Some (ends o.op) → eqb o.op o.op ≡ true → measured o s (call x) ≡ Ok (record s { stage = sealed }) → Ended call o s (x ∷ xs)
+seals-at : {X : Type 0} (call : X → Option MonitorCall) (o : Opening) (s : State) (x : X) (xs : List X) → call x ≡ Some (svc.End o.op) → eqb o.op o.op ≡ true → measured o s (call x) ≡ Ok (record s { stage = sealed }) → Ended call o s (x ∷ xs)
 seals-at {X} call o s x xs is same to =
     let closing = record s { stage = sealed } in
     let step : (measures o s (map call (x ∷ xs))).state ≡ (measures o closing (map call xs)).state = step-ok o s (call x) closing (map call xs) to in
     let sealing : is_made (seals o.op) (call x) ≡ true = ap (is_made (seals o.op)) is ∙ same in
-    let all : through_end call o.op (x ∷ xs) ≡ x ∷ [] = ap (λ (t : Bool). cond t (x ∷ []) (x ∷ through_end call o.op xs)) sealing in
+    let all : through (seals_window call o.op) (x ∷ xs) ≡ x ∷ [] = ap (λ (t : Bool). cond t (x ∷ []) (x ∷ through (seals_window call o.op) xs)) sealing in
     let gathers : Gathers call s (measures o closing (map call xs)).state (x ∷ []) = record {
-      hash = kept (λ (t : State). t.hash) closed-hash o closing (map call xs) refl ∙ sym (chained-none s.hash) ∙ ap (λ (c : Option Call). chained s.hash (cons_option (returned c) [])) (sym is);
-      bits = kept (λ (t : State). t.bits) closed-bits o closing (map call xs) refl ∙ sym (append-nil s.bits) ∙ ap (λ (c : Option Call). s.bits ++ cons_option (recorded_bit c) []) (sym is);
-      targets = kept (λ (t : State). t.targets) closed-targets o closing (map call xs) refl ∙ sym (append-nil s.targets) ∙ ap (λ (c : Option Call). s.targets ++ cons_option (recorded_target c) []) (sym is);
+      hash = kept (λ (t : State). t.hash) closed-hash o closing (map call xs) refl ∙ sym (chained-none s.hash) ∙ ap (λ (c : Option MonitorCall). chained s.hash (cons_option (returned c) [])) (sym is);
+      bits = kept (λ (t : State). t.bits) closed-bits o closing (map call xs) refl ∙ sym (append-nil s.bits) ∙ ap (λ (c : Option MonitorCall). s.bits ++ cons_option (recorded_bit c) []) (sym is);
+      targets = kept (λ (t : State). t.targets) closed-targets o closing (map call xs) refl ∙ sym (append-nil s.targets) ∙ ap (λ (c : Option MonitorCall). s.targets ++ cons_option (recorded_target c) []) (sym is);
     } in
     record {
       front = [];
@@ -161,70 +167,70 @@ seals-at {X} call o s x xs is same to =
     }
 
 -- a call that the window goes on behind
-onward : {X : Type 0} (call : X → Option Call) (o : Opening) (s : State) (x : X) (xs : List X) → ((next : State) → next.stage ≡ measuring → Sealed o next (map call xs) → Ended call o next xs)
-    → (c : Option Call) → call x ≡ c → (next : State) → measured o s c ≡ Ok next → Adds s next c → Sealed o s (map call (x ∷ xs)) → Ended call o s (x ∷ xs)
+onward : {X : Type 0} (call : X → Option MonitorCall) (o : Opening) (s : State) (x : X) (xs : List X) → ((next : State) → next.stage ≡ measuring → Sealed o next (map call xs) → Ended call o next xs)
+    → (c : Option MonitorCall) → call x ≡ c → (next : State) → measured o s c ≡ Ok next → Adds s next c → Sealed o s (map call (x ∷ xs)) → Ended call o s (x ∷ xs)
 onward call o s x xs rest c was next to adds h =
     let here : measured o s (call x) ≡ Ok next = ap (measured o s) was ∙ to in
     goes-on call o s next x xs here (subst (Adds s next) (sym was) adds)
     (rest next adds.measuring (sym (ap (λ (t : State). t.stage) (step-ok o s (call x) next (map call xs) here)) ∙ h))
 
 -- a call that stops the run
-refused : {X A : Type 0} (call : X → Option Call) (o : Opening) (s : State) (x : X) (xs : List X) (c : Option Call) → call x ≡ c → (stop : Stop) → measured o s c ≡ Err stop → s.stage ≡ measuring → Sealed o s (map call (x ∷ xs)) → A
+refused : {X A : Type 0} (call : X → Option MonitorCall) (o : Opening) (s : State) (x : X) (xs : List X) (c : Option MonitorCall) → call x ≡ c → (stop : StopKind) → measured o s c ≡ Err stop → s.stage ≡ measuring → Sealed o s (map call (x ∷ xs)) → A
 refused call o s x xs c was stop to is h =
     not-sealed s.stage is (sym (ap (λ (t : State). t.stage) (step-err o s (call x) stop (map call xs) (ap (measured o s) was ∙ to))) ∙ h)
 
 same-holds : (s : State) → Holds s (chained s.hash []) (s.bits ++ []) (s.targets ++ [])
 same-holds s = record { hash = sym (chained-none s.hash); bits = sym (append-nil s.bits); targets = sym (append-nil s.targets) }
 
-ended-end : {X : Type 0} (call : X → Option Call) (o : Opening) (s : State) (x : X) (xs : List X) → s.stage ≡ measuring
-    → (op : ℕ) → call x ≡ Some (ends op) → (t : Bool) → eqb op o.op ≡ t → Sealed o s (map call (x ∷ xs)) → Ended call o s (x ∷ xs)
+ended-end : {X : Type 0} (call : X → Option MonitorCall) (o : Opening) (s : State) (x : X) (xs : List X) → s.stage ≡ measuring
+    → (op : ℕ) → call x ≡ Some (svc.End op) → (t : Bool) → eqb op o.op ≡ t → Sealed o s (map call (x ∷ xs)) → Ended call o s (x ∷ xs)
 ended-end call o s x xs is op was true same h =
     let q : op ≡ o.op = eqb-true op o.op same in
-    let here : call x ≡ Some (ends o.op) = was ∙ ap (λ (n : ℕ). Some (ends n)) q in
+    let here : call x ≡ Some (svc.End o.op) = was ∙ ap (λ (n : ℕ). Some (svc.End n)) q in
     let own : eqb o.op o.op ≡ true = sym (ap (λ (n : ℕ). eqb n o.op) q) ∙ same in
     seals-at call o s x xs here own
-    (ap (measured o s) here ∙ staged o s (ends o.op) measuring is ∙ ap (λ (t : Bool). cond t (Ok (record s { stage = sealed })) (Err wrong_end)) own)
+    (ap (measured o s) here ∙ staged o s (svc.End o.op) measuring is ∙ ap (λ (t : Bool). cond t (Ok (record s { stage = sealed })) (Err WrongEnd)) own)
 ended-end call o s x xs is op was false other h =
-    refused call o s x xs (Some (ends op)) was wrong_end
-    (staged o s (ends op) measuring is ∙ ap (λ (t : Bool). cond t (Ok (record s { stage = sealed })) (Err wrong_end)) other) is h
+    refused call o s x xs (Some (svc.End op)) was WrongEnd
+    (staged o s (svc.End op) measuring is ∙ ap (λ (t : Bool). cond t (Ok (record s { stage = sealed })) (Err WrongEnd)) other) is h
 
-ended-at : {X : Type 0} (call : X → Option Call) (o : Opening) (s : State) (x : X) (xs : List X) → ((next : State) → next.stage ≡ measuring → Sealed o next (map call xs) → Ended call o next xs)
-    → s.stage ≡ measuring → (c : Option Call) → call x ≡ c → Sealed o s (map call (x ∷ xs)) → Ended call o s (x ∷ xs)
+ended-at : {X : Type 0} (call : X → Option MonitorCall) (o : Opening) (s : State) (x : X) (xs : List X) → ((next : State) → next.stage ≡ measuring → Sealed o next (map call xs) → Ended call o next xs)
+    → s.stage ≡ measuring → (c : Option MonitorCall) → call x ≡ c → Sealed o s (map call (x ∷ xs)) → Ended call o s (x ∷ xs)
 ended-at call o s x xs rest is None was h =
     onward call o s x xs rest None was s refl (record { measuring = is; goes_on = λ op. refl; quiet = tt; holds = same-holds s }) h
-ended-at call o s x xs rest is (Some (begins op at)) was h =
-    refused call o s x xs (Some (begins op at)) was nested (staged o s (begins op at) measuring is) is h
-ended-at call o s x xs rest is (Some (ends op)) was h =
+ended-at call o s x xs rest is (Some (svc.Begin op at)) was h =
+    refused call o s x xs (Some (svc.Begin op at)) was Nested (staged o s (svc.Begin op at) measuring is) is h
+ended-at call o s x xs rest is (Some (svc.End op)) was h =
     ended-end call o s x xs is op was (eqb op o.op) refl h
-ended-at call o s x xs rest is (Some (bit value)) was h =
-    onward call o s x xs rest (Some (bit value)) was (record s { bits = s.bits ++ not (eqb value 0) ∷ [] }) (staged o s (bit value) measuring is)
+ended-at call o s x xs rest is (Some (svc.Bit value)) was h =
+    onward call o s x xs rest (Some (svc.Bit value)) was (record s { bits = s.bits ++ not (eqb value 0) ∷ [] }) (staged o s (svc.Bit value) measuring is)
     (record { measuring = is; goes_on = λ op. refl; quiet = tt; holds = record { hash = sym (chained-none s.hash); bits = refl; targets = sym (append-nil s.targets) } }) h
-ended-at call o s x xs rest is (Some (target address)) was h =
-    onward call o s x xs rest (Some (target address)) was (record s { targets = s.targets ++ address ∷ [] }) (staged o s (target address) measuring is)
+ended-at call o s x xs rest is (Some (svc.Target address)) was h =
+    onward call o s x xs rest (Some (svc.Target address)) was (record s { targets = s.targets ++ address ∷ [] }) (staged o s (svc.Target address) measuring is)
     (record { measuring = is; goes_on = λ op. refl; quiet = tt; holds = record { hash = sym (chained-none s.hash); bits = sym (append-nil s.bits); targets = refl } }) h
-ended-at call o s x xs rest is (Some (returns address)) was h =
-    onward call o s x xs rest (Some (returns address)) was (record s { hash = sha256 (link s.hash address) }) (staged o s (returns address) measuring is)
+ended-at call o s x xs rest is (Some (svc.Return address)) was h =
+    onward call o s x xs rest (Some (svc.Return address)) was (record s { hash = sha256 (link s.hash address) }) (staged o s (svc.Return address) measuring is)
     (record { measuring = is; goes_on = λ op. refl; quiet = tt; holds = record { hash = chained-one s.hash address; bits = sym (append-nil s.bits); targets = sym (append-nil s.targets) } }) h
-ended-at call o s x xs rest is (Some (defines cell value)) was h =
-    onward call o s x xs rest (Some (defines cell value)) was (record s { cells = defined s.cells cell value }) (staged o s (defines cell value) measuring is)
+ended-at call o s x xs rest is (Some (svc.Define cell value)) was h =
+    onward call o s x xs rest (Some (svc.Define cell value)) was (record s { cells = defined s.cells cell value }) (staged o s (svc.Define cell value) measuring is)
     (record { measuring = is; goes_on = λ op. refl; quiet = tt; holds = record { hash = sym (chained-none s.hash); bits = sym (append-nil s.bits); targets = sym (append-nil s.targets) } }) h
-ended-at call o s x xs rest is (Some (uses cell value)) was h =
-    onward call o s x xs rest (Some (uses cell value)) was (record s { violation = violated s.violation cell (s.cells cell) value }) (staged o s (uses cell value) measuring is)
+ended-at call o s x xs rest is (Some (svc.Use cell value)) was h =
+    onward call o s x xs rest (Some (svc.Use cell value)) was (record s { violation = violated s.violation cell (s.cells cell) value }) (staged o s (svc.Use cell value) measuring is)
     (record { measuring = is; goes_on = λ op. refl; quiet = tt; holds = record { hash = sym (chained-none s.hash); bits = sym (append-nil s.bits); targets = sym (append-nil s.targets) } }) h
 
-ended : {X : Type 0} (call : X → Option Call) (o : Opening) (s : State) (xs : List X) → s.stage ≡ measuring → Sealed o s (map call xs) → Ended call o s xs
+ended : {X : Type 0} (call : X → Option MonitorCall) (o : Opening) (s : State) (xs : List X) → s.stage ≡ measuring → Sealed o s (map call xs) → Ended call o s xs
 ended call o s [] is h = not-sealed s.stage is (sym (ap (λ (t : State). t.stage) (no-calls o s)) ∙ h)
 ended call o s (x ∷ xs) is h = ended-at call o s x xs (λ next now later. ended call o next xs now later) is (call x) refl h
 
 -- ---- before the window
 
-pub record Opened {X : Type 0} (call : X → Option Call) (o : Opening) (s : State) (xs : List X) : Type 0 where
+pub record Opened {X : Type 0} (call : X → Option MonitorCall) (o : Opening) (s : State) (xs : List X) : Type 0 where
   pub before : List X
   pub opening : X
   pub rest : List X
   pub whole : xs ≡ before ++ opening ∷ rest
-  pub opens : call opening ≡ Some (begins o.op o.begin_at)
-  pub behind : after_begin call o.op o.begin_at xs ≡ rest
+  pub opens : call opening ≡ Some (svc.Begin o.op o.begin_at)
+  pub behind : beyond (opens_window call o.op o.begin_at) xs ≡ rest
   pub next : State
   pub measuring : next.stage ≡ measuring
   pub holds : Holds next (sha256 (begin_record o.nonce o.op o.digest)) [] []
@@ -236,8 +242,8 @@ pub record Awaits (s : State) : Type 0 where
   pub bits : s.bits ≡ []
   pub targets : s.targets ≡ []
 
-passes-by : {X : Type 0} (call : X → Option Call) (o : Opening) (s : State) (x : X) (xs : List X) → ((next : State) → Awaits next → Sealed o next (map call xs) → Opened call o next xs)
-    → (c : Option Call) → call x ≡ c → is_made (opens o.op o.begin_at) c ≡ false → (next : State) → measured o s c ≡ Ok next → Awaits next → Sealed o s (map call (x ∷ xs)) → Opened call o s (x ∷ xs)
+passes-by : {X : Type 0} (call : X → Option MonitorCall) (o : Opening) (s : State) (x : X) (xs : List X) → ((next : State) → Awaits next → Sealed o next (map call xs) → Opened call o next xs)
+    → (c : Option MonitorCall) → call x ≡ c → is_made (opens o.op o.begin_at) c ≡ false → (next : State) → measured o s c ≡ Ok next → Awaits next → Sealed o s (map call (x ∷ xs)) → Opened call o s (x ∷ xs)
 passes-by {X} call o s x xs rest c was other next to awaits h =
     let step : (measures o s (map call (x ∷ xs))).state ≡ (measures o next (map call xs)).state = step-ok o s (call x) next (map call xs) (ap (measured o s) was ∙ to) in
     let w = rest next awaits (sym (ap (λ (t : State). t.stage) step) ∙ h) in
@@ -247,7 +253,7 @@ passes-by {X} call o s x xs rest c was other next to awaits h =
       rest = w.rest;
       whole = ap (λ (ys : List X). x ∷ ys) w.whole;
       opens = w.opens;
-      behind = ap (λ (t : Bool). cond t xs (after_begin call o.op o.begin_at xs)) (ap (is_made (opens o.op o.begin_at)) was ∙ other) ∙ w.behind;
+      behind = ap (λ (t : Bool). cond t xs (beyond (opens_window call o.op o.begin_at) xs)) (ap (is_made (opens o.op o.begin_at)) was ∙ other) ∙ w.behind;
       next = w.next;
       measuring = w.measuring;
       holds = w.holds;
@@ -258,21 +264,21 @@ both-true : (a b : Bool) → (a && b) ≡ true → (a ≡ true) × (b ≡ true)
 both-true true b h = (refl, h)
 both-true false b h = absurd (cc)
 
-opened-begin : {X : Type 0} (call : X → Option Call) (o : Opening) (s : State) (x : X) (xs : List X) → ((next : State) → Awaits next → Sealed o next (map call xs) → Opened call o next xs)
-    → Awaits s → (op at : ℕ) → call x ≡ Some (begins op at) → (t : Bool) → (eqb op o.op && eqb at o.begin_at) ≡ t → Sealed o s (map call (x ∷ xs)) → Opened call o s (x ∷ xs)
+opened-begin : {X : Type 0} (call : X → Option MonitorCall) (o : Opening) (s : State) (x : X) (xs : List X) → ((next : State) → Awaits next → Sealed o next (map call xs) → Opened call o next xs)
+    → Awaits s → (op at : ℕ) → call x ≡ Some (svc.Begin op at) → (t : Bool) → (eqb op o.op && eqb at o.begin_at) ≡ t → Sealed o s (map call (x ∷ xs)) → Opened call o s (x ∷ xs)
 opened-begin call o s x xs rest awaits op at was true own h =
     let next = record s { stage = measuring; hash = sha256 (begin_record o.nonce o.op o.digest) } in
     let both = both-true (eqb op o.op) (eqb at o.begin_at) own in
     let there : op ≡ o.op = eqb-true op o.op both.0 in
     let place : at ≡ o.begin_at = eqb-true at o.begin_at both.1 in
-    let to : measured o s (call x) ≡ Ok next = ap (measured o s) was ∙ staged o s (begins op at) unmeasured awaits.stage ∙ ap (λ (t : Bool). Ok (cond t next s)) own in
+    let to : measured o s (call x) ≡ Ok next = ap (measured o s) was ∙ staged o s (svc.Begin op at) unmeasured awaits.stage ∙ ap (λ (t : Bool). Ok (cond t next s)) own in
     record {
       before = [];
       opening = x;
       rest = xs;
       whole = refl;
-      opens = was ∙ ap (λ (n : ℕ). Some (begins n at)) there ∙ ap (λ (a : ℕ). Some (begins o.op a)) place;
-      behind = ap (λ (t : Bool). cond t xs (after_begin call o.op o.begin_at xs)) (ap (is_made (opens o.op o.begin_at)) was ∙ own);
+      opens = was ∙ ap (λ (n : ℕ). Some (svc.Begin n at)) there ∙ ap (λ (a : ℕ). Some (svc.Begin o.op a)) place;
+      behind = ap (λ (t : Bool). cond t xs (beyond (opens_window call o.op o.begin_at) xs)) (ap (is_made (opens o.op o.begin_at)) was ∙ own);
       next = next;
       measuring = refl;
       holds = record { hash = refl; bits = awaits.bits; targets = awaits.targets };
@@ -280,64 +286,64 @@ opened-begin call o s x xs rest awaits op at was true own h =
     }
 opened-begin call o s x xs rest awaits op at was false other h =
     let next = record s { stage = measuring; hash = sha256 (begin_record o.nonce o.op o.digest) } in
-    passes-by call o s x xs rest (Some (begins op at)) was other s
-    (staged o s (begins op at) unmeasured awaits.stage ∙ ap (λ (t : Bool). Ok (cond t next s)) other) awaits h
+    passes-by call o s x xs rest (Some (svc.Begin op at)) was other s
+    (staged o s (svc.Begin op at) unmeasured awaits.stage ∙ ap (λ (t : Bool). Ok (cond t next s)) other) awaits h
 
-opened-at : {X : Type 0} (call : X → Option Call) (o : Opening) (s : State) (x : X) (xs : List X) → ((next : State) → Awaits next → Sealed o next (map call xs) → Opened call o next xs)
-    → Awaits s → (c : Option Call) → call x ≡ c → Sealed o s (map call (x ∷ xs)) → Opened call o s (x ∷ xs)
+opened-at : {X : Type 0} (call : X → Option MonitorCall) (o : Opening) (s : State) (x : X) (xs : List X) → ((next : State) → Awaits next → Sealed o next (map call xs) → Opened call o next xs)
+    → Awaits s → (c : Option MonitorCall) → call x ≡ c → Sealed o s (map call (x ∷ xs)) → Opened call o s (x ∷ xs)
 opened-at call o s x xs rest awaits None was h =
     passes-by call o s x xs rest None was refl s refl awaits h
-opened-at call o s x xs rest awaits (Some (begins op at)) was h =
+opened-at call o s x xs rest awaits (Some (svc.Begin op at)) was h =
     opened-begin call o s x xs rest awaits op at was (eqb op o.op && eqb at o.begin_at) refl h
-opened-at call o s x xs rest awaits (Some (ends op)) was h =
-    passes-by call o s x xs rest (Some (ends op)) was refl s (staged o s (ends op) unmeasured awaits.stage) awaits h
-opened-at call o s x xs rest awaits (Some (bit value)) was h =
-    passes-by call o s x xs rest (Some (bit value)) was refl s (staged o s (bit value) unmeasured awaits.stage) awaits h
-opened-at call o s x xs rest awaits (Some (target address)) was h =
-    passes-by call o s x xs rest (Some (target address)) was refl s (staged o s (target address) unmeasured awaits.stage) awaits h
-opened-at call o s x xs rest awaits (Some (returns address)) was h =
-    passes-by call o s x xs rest (Some (returns address)) was refl s (staged o s (returns address) unmeasured awaits.stage) awaits h
-opened-at call o s x xs rest awaits (Some (defines cell value)) was h =
-    passes-by call o s x xs rest (Some (defines cell value)) was refl (record s { cells = defined s.cells cell value }) (staged o s (defines cell value) unmeasured awaits.stage)
+opened-at call o s x xs rest awaits (Some (svc.End op)) was h =
+    passes-by call o s x xs rest (Some (svc.End op)) was refl s (staged o s (svc.End op) unmeasured awaits.stage) awaits h
+opened-at call o s x xs rest awaits (Some (svc.Bit value)) was h =
+    passes-by call o s x xs rest (Some (svc.Bit value)) was refl s (staged o s (svc.Bit value) unmeasured awaits.stage) awaits h
+opened-at call o s x xs rest awaits (Some (svc.Target address)) was h =
+    passes-by call o s x xs rest (Some (svc.Target address)) was refl s (staged o s (svc.Target address) unmeasured awaits.stage) awaits h
+opened-at call o s x xs rest awaits (Some (svc.Return address)) was h =
+    passes-by call o s x xs rest (Some (svc.Return address)) was refl s (staged o s (svc.Return address) unmeasured awaits.stage) awaits h
+opened-at call o s x xs rest awaits (Some (svc.Define cell value)) was h =
+    passes-by call o s x xs rest (Some (svc.Define cell value)) was refl (record s { cells = defined s.cells cell value }) (staged o s (svc.Define cell value) unmeasured awaits.stage)
     (record { stage = awaits.stage; bits = awaits.bits; targets = awaits.targets }) h
-opened-at call o s x xs rest awaits (Some (uses cell value)) was h =
-    passes-by call o s x xs rest (Some (uses cell value)) was refl s (staged o s (uses cell value) unmeasured awaits.stage) awaits h
+opened-at call o s x xs rest awaits (Some (svc.Use cell value)) was h =
+    passes-by call o s x xs rest (Some (svc.Use cell value)) was refl s (staged o s (svc.Use cell value) unmeasured awaits.stage) awaits h
 
-opened : {X : Type 0} (call : X → Option Call) (o : Opening) (s : State) (xs : List X) → Awaits s → Sealed o s (map call xs) → Opened call o s xs
+opened : {X : Type 0} (call : X → Option MonitorCall) (o : Opening) (s : State) (xs : List X) → Awaits s → Sealed o s (map call xs) → Opened call o s xs
 opened call o s [] awaits h = not-open s.stage awaits.stage (sym (ap (λ (t : State). t.stage) (no-calls o s)) ∙ h)
 opened call o s (x ∷ xs) awaits h = opened-at call o s x xs (λ next now later. opened call o next xs now later) awaits (call x) refl h
 
 -- ---- a sealed list
 
-pub record Windowed {X : Type 0} (call : X → Option Call) (o : Opening) (xs : List X) (later : State) : Type 0 where
+pub record Windowed {X : Type 0} (call : X → Option MonitorCall) (o : Opening) (xs : List X) (later : State) : Type 0 where
   -- all up to the begin that opens
   pub before : List X
   pub opening : X
-  pub opens : call opening ≡ Some (begins o.op o.begin_at)
+  pub opens : call opening ≡ Some (svc.Begin o.op o.begin_at)
   pub front : List X
   pub last : X
   pub beyond : List X
   pub whole : xs ≡ before ++ opening ∷ ((front ++ last ∷ []) ++ beyond)
   pub window_is : window call o.op o.begin_at xs ≡ front ++ last ∷ []
-  pub seals : call last ≡ Some (ends o.op)
+  pub seals : call last ≡ Some (svc.End o.op)
   pub quiet : (k : ℕ) (x : X) → slice_get front k ≡ Some x → IsQuiet (call x)
   pub holds : Holds later
       (chain (begin_record o.nonce o.op o.digest) (filter_map (λ x. returned (call x)) (window call o.op o.begin_at xs)))
       (filter_map (λ x. recorded_bit (call x)) (window call o.op o.begin_at xs))
       (filter_map (λ x. recorded_target (call x)) (window call o.op o.begin_at xs))
 
-windowed-from : {X : Type 0} (call : X → Option Call) (o : Opening) (s : State) (xs : List X) → (a : Opened call o s xs) → Ended call o a.next a.rest → Windowed call o xs (measures o s (map call xs)).state
+windowed-from : {X : Type 0} (call : X → Option MonitorCall) (o : Opening) (s : State) (xs : List X) → (a : Opened call o s xs) → Ended call o a.next a.rest → Windowed call o xs (measures o s (map call xs)).state
 windowed-from {X} call o s xs a w =
-    let all : window call o.op o.begin_at xs ≡ through_end call o.op a.rest = ap (through_end call o.op) a.behind in
+    let all : window call o.op o.begin_at xs ≡ through (seals_window call o.op) a.rest = ap (through (seals_window call o.op)) a.behind in
     let later = (measures o a.next (map call a.rest)).state in
     let holds : Holds later
-    (chain (begin_record o.nonce o.op o.digest) (filter_map (λ (x : X). returned (call x)) (through_end call o.op a.rest)))
-    (filter_map (λ (x : X). recorded_bit (call x)) (through_end call o.op a.rest))
-    (filter_map (λ (x : X). recorded_target (call x)) (through_end call o.op a.rest)) = record {
-      hash = w.gathers.hash ∙ ap (λ (h : List ℕ). chained h (filter_map (λ (x : X). returned (call x)) (through_end call o.op a.rest))) a.holds.hash
-          ∙ chained-is (begin_record o.nonce o.op o.digest) (filter_map (λ (x : X). returned (call x)) (through_end call o.op a.rest));
-      bits = w.gathers.bits ∙ ap (λ (b : List Bool). b ++ filter_map (λ (x : X). recorded_bit (call x)) (through_end call o.op a.rest)) a.holds.bits;
-      targets = w.gathers.targets ∙ ap (λ (t : List ℕ). t ++ filter_map (λ (x : X). recorded_target (call x)) (through_end call o.op a.rest)) a.holds.targets;
+    (chain (begin_record o.nonce o.op o.digest) (filter_map (λ (x : X). returned (call x)) (through (seals_window call o.op) a.rest)))
+    (filter_map (λ (x : X). recorded_bit (call x)) (through (seals_window call o.op) a.rest))
+    (filter_map (λ (x : X). recorded_target (call x)) (through (seals_window call o.op) a.rest)) = record {
+      hash = w.gathers.hash ∙ ap (λ (h : List ℕ). chained h (filter_map (λ (x : X). returned (call x)) (through (seals_window call o.op) a.rest))) a.holds.hash
+          ∙ chained-is (begin_record o.nonce o.op o.digest) (filter_map (λ (x : X). returned (call x)) (through (seals_window call o.op) a.rest));
+      bits = w.gathers.bits ∙ ap (λ (b : List Bool). b ++ filter_map (λ (x : X). recorded_bit (call x)) (through (seals_window call o.op) a.rest)) a.holds.bits;
+      targets = w.gathers.targets ∙ ap (λ (t : List ℕ). t ++ filter_map (λ (x : X). recorded_target (call x)) (through (seals_window call o.op) a.rest)) a.holds.targets;
     } in
     record {
       before = a.before;
@@ -355,12 +361,12 @@ windowed-from {X} call o s xs a w =
           (filter_map (λ (x : X). recorded_bit (call x)) ys)
           (filter_map (λ (x : X). recorded_target (call x)) ys)) (sym all)
           (subst (λ (t : State). Holds t
-          (chain (begin_record o.nonce o.op o.digest) (filter_map (λ (x : X). returned (call x)) (through_end call o.op a.rest)))
-          (filter_map (λ (x : X). recorded_bit (call x)) (through_end call o.op a.rest))
-          (filter_map (λ (x : X). recorded_target (call x)) (through_end call o.op a.rest))) (sym a.to) holds);
+          (chain (begin_record o.nonce o.op o.digest) (filter_map (λ (x : X). returned (call x)) (through (seals_window call o.op) a.rest)))
+          (filter_map (λ (x : X). recorded_bit (call x)) (through (seals_window call o.op) a.rest))
+          (filter_map (λ (x : X). recorded_target (call x)) (through (seals_window call o.op) a.rest))) (sym a.to) holds);
     }
 
-windowed : {X : Type 0} (call : X → Option Call) (o : Opening) (s : State) (xs : List X) → Awaits s → Sealed o s (map call xs) → Windowed call o xs (measures o s (map call xs)).state
+windowed : {X : Type 0} (call : X → Option MonitorCall) (o : Opening) (s : State) (xs : List X) → Awaits s → Sealed o s (map call xs) → Windowed call o xs (measures o s (map call xs)).state
 windowed call o s xs awaits h =
     let a = opened call o s xs awaits h in
     windowed-from call o s xs a (ended call o a.next a.rest a.measuring (sym (ap (λ (t : State). t.stage) a.to) ∙ h))
@@ -372,7 +378,7 @@ DevHas image o run js = (run.journal ≡ js) × Windowed made_call o js run.stat
 
 until-windowed : (image : Image) (o : Opening) (inputs : List ℤ) (writes : List Write) (n : ℕ)
     → let m = measures o (booted (start_cells image)) (map made_call (journal image inputs writes n)) in
-    (stop : Option Stop) → m.stop ≡ stop → IsSealed (run_until image inputs writes n m stop)
+    (stop : Option StopKind) → m.stop ≡ stop → IsSealed (run_until image inputs writes n m stop)
     → DevHas image o (run_until image inputs writes n m stop) (journal image inputs writes n)
 until-windowed image o inputs writes n None was is =
     (refl, windowed made_call o (booted (start_cells image)) (journal image inputs writes n) (record { stage = refl; bits = refl; targets = refl }) is)
@@ -417,32 +423,32 @@ at-one {A} xs before one rest whole =
 
 -- ---- the call that opens
 
-abbrev NoBegin : Option Call → Type 0
-NoBegin o = (op at : ℕ) → o ≡ Some (begins op at) → ⊥
+abbrev NoBegin : Option MonitorCall → Type 0
+NoBegin o = (op at : ℕ) → o ≡ Some (svc.Begin op at) → ⊥
 
-no-begin-if : (t : Bool) (a b : Option Call) → NoBegin a → NoBegin b → NoBegin (cond t a b)
+no-begin-if : (t : Bool) (a b : Option MonitorCall) → NoBegin a → NoBegin b → NoBegin (cond t a b)
 no-begin-if true a b p q = p
 no-begin-if false a b p q = q
 
-begin-if : (number : ℕ) (r : Regs) (other : Option Call) → NoBegin other → (t : Bool) → eqb number 1 ≡ t → (op at : ℕ)
-    → cond t (Some (begins (r.x 9) r.pc)) other ≡ Some (begins op at) → (Svc number ≡ Svc 1) × (r.pc ≡ at)
+begin-if : (number : ℕ) (r : Regs) (other : Option MonitorCall) → NoBegin other → (t : Bool) → eqb number 1 ≡ t → (op at : ℕ)
+    → cond t (Some (svc.Begin (r.x 9) r.pc)) other ≡ Some (svc.Begin op at) → (Svc number ≡ Svc 1) × (r.pc ≡ at)
 begin-if number r other none true is op at h = (ap Svc (eqb-true number 1 is), cc)
 begin-if number r other none false is op at h = absurd (none op at h)
 
-begin-is : (i : Inst) (r : Regs) (op at : ℕ) → call_of i r ≡ Some (begins op at) → (i ≡ Svc 1) × (r.pc ≡ at)
+begin-is : (i : Inst) (r : Regs) (op at : ℕ) → call_of i r ≡ Some (svc.Begin op at) → (i ≡ Svc 1) × (r.pc ≡ at)
 begin-is (Svc number) r op at h =
     begin-if number r _
-    (no-begin-if (eqb number 2) (Some (ends (r.x 9))) _ (λ a b q. cc)
-    (no-begin-if (eqb number 3) (Some (bit (r.x 9))) _ (λ a b q. cc)
-    (no-begin-if (eqb number 4) (Some (target (r.x 9))) _ (λ a b q. cc)
-    (no-begin-if (eqb number 5) (Some (returns (r.x 30))) _ (λ a b q. cc)
-    (no-begin-if (eqb number 6) (Some (defines (r.x 9) (r.x 10))) _ (λ a b q. cc)
-    (no-begin-if (eqb number 7) (Some (uses (r.x 9) (r.x 10))) None (λ a b q. cc) (λ a b q. cc)))))))
+    (no-begin-if (eqb number 2) (Some (svc.End (r.x 9))) _ (λ a b q. cc)
+    (no-begin-if (eqb number 3) (Some (svc.Bit (r.x 9))) _ (λ a b q. cc)
+    (no-begin-if (eqb number 4) (Some (svc.Target (r.x 9))) _ (λ a b q. cc)
+    (no-begin-if (eqb number 5) (Some (svc.Return (r.x 30))) _ (λ a b q. cc)
+    (no-begin-if (eqb number 6) (Some (svc.Define (r.x 9) (r.x 10))) _ (λ a b q. cc)
+    (no-begin-if (eqb number 7) (Some (svc.Use (r.x 9) (r.x 10))) None (λ a b q. cc) (λ a b q. cc)))))))
     (eqb number 1) refl op at h
 begin-is _ r op at h = absurd (cc)
 
 -- it leads to the next instruction
-begin-leads : (code : List ℕ) (e : Entry) (op at : ℕ) → IsMade code e → made_call e ≡ Some (begins op at) → next_of e ≡ next_pc at
+begin-leads : (code : List ℕ) (e : Entry) (op at : ℕ) → IsMade code e → made_call e ≡ Some (svc.Begin op at) → next_of e ≡ next_pc at
 begin-leads code e op at made is =
     let begin = begin-is e.inst e.found.regs op at is in
     let no : IsTrue (not (takes_input e.inst)) = subst (λ (i : Inst). IsTrue (not (takes_input i))) (sym begin.0) refl in
@@ -450,7 +456,7 @@ begin-leads code e op at made is =
 
 -- ---- traces
 
-trace-from : (image : Image) (o : Opening) (inputs : List ℤ) (writes : List Write) (n : ℕ) → Given inputs writes
+trace-from : (image : Image) (o : Opening) (inputs : List ℤ) (writes : List Write) (n : ℕ) → AreGiven inputs writes
     → (later : State) (w : Windowed made_call o (journal image inputs writes n) later) → IsTrace image.code o.op (next_pc o.begin_at) (w.front ++ w.last ∷ [])
 trace-from image o inputs writes n given later w =
     let js = journal image inputs writes n in

@@ -6,11 +6,11 @@ use Rattle.oat_a64.specs.declared.event.Event.TheVariants as event
 use Rattle.oat_a64.specs.declared.inst.Inst.{Inst}
 use Rattle.oat_a64.specs.declared.inst.Inst.TheVariants.{BCond, Cbz, Cbnz, Ldr, Str, Svc, Brk}
 use Rattle.oat_a64.specs.Fetch.{inst_of}
-use Rattle.oat_a64.specs.Step.{Regs, Machine, Outcome, instruction_at, word_at, decodes, acts, act, step, with_reg, unsigned, holds, reg, reg_or_sp, wrap}
+use Rattle.oat_a64.specs.Step.{Regs, Machine, Effect, instruction_at, word_at, decodes, acts, act, step, with_reg, unsigned, holds, reg, reg_or_sp, wrap}
 use Rattle.oat_mem.specs.DataMemory.{can_access}
 use Rattle.oat_case.specs.declared.case.Write.{Write}
 use Rattle.oat_journal.specs.declared.end.DeviceEnd.{DeviceEnd}
-use Rattle.oat_journal.specs.Run.{Running, Entry, found, makes, told, called, takes, turn, turn_of, entry, entry_of}
+use Rattle.oat_journal.specs.Run.{Running, Entry, found, makes, told, called, with_input, turn, turn_of, entry, made_entry}
 use Rattle.oat_journal.specs.Journal.{takes_input}
 
 -- ---- fetch
@@ -61,7 +61,7 @@ pub record Entered (o : Option Inst) (m : Machine) (end : Option DeviceEnd) (nex
   pub going : end ≡ None
   pub left : e.left ≡ next.machine.regs
 
-entered : (o : Option Inst) (m : Machine) (end : Option DeviceEnd) (next : Running) (e : Entry) → entry_of o m end next ≡ Some e → Entered o m end next e
+entered : (o : Option Inst) (m : Machine) (end : Option DeviceEnd) (next : Running) (e : Entry) → made_entry o m end next ≡ Some e → Entered o m end next e
 entered None m end next e h = absurd (cc)
 entered (Some i) m (Some why) next e h = absurd (cc)
 entered (Some i) m None next e h =
@@ -80,7 +80,7 @@ abbrev asks : Event → Bool
 asks (event.Svc number) = eqb number 8
 asks _ = false
 
-cond-asks : (t : Bool) (a b : Outcome) → asks a.event ≡ false → asks b.event ≡ false → asks (cond t a b).event ≡ false
+cond-asks : (t : Bool) (a b : Effect) → asks a.event ≡ false → asks b.event ≡ false → asks (cond t a b).event ≡ false
 cond-asks true a b p q = p
 cond-asks false a b p q = q
 
@@ -117,7 +117,7 @@ makes-machine s m i h = told-machine s (act i m).machine (act i m).event (asks-o
 abbrev TakesOne : Running → Machine → Regs → Type 0
 TakesOne next m left = next.end ≡ None → (input : ℤ) × (next.machine ≡ record m { regs = with_reg left 0 (unsigned input) })
 
-takes-one : (s : Running) (m : Machine) (inputs : List ℤ) → TakesOne (takes s m inputs) m m.regs
+takes-one : (s : Running) (m : Machine) (inputs : List ℤ) → TakesOne (with_input s m inputs) m m.regs
 takes-one s m [] h = absurd (cc)
 takes-one s m (input ∷ inputs) h = (input, refl)
 

@@ -5,7 +5,7 @@ use Rattle.oat_a64.specs.declared.inst.Inst.TheVariants.{Svc}
 use Rattle.oat_a64.specs.Step.{Regs, IsBounded, instruction_at, act, with_reg, unsigned}
 use Rattle.oat_case.specs.declared.case.Write.{Write}
 use Rattle.oat_image.specs.declared.image.Image.{Image}
-use Rattle.oat_journal.specs.Run.{Entry, Given, journal, pc_of, next_of}
+use Rattle.oat_journal.specs.Run.{Entry, AreGiven, journal, pc_of, next_of}
 
 -- SVC 8
 abbrev pub takes_input : Inst → Bool
@@ -29,7 +29,7 @@ JournalIsMade =
     → slice_get (journal image inputs writes n) k ≡ Some e → IsMade image.code e
 
 -- An entry finds the registers that the one before it left, and so it stands at that one's next PC.
-pub record Follows (e next : Entry) : Type 0 where
+pub record Continues (e next : Entry) : Type 0 where
   pub registers : next.found.regs ≡ e.left
   pub place : pc_of next ≡ next_of e
 
@@ -38,7 +38,7 @@ abbrev pub JournalIsLinked : Type 0
 JournalIsLinked =
     (image : Image) (inputs : List ℤ) (writes : List Write) (n k : ℕ) (e next : Entry)
     → slice_get (journal image inputs writes n) k ≡ Some e → slice_get (journal image inputs writes n) (k + 1) ≡ Some next
-    → Follows e next
+    → Continues e next
 
 -- an entry's registers, as they were found and as they were left, have 64 bits, and the memory that was found has bytes
 pub record IsEntryBounded (e : Entry) : Type 0 where
@@ -48,5 +48,5 @@ pub record IsEntryBounded (e : Entry) : Type 0 where
 -- Bounds of a journal: for all that may be given and written, each entry is bounded.
 abbrev pub JournalIsBounded : Type 0
 JournalIsBounded =
-    (image : Image) (inputs : List ℤ) (writes : List Write) (n k : ℕ) (e : Entry) → Given inputs writes
+    (image : Image) (inputs : List ℤ) (writes : List Write) (n k : ℕ) (e : Entry) → AreGiven inputs writes
     → slice_get (journal image inputs writes n) k ≡ Some e → IsEntryBounded e

@@ -5,30 +5,32 @@ use Rattle.oat_blob.specs.Body.{Body}
 use Rattle.oat_case.specs.declared.case.Session.{Session}
 use Rattle.oat_case.specs.declared.case.Write.{Write}
 use Rattle.oat_image.specs.declared.image.Image.{Image}
-use Rattle.oat_mem.specs.DataMemory.{word_in}
+use Rattle.oat_image.specs.Grammar.{image_text}
+use Rattle.oat_map.specs.Rows.{BeginsAt}
+use Rattle.sha2.specs.Sha256.{sha256}
+use Rattle.oat_mem.specs.DataMemory.{word_in, global_address}
 use Rattle.oat_measure.specs.declared.opening.Opening.{Opening}
-use Rattle.oat_measure.specs.Measurement.{State, Stop, nested, wrong_end, sealed, Cells, Measured, booted, measures}
-use Rattle.oat_measure.specs.Monitored.{head_of}
+use Rattle.oat_measure.specs.Measurement.{State, sealed, Measured, booted, measures}
+use Rattle.oat_measure.specs.declared.stop.StopKind.{StopKind}
+use Rattle.oat_events.specs.Cells.{Cells}
+use Rattle.oat_measure.specs.Monitored.{body_head}
 use Rattle.oat_journal.specs.declared.end.DeviceEnd.{DeviceEnd}
 use Rattle.oat_journal.specs.declared.end.DeviceEnd.TheVariants.{Stopped}
-use Rattle.oat_journal.specs.declared.end.StopKind.{StopKind}
-use Rattle.oat_journal.specs.declared.end.StopKind.TheVariants.{Nested, WrongEnd}
-use Rattle.oat_mem.specs.DataMemory.{global_address}
 use Rattle.oat_journal.specs.Run.{Running, Entry, bare, journal, start_memory}
-use Rattle.oat_journal.specs.Window.{made_call, window, ahead}
+use Rattle.oat_journal.specs.Window.{made_call, up_to_window, window}
 use Rattle.oat_journal.specs.Uses.{CheckedUse, uses_behind}
 
--- what a window is opened for: the session's nonce and operation, the image's digest, and where the operation's window opens
-abbrev pub opening : Session → List ℕ → ℕ → Opening
-opening session digest begin_at = record { nonce = session.nonce; op = session.op; digest = digest; begin_at = begin_at }
+-- what a window on an image is opened for: the session's nonce and operation, the image's digest, and where the operation's window opens
+abbrev pub opening_of : Image → Session → ℕ → Opening
+opening_of image session begin_at = record { nonce = session.nonce; op = session.op; digest = sha256 (image_text image); begin_at = begin_at }
+
+-- an opening for a session's operation: its window opens at the SVC of that operation's Begin group
+abbrev pub IsOpenedFor : Image → Session → Opening → Type 0
+IsOpenedFor image session o = (begin_at : ℕ) × BeginsAt image.map session.op begin_at × (o ≡ opening_of image session begin_at)
 
 -- a cell holds the word of global data whose index the image gives it
 abbrev pub start_cells : Image → Cells
 start_cells image = λ cell. option_map (λ index. word_in (start_memory image.words) (global_address index)) (slice_get image.cells cell)
-
-abbrev pub stop_kind : Stop → StopKind
-stop_kind nested = Nested
-stop_kind wrong_end = WrongEnd
 
 pub record Run : Type 0 where
   pub running : Running
@@ -37,7 +39,7 @@ pub record Run : Type 0 where
   -- the entries of the instructions that the monitor let the run make
   pub journal : List Entry
 
-abbrev pub run_until : Image → List ℤ → List Write → ℕ → Measured → Option Stop → Run
+abbrev pub run_until : Image → List ℤ → List Write → ℕ → Measured → Option StopKind → Run
 run_until image inputs writes n measured None = record {
   running = bare image inputs writes n;
   state = measured.state;
@@ -47,7 +49,7 @@ run_until image inputs writes n measured None = record {
 run_until image inputs writes n measured (Some stop) = record {
   running = bare image inputs writes measured.taken;
   state = measured.state;
-  end = Some (Stopped (stop_kind stop));
+  end = Some (Stopped stop);
   journal = journal image inputs writes measured.taken;
 }
 
@@ -63,7 +65,7 @@ IsSealed run = run.state.stage ≡ sealed
 -- the body that a sealed run reports
 abbrev pub body_of : Opening → State → Body
 body_of o s = record {
-  head = head_of o s;
+  head = body_head o s;
   bits = s.bits;
   targets = s.targets;
 }
@@ -75,7 +77,7 @@ window_of o run = window made_call o.op o.begin_at run.journal
 -- the checked uses of the window, behind all calls that the run made before it
 abbrev pub uses_of : Image → Opening → Run → List CheckedUse
 uses_of image o run =
-    uses_behind (start_cells image) (map made_call (ahead made_call o.op o.begin_at run.journal)) (map made_call (window_of o run))
+    uses_behind (start_cells image) (map made_call (up_to_window made_call o.op o.begin_at run.journal)) (map made_call (window_of o run))
 
 -- the violation of the first use that isn't sound
 abbrev pub first_unsound : List CheckedUse → Option Violation

@@ -6,29 +6,30 @@ use Rattle.oat_a64.specs.Step.{Regs, step}
 use Rattle.oat_case.specs.declared.case.Write.{Write}
 use Rattle.oat_image.specs.declared.image.Image.{Image}
 use Rattle.oat_measure.specs.declared.opening.Opening.{Opening}
-use Rattle.oat_measure.specs.Monitor.{Call, call_numbered}
-use Rattle.oat_measure.specs.Measurement.{State, Stop, booted, measured}
+use Rattle.oat_measure.specs.Monitor.{call_numbered}
+use Rattle.oat_measure.specs.declared.call.MonitorCall.{MonitorCall}
+use Rattle.oat_measure.specs.Measurement.{State, booted, measured}
+use Rattle.oat_measure.specs.declared.stop.StopKind.{StopKind}
 use Rattle.oat_journal.specs.declared.end.DeviceEnd.{DeviceEnd}
 use Rattle.oat_journal.specs.declared.end.DeviceEnd.TheVariants.{Stopped}
-use Rattle.oat_journal.specs.declared.end.StopKind.{StopKind}
 use Rattle.oat_journal.specs.Run.{Running, found, started, turn}
-use Rattle.oat_journal.specs.Measured.{Run, dev, start_cells, stop_kind}
+use Rattle.oat_journal.specs.Measured.{Run, dev, start_cells}
 
 -- ---- one turn
 
 -- the monitor call of an instruction, by what the machine step told and by the registers before it
-abbrev pub call_told : Event → Regs → Option Call
+abbrev pub call_told : Event → Regs → Option MonitorCall
 call_told (event.Svc number) r = call_numbered number r
 call_told _ r = None
 
 -- a stop leaves the state as it was
-abbrev pub kept : State → Result State Stop → State
+abbrev pub kept : State → Result State StopKind → State
 kept s (Ok next) = next
 kept s (Err stop) = s
 
-abbrev pub stop_of : Result State Stop → Option StopKind
+abbrev pub stop_of : Result State StopKind → Option StopKind
 stop_of (Ok next) = None
-stop_of (Err stop) = Some (stop_kind stop)
+stop_of (Err stop) = Some stop
 
 abbrev pub stopped_by : Option StopKind → Running → Running
 stopped_by None s = s
@@ -40,13 +41,13 @@ pub record Progress : Type 0 where
   pub state : State
 
 -- what a measurement leaves of a run
-abbrev pub behind : Progress → Result State Stop → Progress
-behind p result = record { running = stopped_by (stop_of result) p.running; state = kept p.state result }
+abbrev pub with_measurement : Progress → Result State StopKind → Progress
+with_measurement p result = record { running = stopped_by (stop_of result) p.running; state = kept p.state result }
 
 -- One turn: the writes that are due, the machine step, what it tells, and the measurement of its monitor call.
-abbrev pub next_of : List ℕ → List Write → Opening → Progress → Progress
-next_of code writes o p =
-    behind (record p { running = turn code writes p.running })
+abbrev pub measured_turn : List ℕ → List Write → Opening → Progress → Progress
+measured_turn code writes o p =
+    with_measurement (record p { running = turn code writes p.running })
     (measured o p.state (call_told (step code (found writes p.running)).event p.running.machine.regs))
 
 -- ---- all turns
@@ -58,7 +59,7 @@ going_on (Some why) p next = p
 -- so many turns; a run that ended stays as it is
 unfoldable pub after_turns : List ℕ → List Write → Opening → ℕ → Progress → Progress
 after_turns code writes o zero p = p
-after_turns code writes o (suc n) p = after_turns code writes o n (going_on p.running.end p (next_of code writes o p))
+after_turns code writes o (suc n) p = after_turns code writes o n (going_on p.running.end p (measured_turn code writes o p))
 
 abbrev pub first_of : Image → List ℤ → Progress
 first_of image inputs = record { running = started image inputs; state = booted (start_cells image) }

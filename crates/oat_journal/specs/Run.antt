@@ -3,11 +3,11 @@ use Rattle.std.specs.Prelude.{◌+◌, ◌<◌, ◌==◌, ℕ, zero, suc, ℤ, L
 use Rattle.std.specs.List.{filter, fold, All}
 use Rattle.std.specs.List.Sorted.{IsNonDecreasing}
 use Rattle.std.specs.Int.{w64}
-use Rattle.oat_mem.specs.DataMemory.{fits, with_bytes, with_word}
+use Rattle.oat_mem.specs.DataMemory.{fits, with_bytes, with_word, global_address}
 use Rattle.oat_a64.specs.declared.event.Event.{Event}
 use Rattle.oat_a64.specs.declared.event.Event.TheVariants as event
 use Rattle.oat_a64.specs.declared.inst.Inst.{Inst}
-use Rattle.oat_a64.specs.Step.{Regs, Machine, Outcome, first_regs, instruction_at, step, with_reg, signed, unsigned}
+use Rattle.oat_a64.specs.Step.{Regs, Machine, Effect, first_regs, instruction_at, step, with_reg, signed, unsigned}
 use Rattle.oat_map.specs.declared.trap.TrapKind.{TrapKind}
 use Rattle.oat_map.specs.declared.trap.TrapKind.TheVariants.{DivZero, Index, NullCall, Depth, InputEnd}
 use Rattle.oat_case.specs.declared.case.Write.{Write}
@@ -15,7 +15,6 @@ use Rattle.oat_image.specs.declared.image.Image.{Image}
 use Rattle.oat_image.specs.declared.image.InitWord.{InitWord}
 use Rattle.oat_journal.specs.declared.end.DeviceEnd.{DeviceEnd}
 use Rattle.oat_journal.specs.declared.end.DeviceEnd.TheVariants as ends
-use Rattle.oat_mem.specs.DataMemory.{global_address}
 
 -- a run at the moment before an instruction
 pub record Running : Type 0 where
@@ -51,28 +50,28 @@ poked writes k memory = fold (λ old write. with_bytes old write.address write.b
 abbrev pub found : List Write → Running → Machine
 found writes s = record s.machine { memory = poked writes s.made s.machine.memory }
 
-abbrev pub goes_on : Running → Machine → Running
-goes_on s m = record s { machine = m; made = s.made + 1 }
+abbrev pub moves_on : Running → Machine → Running
+moves_on s m = record s { machine = m; made = s.made + 1 }
 
 -- an attempt that ends the run counts as an instruction
-abbrev pub ended : Running → Machine → DeviceEnd → Running
-ended s m why = record s { machine = m; made = s.made + 1; end = Some why }
+abbrev pub ends_with : Running → Machine → DeviceEnd → Running
+ends_with s m why = record s { machine = m; made = s.made + 1; end = Some why }
 
 -- the next input goes into X0
-abbrev pub takes : Running → Machine → List ℤ → Running
-takes s m [] = ended s m (ends.Trap InputEnd)
-takes s m (value ∷ others) = record s { machine = record m { regs = with_reg m.regs 0 (unsigned value) }; made = s.made + 1; inputs = others }
+abbrev pub with_input : Running → Machine → List ℤ → Running
+with_input s m [] = ends_with s m (ends.Trap InputEnd)
+with_input s m (value ∷ others) = record s { machine = record m { regs = with_reg m.regs 0 (unsigned value) }; made = s.made + 1; inputs = others }
 
-abbrev pub puts : Running → Machine → Running
-puts s m = record s { machine = m; made = s.made + 1; outputs = s.outputs ++ signed (m.regs.x 0) ∷ [] }
+abbrev pub with_output : Running → Machine → Running
+with_output s m = record s { machine = m; made = s.made + 1; outputs = s.outputs ++ signed (m.regs.x 0) ∷ [] }
 
 -- SVC 0 halts, 8 takes an input and 9 puts an output; the others are the monitor's
 abbrev pub called : Running → Machine → ℕ → Running
 called s m number =
-    if nat_eq number 0 then ended s m ends.Halted
-    else (if nat_eq number 8 then takes s m s.inputs
-    else (if nat_eq number 9 then puts s m
-    else goes_on s m))
+    if nat_eq number 0 then ends_with s m ends.Halted
+    else (if nat_eq number 8 then with_input s m s.inputs
+    else (if nat_eq number 9 then with_output s m
+    else moves_on s m))
 
 -- BRK 1 to 4
 abbrev pub trap_of : ℕ → TrapKind
@@ -83,12 +82,12 @@ trap_of number =
     else Depth))
 
 abbrev pub told : Running → Machine → Event → Running
-told s m event.Next = goes_on s m
+told s m event.Next = moves_on s m
 told s m (event.Svc number) = called s m number
-told s m (event.Brk number) = ended s m (ends.Trap (trap_of number))
-told s m (event.Fault kind) = ended s m (ends.Fault kind)
+told s m (event.Brk number) = ends_with s m (ends.Trap (trap_of number))
+told s m (event.Fault kind) = ends_with s m (ends.Fault kind)
 
-abbrev pub makes : Running → Outcome → Running
+abbrev pub makes : Running → Effect → Running
 makes s o = told s o.machine o.event
 
 -- the writes before the next instruction and that instruction; an ended run stays as it is
@@ -115,14 +114,14 @@ pub record Entry : Type 0 where
   pub found : Machine
   pub left : Regs
 
-abbrev pub entry_of : Option Inst → Machine → Option DeviceEnd → Running → Option Entry
-entry_of (Some inst) m None next = Some (record { inst = inst; found = m; left = next.machine.regs })
-entry_of _ m _ next = None
+abbrev pub made_entry : Option Inst → Machine → Option DeviceEnd → Running → Option Entry
+made_entry (Some inst) m None next = Some (record { inst = inst; found = m; left = next.machine.regs })
+made_entry _ m _ next = None
 
 abbrev pub entry : List ℕ → List Write → Running → Option Entry
 entry code writes s =
     let next = turn code writes s in
-    entry_of (instruction_at code s.machine.regs.pc) (found writes s) next.end next
+    made_entry (instruction_at code s.machine.regs.pc) (found writes s) next.end next
 
 -- the entries from one on; where there is none, the run has ended
 abbrev pub from_entry : Option Entry → List Entry → List Entry
@@ -151,7 +150,7 @@ pub record IsWrite (write : Write) : Type 0 where
   pub bytes : All (λ byte. byte < 256) write.bytes
 
 -- inputs are numbers of 64 bits, writes lie in data memory, and their places never fall
-pub record Given (inputs : List ℤ) (writes : List Write) : Type 0 where
+pub record AreGiven (inputs : List ℤ) (writes : List Write) : Type 0 where
   pub inputs_fit : All (FitsSigned w64) inputs
   pub writes_fit : All IsWrite writes
   pub rising : IsNonDecreasing (map (λ write. write.before) writes)

@@ -5,33 +5,34 @@ use Rattle.oat_case.specs.declared.case.Write.{Write}
 use Rattle.oat_chain.specs.Chain.{begin_record, chain}
 use Rattle.oat_image.specs.declared.image.Image.{Image}
 use Rattle.oat_measure.specs.declared.opening.Opening.{Opening}
-use Rattle.oat_measure.specs.Monitor.{Call, begins, ends}
-use Rattle.oat_journal.specs.Run.{Entry, Given, pc_of}
-use Rattle.oat_journal.specs.Journal.{IsMade, IsEntryBounded, Follows}
+use Rattle.oat_measure.specs.declared.call.MonitorCall.{MonitorCall}
+use Rattle.oat_measure.specs.declared.call.MonitorCall.TheVariants as svc
+use Rattle.oat_journal.specs.Run.{Entry, AreGiven, pc_of}
+use Rattle.oat_journal.specs.Journal.{IsMade, IsEntryBounded, Continues}
 use Rattle.oat_journal.specs.Window.{made_call, returns_of_run, bits_of_run, targets_of_run}
 use Rattle.oat_journal.specs.Measured.{Run, dev, IsSealed, window_of}
 
 -- an instruction neither begins nor ends an operation
-abbrev pub IsQuiet : Option Call → Type 0
-IsQuiet (Some (begins op at)) = ⊥
-IsQuiet (Some (ends op)) = ⊥
+abbrev pub IsQuiet : Option MonitorCall → Type 0
+IsQuiet (Some (svc.Begin op at)) = ⊥
+IsQuiet (Some (svc.End op)) = ⊥
 IsQuiet _ = Unit {0}
 
 -- Instructions one behind the other from an address on, of which the last is the end that seals, and none before it begins or ends an operation.
 pub record IsTrace (code : List ℕ) (op from : ℕ) (window : List Entry) : Type 0 where
   pub made : (k : ℕ) (e : Entry) → slice_get window k ≡ Some e → IsMade code e × IsEntryBounded e
-  pub linked : (k : ℕ) (e next : Entry) → slice_get window k ≡ Some e → slice_get window (k + 1) ≡ Some next → Follows e next
+  pub linked : (k : ℕ) (e next : Entry) → slice_get window k ≡ Some e → slice_get window (k + 1) ≡ Some next → Continues e next
   pub starts : (e : Entry) → slice_get window 0 ≡ Some e → pc_of e ≡ from
   pub front : List Entry
   pub last : Entry
   pub whole : window ≡ front ++ last ∷ []
-  pub seals : made_call last ≡ Some (ends op)
+  pub seals : made_call last ≡ Some (svc.End op)
   pub quiet : (k : ℕ) (e : Entry) → slice_get front k ≡ Some e → IsQuiet (made_call e)
 
 -- The window of a sealed run is a trace, from behind the SVC that opened it.
 abbrev pub WindowsAreTraces : Type 0
 WindowsAreTraces =
-    (image : Image) (o : Opening) (inputs : List ℤ) (writes : List Write) (n : ℕ) → Given inputs writes
+    (image : Image) (o : Opening) (inputs : List ℤ) (writes : List Write) (n : ℕ) → AreGiven inputs writes
     → IsSealed (dev image o inputs writes n)
     → IsTrace image.code o.op (next_pc o.begin_at) (window_of o (dev image o inputs writes n))
 

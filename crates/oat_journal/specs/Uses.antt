@@ -2,7 +2,8 @@
 use Rattle.std.specs.Prelude.{◌≡◌, ℕ, List, [], ◌∷◌, ◌++◌, nat_eq, if◌then◌else◌, Option, Some, None}
 use Rattle.std.specs.Option.{option_map}
 use Rattle.std.specs.List.{filter_map, cons_option}
-use Rattle.oat_measure.specs.Monitor.{Call, defines, uses}
+use Rattle.oat_measure.specs.declared.call.MonitorCall.{MonitorCall}
+use Rattle.oat_measure.specs.declared.call.MonitorCall.TheVariants as svc
 
 pub record CheckedUse : Type 0 where
   pub cell : ℕ
@@ -10,8 +11,8 @@ pub record CheckedUse : Type 0 where
   pub defined : ℕ
 
 -- the value that a call defines a cell as
-abbrev pub define_of : ℕ → Option Call → Option ℕ
-define_of cell (Some (defines other value)) = if nat_eq cell other then Some value else None
+abbrev pub define_of : ℕ → Option MonitorCall → Option ℕ
+define_of cell (Some (svc.Define other value)) = if nat_eq cell other then Some value else None
 define_of cell _ = None
 
 abbrev pub last_of : ℕ → List ℕ → ℕ
@@ -19,16 +20,16 @@ last_of first [] = first
 last_of first (value ∷ values) = last_of value values
 
 -- The defined value of a cell behind these calls: that of the last define, or the cell's initial word.
-abbrev pub defined_value : ℕ → ℕ → List (Option Call) → ℕ
+abbrev pub defined_value : ℕ → ℕ → List (Option MonitorCall) → ℕ
 defined_value word cell calls = last_of word (filter_map (define_of cell) calls)
 
-abbrev pub use_behind : (ℕ → Option ℕ) → List (Option Call) → Option Call → Option CheckedUse
-use_behind words calls (Some (uses cell value)) =
+abbrev pub use_behind : (ℕ → Option ℕ) → List (Option MonitorCall) → Option MonitorCall → Option CheckedUse
+use_behind words calls (Some (svc.Use cell value)) =
     option_map (λ word. record { cell = cell; found = value; defined = defined_value word cell calls }) (words cell)
 use_behind words calls _ = None
 
 -- The checked uses among calls, behind the calls before; a number that is no cell is none.
-abbrev pub uses_behind : (ℕ → Option ℕ) → List (Option Call) → List (Option Call) → List CheckedUse
+abbrev pub uses_behind : (ℕ → Option ℕ) → List (Option MonitorCall) → List (Option MonitorCall) → List CheckedUse
 uses_behind words before [] = []
 uses_behind words before (call ∷ calls) = cons_option (use_behind words before call) (uses_behind words (before ++ call ∷ []) calls)
 

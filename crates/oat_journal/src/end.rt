@@ -1,14 +1,6 @@
 use oat_a64::FaultKind;
 use oat_map::TrapKind;
-
-/// Why the monitor stopped a run.
-#[derive(Clone, Copy, Debug, PartialEq, Eq)]
-pub enum StopKind {
-    /// An operation began inside the window.
-    Nested,
-    /// Another operation than the session's ended inside the window.
-    WrongEnd,
-}
+use oat_measure::StopKind;
 
 /// How a device run ended.
 #[derive(Clone, Copy, Debug, PartialEq, Eq)]

@@ -4,4 +4,5 @@
 mod end;
 pub mod laws;
 
-pub use end::{DeviceEnd, StopKind};
+pub use end::DeviceEnd;
+pub use oat_measure::StopKind;

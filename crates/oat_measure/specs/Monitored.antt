@@ -3,7 +3,8 @@ use Rattle.std.specs.Prelude.{◌≡◌, ℕ, Bool, List, Option, slice_get}
 use Rattle.oat_blob.specs.declared.body.BodyHead.{BodyHead}
 use Rattle.oat_blob.specs.declared.body.Violation.{Violation}
 use Rattle.oat_measure.specs.declared.opening.Opening.{Opening}
-use Rattle.oat_measure.specs.Measurement.{Cells, Stage, State}
+use Rattle.oat_measure.specs.Measurement.{Stage, State}
+use Rattle.oat_events.specs.Cells.{Cells}
 
 pub record Monitored : Type 0 where
   pub opening : Opening
@@ -38,5 +39,5 @@ pub record Keeps (old new : Monitored) : Type 0 where
   pub spare_targets : new.spare_targets ≡ old.spare_targets
 
 -- a blob's body but for its bits and targets
-abbrev pub head_of : Opening → State → BodyHead
-head_of o s = record { op = o.op; nonce = o.nonce; digest = o.digest; hash = s.hash; violation = s.violation }
+abbrev pub body_head : Opening → State → BodyHead
+body_head o s = record { op = o.op; nonce = o.nonce; digest = o.digest; hash = s.hash; violation = s.violation }

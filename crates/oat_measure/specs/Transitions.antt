@@ -1,6 +1,8 @@
 -- What a begin, an end and the device's engine leave, in the words of the measurement step (docs/FORMATS.md, "Monitor calls").
 use Rattle.std.specs.Prelude.{◌≡◌, Result, Ok, Err}
-use Rattle.oat_measure.specs.Measurement.{State, Stop, unmeasured, measuring, sealed, wrong_end}
+use Rattle.oat_measure.specs.Measurement.{State, unmeasured, measuring, sealed}
+use Rattle.oat_measure.specs.declared.stop.StopKind.{StopKind}
+use Rattle.oat_measure.specs.declared.stop.StopKind.TheVariants.{WrongEnd}
 use Rattle.oat_measure.specs.Monitored.{Monitored, state_at}
 use Rattle.oat_measure.specs.declared.states.Begun.{Begun}
 use Rattle.oat_measure.specs.declared.states.Begun.TheVariants as begun
@@ -30,9 +32,9 @@ abbrev pub ended_shown : Ended → Monitored
 ended_shown (ended.Shut shut) = shut
 ended_shown (ended.Other other) = other
 
-abbrev pub ended_state : Ended → Result State Stop
+abbrev pub ended_state : Ended → Result State StopKind
 ended_state (ended.Shut shut) = Ok (state_at sealed shut)
-ended_state (ended.Other other) = Err wrong_end
+ended_state (ended.Other other) = Err WrongEnd
 
 -- an end that seals nothing hands back what was
 abbrev pub EndedUnchanged : Monitored → Ended → Type 0

@@ -1,7 +1,8 @@
 //! What a define and a use do to the words of the cells.
 
 ghost use Rattle.std.specs.Prelude.{◌≡◌, ◌≤◌, length, None};
-ghost use Rattle.oat_measure.specs.Measurement.{defined, violated};
+ghost use Rattle.oat_measure.specs.Measurement.{violated};
+ghost use Rattle.oat_events.specs.Cells.{defined};
 ghost use Rattle.oat_measure.specs.Monitored.{cells_of};
 
 use oat_blob::Violation;

@@ -2,8 +2,8 @@
 
 ghost use Rattle.std.specs.Prelude.{◌≡◌, ◌+◌, ◌≤◌, ℕ, length, not, nat_eq, IfOk, Ok, Some};
 ghost use Rattle.oat_measure.specs.Measurement.{booted, measured, unmeasured, measuring, sealed};
-ghost use Rattle.oat_measure.specs.Monitor as call;
-ghost use Rattle.oat_measure.specs.Monitored.{Keeps, cells_of, head_of, state_at};
+ghost use Rattle.oat_measure.specs.declared.call.MonitorCall.TheVariants as svc;
+ghost use Rattle.oat_measure.specs.Monitored.{Keeps, body_head, cells_of, state_at};
 ghost use Rattle.oat_measure.specs.Transitions.{begun_shown, begun_state, BegunUnchanged, ended_shown, ended_state, EndedUnchanged};
 
 use crate::cells::{define, unsound};
@@ -145,7 +145,7 @@ impl Unmeasured {
 
     /// The begin call of an operation, from the address `at`.
     pub fn begin(self, op: u64, at: u64) -> Begun
-        ensures step { measured self.opening (state_at unmeasured self) (Some (call.begins op at)) ≡ Ok (begun_state result) }
+        ensures step { measured self.opening (state_at unmeasured self) (Some (svc.Begin op at)) ≡ Ok (begun_state result) }
         ensures keeps { Keeps self (begun_shown result) }
         ensures other { BegunUnchanged self result }
     {
@@ -166,7 +166,7 @@ impl Unmeasured {
 
     /// A define sets the cell of its number.
     pub fn def(&mut self, cell: u64, value: u64)
-        ensures step { measured self.old.opening (state_at unmeasured self.old) (Some (call.defines cell value)) ≡ Ok (state_at unmeasured self.new) }
+        ensures step { measured self.old.opening (state_at unmeasured self.old) (Some (svc.Define cell value)) ≡ Ok (state_at unmeasured self.new) }
         ensures keeps { Keeps self.old self.new }
     {
         define(&mut self.cells, cell, value);
@@ -177,7 +177,7 @@ impl Measuring {
     /// Records whether a branch is taken.
     pub fn bit(&mut self, bit: bool)
         requires room { 1 ≤ self.old.spare_bits }
-        ensures step { (value : ℕ) → bit ≡ not (nat_eq value 0) → measured self.old.opening (state_at measuring self.old) (Some (call.bit value)) ≡ Ok (state_at measuring self.new) }
+        ensures step { (value : ℕ) → bit ≡ not (nat_eq value 0) → measured self.old.opening (state_at measuring self.old) (Some (svc.Bit value)) ≡ Ok (state_at measuring self.new) }
         ensures opening { self.new.opening ≡ self.old.opening }
         ensures spare_bits { self.new.spare_bits + 1 ≡ self.old.spare_bits }
         ensures spare_targets { self.new.spare_targets ≡ self.old.spare_targets }
@@ -188,7 +188,7 @@ impl Measuring {
     /// Records where an indirect call goes.
     pub fn target(&mut self, address: u64)
         requires room { 1 ≤ self.old.spare_targets }
-        ensures step { measured self.old.opening (state_at measuring self.old) (Some (call.target address)) ≡ Ok (state_at measuring self.new) }
+        ensures step { measured self.old.opening (state_at measuring self.old) (Some (svc.Target address)) ≡ Ok (state_at measuring self.new) }
         ensures opening { self.new.opening ≡ self.old.opening }
         ensures spare_bits { self.new.spare_bits ≡ self.old.spare_bits }
         ensures spare_targets { self.new.spare_targets + 1 ≡ self.old.spare_targets }
@@ -198,7 +198,7 @@ impl Measuring {
 
     /// Chains the address to which a function returns.
     pub fn ret(&mut self, address: u64)
-        ensures step { measured self.old.opening (state_at measuring self.old) (Some (call.returns address)) ≡ Ok (state_at measuring self.new) }
+        ensures step { measured self.old.opening (state_at measuring self.old) (Some (svc.Return address)) ≡ Ok (state_at measuring self.new) }
         ensures keeps { Keeps self.old self.new }
     {
         self.chain.absorb(address);
@@ -206,7 +206,7 @@ impl Measuring {
 
     /// A define sets the cell of its number.
     pub fn def(&mut self, cell: u64, value: u64)
-        ensures step { measured self.old.opening (state_at measuring self.old) (Some (call.defines cell value)) ≡ Ok (state_at measuring self.new) }
+        ensures step { measured self.old.opening (state_at measuring self.old) (Some (svc.Define cell value)) ≡ Ok (state_at measuring self.new) }
         ensures keeps { Keeps self.old self.new }
     {
         define(&mut self.cells, cell, value);
@@ -214,7 +214,7 @@ impl Measuring {
 
     /// A use of another value than the cell's is a violation, of which the first is kept.
     pub fn use_cell(&mut self, cell: u64, value: u64)
-        ensures step { measured self.old.opening (state_at measuring self.old) (Some (call.uses cell value)) ≡ Ok (state_at measuring self.new) }
+        ensures step { measured self.old.opening (state_at measuring self.old) (Some (svc.Use cell value)) ≡ Ok (state_at measuring self.new) }
         ensures keeps { Keeps self.old self.new }
     {
         if self.violation.is_none() {
@@ -224,7 +224,7 @@ impl Measuring {
 
     /// The end call of an operation.
     pub fn end(self, op: u64) -> Ended
-        ensures step { measured self.opening (state_at measuring self) (Some (call.ends op)) ≡ ended_state result }
+        ensures step { measured self.opening (state_at measuring self) (Some (svc.End op)) ≡ ended_state result }
         ensures keeps { Keeps self (ended_shown result) }
         ensures other { EndedUnchanged self result }
     {
@@ -245,7 +245,7 @@ impl Measuring {
 impl Sealed {
     /// The body of the window's blob, but for its bits and targets.
     pub fn head(&self) -> BodyHead
-        ensures { result ≡ head_of self.now.opening (state_at sealed self.now) }
+        ensures { result ≡ body_head self.now.opening (state_at sealed self.now) }
     {
         BodyHead {
             op: self.opening.op,
@@ -272,7 +272,7 @@ impl Sealed {
 
     /// A define sets the cell of its number.
     pub fn def(&mut self, cell: u64, value: u64)
-        ensures step { measured self.old.opening (state_at sealed self.old) (Some (call.defines cell value)) ≡ Ok (state_at sealed self.new) }
+        ensures step { measured self.old.opening (state_at sealed self.old) (Some (svc.Define cell value)) ≡ Ok (state_at sealed self.new) }
         ensures keeps { Keeps self.old self.new }
     {
         define(&mut self.cells, cell, value);

@@ -8,10 +8,8 @@ use Rattle.std.proofs.lemmas.Bool.{cases_Bool}
 use Rattle.oat_map.specs.declared.map.Map.{Map}
 use Rattle.oat_map.specs.declared.row.Row.{Row}
 use Rattle.oat_map.specs.declared.row.Row.TheVariants.{Begin}
-use Rattle.oat_map.specs.Rows.{after, begins, start}
+use Rattle.oat_map.specs.Rows.{after, begins, start, BeginsAt, IsOperation}
 use Rattle.oat_shape.specs.Parts.{AreWithin}
-use Rattle.oat_map.specs.Rows.{BeginsAt}
-use Rattle.oat_map.specs.Rows.{IsOperation}
 use Rattle.oat_shape.proofs.Scans.{at_contains, contains_at}
 use Rattle.oat_shape.proofs.RowRules.{begins-true, begins-itself}
 

@@ -10,13 +10,12 @@ use Rattle.oat_a64.specs.Step.{code_base, word_at, instruction_at}
 use Rattle.oat_map.specs.declared.map.Map.{Map}
 use Rattle.oat_map.specs.declared.row.Row.{Row}
 use Rattle.oat_map.specs.declared.row.Row.TheVariants.{Jump, Branch, Call, ICall, Ret, Begin, End, UseCell, DefCell, Check}
-use Rattle.oat_map.specs.Rows.{address_of, after, entries_of, starts_of}
+use Rattle.oat_map.specs.Rows.{address_of, after, entries_of, starts_of, is_call}
 use Rattle.oat_image.specs.declared.image.Image.{Image}
 use Rattle.oat_image.specs.Grammar.{IsWellFormed, IsRow}
 use Rattle.oat_shape.specs.Groups.{IsGroup}
 use Rattle.oat_shape.specs.MapRules.{S2}
 use Rattle.oat_shape.specs.Shape.{Holds, IsReturnSite, IsPlaceOrSite, S3}
-use Rattle.oat_map.specs.Rows.{is_call}
 use Rattle.oat_shape.specs.Lowest.{Lowest, EachAt, lower}
 use Rattle.oat_shape.specs.Parts.{AreApart, AreIndices, AreWithin, IsCovered, StandsInGroup}
 use Rattle.oat_shape.proofs.Scans.{lowest_same, lowest_both, at_contains, contains_at}

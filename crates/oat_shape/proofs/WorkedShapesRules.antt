@@ -13,15 +13,12 @@ use Rattle.oat_a64.proofs.FetchLemmas.{word_from_test, inst_from_word}
 use Rattle.oat_map.specs.declared.map.Map.{Map}
 use Rattle.oat_map.specs.declared.map.Block.{Block}
 use Rattle.oat_map.specs.declared.row.Row.{Row}
-use Rattle.oat_map.specs.Rows.{address_of, word_count, after, entries_of, starts_of}
+use Rattle.oat_map.specs.Rows.{address_of, word_count, after, entries_of, starts_of, is_call, is_over}
 use Rattle.oat_image.specs.declared.image.Image.{Image}
 use Rattle.oat_shape.specs.Groups.{IsGroup}
 use Rattle.oat_shape.specs.MapRules.{S2, S4, S7, S8, LeadsToPlaces, IsPaired}
 use Rattle.oat_shape.specs.Shape.{Covers, LiesInside, IsPlaceOrSite, S1, S3, S5, S6, Holds}
-use Rattle.oat_map.specs.Rows.{is_call}
-use Rattle.oat_a64.specs.Kinds.{is_measured}
-use Rattle.oat_a64.specs.Kinds.{is_transfer}
-use Rattle.oat_map.specs.Rows.{is_over}
+use Rattle.oat_a64.specs.Kinds.{is_measured, is_transfer}
 
 -- ---- lists
 

@@ -17,8 +17,7 @@ use Rattle.oat_shape.specs.Groups.{Stands, MovesAddress}
 use Rattle.oat_mem.specs.DataMemory.{global_address}
 use Rattle.oat_shape.specs.MapRules.{S7, S8}
 use Rattle.oat_shape.specs.Shape.{Covers, LiesInside, Holds, S5, S6, Tests}
-use Rattle.oat_a64.specs.Kinds.{is_measured}
-use Rattle.oat_a64.specs.Kinds.{is_transfer}
+use Rattle.oat_a64.specs.Kinds.{is_measured, is_transfer}
 
 -- ---- rows and their groups
 

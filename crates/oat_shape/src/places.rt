@@ -1,10 +1,9 @@
 ghost use Rattle.std.specs.Prelude.{◌≡◌, ◌↔◌, IsTrue, IfOk, Contains, map};
 ghost use Rattle.std.specs.List.{filter};
 ghost use Rattle.std.specs.List.Sorted.{IsStrictlyIncreasing};
-ghost use Rattle.oat_map.specs.Rows.{after, entries_of, starts_of};
+ghost use Rattle.oat_map.specs.Rows.{after, entries_of, starts_of, is_call};
 ghost use Rattle.oat_shape.specs.Parts.{count_below};
 ghost use Rattle.oat_shape.specs.Shape.{IsReturnSite};
-ghost use Rattle.oat_map.specs.Rows.{is_call};
 
 use oat_map::{Block, Function, Row};
 use std::alloc::{AllocError, Global};

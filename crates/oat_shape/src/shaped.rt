@@ -3,8 +3,7 @@ ghost use Rattle.sha2.specs.Sha256.{sha256};
 ghost use Rattle.oat_image.specs.Grammar.{IsWellFormed, image_text};
 ghost use Rattle.oat_shape.specs.Refusal.{IsFault};
 ghost use Rattle.oat_shape.specs.Shape.{IsShaped};
-ghost use Rattle.oat_map.specs.Rows.{BeginsAt};
-ghost use Rattle.oat_map.specs.Rows.{IsOperation};
+ghost use Rattle.oat_map.specs.Rows.{BeginsAt, IsOperation};
 
 use crate::fault::{ShapeFault, ShapeRefusal};
 use crate::rules::first_broken;

@@ -2,8 +2,7 @@ ghost use Rattle.std.specs.Prelude.{◌≡◌, ◌↔◌, ◌||◌, ◌+◌, ◌
 ghost use Rattle.oat_a64.specs.Step.{code_base};
 ghost use Rattle.oat_shape.specs.Lowest.{Lowest, EachAt};
 ghost use Rattle.oat_shape.specs.Parts.{AreApart, AreWithin, StandsInGroup};
-ghost use Rattle.oat_a64.specs.Kinds.{is_measured};
-ghost use Rattle.oat_a64.specs.Kinds.{is_transfer};
+ghost use Rattle.oat_a64.specs.Kinds.{is_measured, is_transfer};
 
 use crate::covers::is_covered;
 use crate::lowest::note;

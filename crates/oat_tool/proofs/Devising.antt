@@ -14,12 +14,10 @@ use Rattle.oat_image.specs.declared.image.Image.{Image}
 use Rattle.oat_case.specs.declared.case.Case.{Case}
 use Rattle.oat_shape.specs.MapRules.{S7}
 use Rattle.oat_shape.specs.Shape.{Holds}
-use Rattle.oat_map.specs.Rows.{BeginsAt}
-use Rattle.oat_map.specs.Rows.{IsOperation}
-use Rattle.oat_journal.specs.Measured.{Run, body_of}
-use Rattle.oat_device.specs.Standing.{IsOpening}
+use Rattle.oat_map.specs.Rows.{BeginsAt, IsOperation}
+use Rattle.oat_journal.specs.Measured.{Run, body_of, IsOpenedFor, opening_of}
 use Rattle.oat_tool.specs.Outcome.{Outcome, line}
-use Rattle.oat_tool.specs.Devises.{Devises, Runs, ShowsRun, sealed, unsealed, opening_of, run_of, run_lines}
+use Rattle.oat_tool.specs.Devises.{Devises, Runs, ShowsRun, sealed, unsealed, run_of, run_lines}
 use Rattle.oat_tool.specs.declared.page.Stop.{Stop}
 use Rattle.oat_tool.specs.Admits.{Rejects, AreAdmitted}
 use Rattle.oat_tool.specs.Pages.{Stops}
@@ -51,7 +49,7 @@ run_settles o key run p (unsealed none shown) =
 pub Devises-settles : (i c it ct : List ℕ) (o : Outcome) → Devises i c it ct o → Settles o
 Devises-settles i c it ct o devises =
     Admits-settles i c it ct (λ image case. Runs image case o) o
-    (λ image case runs. run_settles (opening_of image case runs.begin_at) case.session.key (run_of image case runs.begin_at) o runs.shown) devises
+    (λ image case runs. run_settles (opening_of image case.session runs.begin_at) case.session.key (run_of image case runs.begin_at) o runs.shown) devises
 
 -- ---- where the window opens
 
@@ -59,7 +57,7 @@ pub begins : (flow : Map) (op : ℕ) → (begun : IsOperation flow op) → Begin
 begins flow op begun = (begun.0, begun.1, refl)
 
 pub opens : (image : Image) (case : Case) → (begun : IsOperation image.map case.session.op)
-    → IsOpening image case.session (opening_of image case (begun.0 + 4))
+    → IsOpenedFor image case.session (opening_of image case.session (begun.0 + 4))
 opens image case begun = (begun.0 + 4, begins image.map case.session.op begun, refl)
 
 at_place : (rows : List Row) (row : Row) (among : Contains rows row) → slice_get rows among.0 ≡ Some row
@@ -102,8 +100,8 @@ one_shown o key run p q (unsealed none shown) (unsealed none' shown') = shown �
 one_run : (image : Image) (case : Case) → Holds (S7 image.map) → IsOne (Runs image case)
 one_run image case paired p q one two =
     let same = one_begin image.map case.session.op one.begin_at two.begin_at paired one.begins two.begins in
-    one_shown (opening_of image case one.begin_at) case.session.key (run_of image case one.begin_at) p q one.shown
-    (subst (λ (at : ℕ). ShowsRun (opening_of image case at) case.session.key (run_of image case at) q) same two.shown)
+    one_shown (opening_of image case.session one.begin_at) case.session.key (run_of image case one.begin_at) p q one.shown
+    (subst (λ (at : ℕ). ShowsRun (opening_of image case.session at) case.session.key (run_of image case at) q) same two.shown)
 
 pub one_device_answer : OneDeviceAnswer
 one_device_answer i c it ct = Admits-one i c it ct Runs (λ image case admitted. one_run image case admitted.shaped.paired)

@@ -8,14 +8,17 @@ use Rattle.oat_case.specs.declared.case.Write.{Write}
 use Rattle.oat_case.specs.Limits.{IsWellFormed}
 use Rattle.oat_image.specs.declared.image.Image.{Image}
 use Rattle.oat_measure.specs.declared.opening.Opening.{Opening}
-use Rattle.oat_measure.specs.Monitor.{Call, begins, ends, bit, target, returns, defines, uses, opens}
-use Rattle.oat_measure.specs.Measurement.{State, Stage, unmeasured, measuring, sealed, Stop, Measured, booted, inside, before, after, behind as joined, measured, measures}
+use Rattle.oat_measure.specs.Monitor.{opens}
+use Rattle.oat_measure.specs.declared.call.MonitorCall.{MonitorCall}
+use Rattle.oat_measure.specs.declared.call.MonitorCall.TheVariants as svc
+use Rattle.oat_measure.specs.Measurement.{State, Stage, unmeasured, measuring, sealed, Measured, booted, inside_window, before_window, after_window, with_rest, measured, measures}
+use Rattle.oat_measure.specs.declared.stop.StopKind.{StopKind}
 use Rattle.oat_measure.specs.Monitored.{Monitored}
 use Rattle.oat_journal.specs.Run.{Running, Entry, started, entry, turn, from_entry, journal_from, journal}
 use Rattle.oat_journal.specs.Window.{made_call}
-use Rattle.oat_journal.specs.Measured.{dev, run_until, start_cells, body_of}
+use Rattle.oat_journal.specs.Measured.{dev, run_until, start_cells, body_of, opening_of}
 use Rattle.oat_device.specs.Standing.{reported}
-use Rattle.oat_tool.specs.Devises.{opening_of, run_of}
+use Rattle.oat_tool.specs.Devises.{run_of}
 
 -- ---- what a state holds
 
@@ -26,7 +29,7 @@ record Few (s : State) (n : ℕ) : Type 0 where
 few_more : (s : State) (n m : ℕ) → Few s n → n ≤ m → Few s m
 few_more s n m few low = let bits = few.bits in let targets = few.targets in record { bits = omega (arith, bits, low); targets = omega (arith, targets, low) }
 
-abbrev FewAfter : Result State Stop → ℕ → Type 0
+abbrev FewAfter : Result State StopKind → ℕ → Type 0
 FewAfter (Ok next) n = Few next n
 FewAfter (Err stop) n = Unit {0}
 
@@ -34,7 +37,7 @@ either_state : (b : Bool) (s t : State) (n : ℕ) → Few s n → Few t n → Fe
 either_state true s t n one two = one
 either_state false s t n one two = two
 
-either_result : (b : Bool) (one two : Result State Stop) (n : ℕ) → FewAfter one n → FewAfter two n → FewAfter (cond b one two) n
+either_result : (b : Bool) (one two : Result State StopKind) (n : ℕ) → FewAfter one n → FewAfter two n → FewAfter (cond b one two) n
 either_result true one two n first second = first
 either_result false one two n first second = second
 
@@ -43,56 +46,56 @@ one_more xs x n low = let long = length-append xs (x ∷ []) in omega (arith, lo
 
 -- ---- one call
 
-before_few : (o : Opening) (s : State) (n : ℕ) (call : Call) → Few s n → Few (before o s call) n
-before_few o s n (begins op at) few = either_state (opens o.op o.begin_at (begins op at)) _ s n (record { bits = few.bits; targets = few.targets }) few
-before_few o s n (defines cell value) few = record { bits = few.bits; targets = few.targets }
-before_few o s n (ends op) few = few
-before_few o s n (bit value) few = few
-before_few o s n (target address) few = few
-before_few o s n (returns address) few = few
-before_few o s n (uses cell value) few = few
+before_few : (o : Opening) (s : State) (n : ℕ) (call : MonitorCall) → Few s n → Few (before_window o s call) n
+before_few o s n (svc.Begin op at) few = either_state (opens o.op o.begin_at (svc.Begin op at)) _ s n (record { bits = few.bits; targets = few.targets }) few
+before_few o s n (svc.Define cell value) few = record { bits = few.bits; targets = few.targets }
+before_few o s n (svc.End op) few = few
+before_few o s n (svc.Bit value) few = few
+before_few o s n (svc.Target address) few = few
+before_few o s n (svc.Return address) few = few
+before_few o s n (svc.Use cell value) few = few
 
-after_few : (s : State) (n : ℕ) (call : Call) → Few s n → Few (after s call) n
-after_few s n (defines cell value) few = record { bits = few.bits; targets = few.targets }
-after_few s n (begins op at) few = few
-after_few s n (ends op) few = few
-after_few s n (bit value) few = few
-after_few s n (target address) few = few
-after_few s n (returns address) few = few
-after_few s n (uses cell value) few = few
+after_few : (s : State) (n : ℕ) (call : MonitorCall) → Few s n → Few (after_window s call) n
+after_few s n (svc.Define cell value) few = record { bits = few.bits; targets = few.targets }
+after_few s n (svc.Begin op at) few = few
+after_few s n (svc.End op) few = few
+after_few s n (svc.Bit value) few = few
+after_few s n (svc.Target address) few = few
+after_few s n (svc.Return address) few = few
+after_few s n (svc.Use cell value) few = few
 
-inside_few : (o : Opening) (s : State) (n : ℕ) (call : Call) → Few s n → FewAfter (inside o s call) (n + 1)
-inside_few o s n (begins op at) few = tt
-inside_few o s n (ends op) few =
+inside_few : (o : Opening) (s : State) (n : ℕ) (call : MonitorCall) → Few s n → FewAfter (inside_window o s call) (n + 1)
+inside_few o s n (svc.Begin op at) few = tt
+inside_few o s n (svc.End op) few =
     let more = few_more s n (n + 1) few (omega arith) in
     either_result (nat_eq op o.op) _ _ (n + 1) (record { bits = more.bits; targets = more.targets }) tt
-inside_few o s n (bit value) few = record { bits = one_more s.bits _ n few.bits; targets = (few_more s n (n + 1) few (omega arith)).targets }
-inside_few o s n (target address) few = record { bits = (few_more s n (n + 1) few (omega arith)).bits; targets = one_more s.targets address n few.targets }
-inside_few o s n (returns address) few =
+inside_few o s n (svc.Bit value) few = record { bits = one_more s.bits _ n few.bits; targets = (few_more s n (n + 1) few (omega arith)).targets }
+inside_few o s n (svc.Target address) few = record { bits = (few_more s n (n + 1) few (omega arith)).bits; targets = one_more s.targets address n few.targets }
+inside_few o s n (svc.Return address) few =
     let more = few_more s n (n + 1) few (omega arith) in record { bits = more.bits; targets = more.targets }
-inside_few o s n (defines cell value) few =
+inside_few o s n (svc.Define cell value) few =
     let more = few_more s n (n + 1) few (omega arith) in record { bits = more.bits; targets = more.targets }
-inside_few o s n (uses cell value) few =
+inside_few o s n (svc.Use cell value) few =
     let more = few_more s n (n + 1) few (omega arith) in record { bits = more.bits; targets = more.targets }
 
-at_stage : (stage : Stage) (o : Opening) (s : State) (n : ℕ) (call : Call) → Few s n
-    → FewAfter (elim stage as (λ _. Result State Stop) [ unmeasured ↦ Ok (before o s call) | measuring ↦ inside o s call | sealed ↦ Ok (after s call) ]) (n + 1)
-at_stage unmeasured o s n call few = few_more (before o s call) n (n + 1) (before_few o s n call few) (omega arith)
+at_stage : (stage : Stage) (o : Opening) (s : State) (n : ℕ) (call : MonitorCall) → Few s n
+    → FewAfter (elim stage as (λ _. Result State StopKind) [ unmeasured ↦ Ok (before_window o s call) | measuring ↦ inside_window o s call | sealed ↦ Ok (after_window s call) ]) (n + 1)
+at_stage unmeasured o s n call few = few_more (before_window o s call) n (n + 1) (before_few o s n call few) (omega arith)
 at_stage measuring o s n call few = inside_few o s n call few
-at_stage sealed o s n call few = few_more (after s call) n (n + 1) (after_few s n call few) (omega arith)
+at_stage sealed o s n call few = few_more (after_window s call) n (n + 1) (after_few s n call few) (omega arith)
 
-one_call : (o : Opening) (s : State) (n : ℕ) (call : Option Call) → Few s n → FewAfter (measured o s call) (n + 1)
+one_call : (o : Opening) (s : State) (n : ℕ) (call : Option MonitorCall) → Few s n → FewAfter (measured o s call) (n + 1)
 one_call o s n None few = few_more s n (n + 1) few (omega arith)
 one_call o s n (Some call) few = at_stage s.stage o s n call few
 
 -- ---- all calls
 
-joined_few : (s : State) (result : Result State Stop) (rest : State → Measured) (n m : ℕ) → Few s n → FewAfter result (n + 1) → n ≤ m
-    → ((next : State) → Few next (n + 1) → Few (rest next).state m) → Few (joined s result rest).state m
+joined_few : (s : State) (result : Result State StopKind) (rest : State → Measured) (n m : ℕ) → Few s n → FewAfter result (n + 1) → n ≤ m
+    → ((next : State) → Few next (n + 1) → Few (rest next).state m) → Few (with_rest s result rest).state m
 joined_few s (Ok next) rest n m few one low others = others next one
 joined_few s (Err stop) rest n m few one low others = few_more s n m few low
 
-calls_few : (o : Opening) (calls : List (Option Call)) (s : State) (n : ℕ) → Few s n → Few (measures o s calls).state (length calls + n)
+calls_few : (o : Opening) (calls : List (Option MonitorCall)) (s : State) (n : ℕ) → Few s n → Few (measures o s calls).state (length calls + n)
 unfolding measures
 calls_few o [] s n few = few_more s n (0 + n) few (omega arith)
 calls_few o (call ∷ calls) s n few =
@@ -111,7 +114,7 @@ journal_few code writes zero s = omega arith
 journal_few code writes (suc n) s =
     entry_few (entry code writes s) (journal_from code writes n (turn code writes s)) n (journal_few code writes n (turn code writes s))
 
-until_few : (image : Image) (inputs : List ℤ) (writes : List Write) (n m : ℕ) (made : Measured) (stop : Option Stop) → Few made.state m
+until_few : (image : Image) (inputs : List ℤ) (writes : List Write) (n m : ℕ) (made : Measured) (stop : Option StopKind) → Few made.state m
     → Few (run_until image inputs writes n made stop).state m
 until_few image inputs writes n m made None few = few
 until_few image inputs writes n m made (Some stop) few = few
@@ -132,9 +135,9 @@ pub record IsSmall (shown : Monitored) : Type 0 where
   pub targets : length shown.targets < 2 ^ 32
 
 pub reported_small : (image : Image) (case : Case) (at : ℕ) (shown : Monitored) → IsWellFormed case
-    → reported shown ≡ body_of (opening_of image case at) (run_of image case at).state → IsSmall shown
+    → reported shown ≡ body_of (opening_of image case.session at) (run_of image case at).state → IsSmall shown
 reported_small image case at shown formed same =
-    let few = run_few image (opening_of image case at) case.inputs case.writes case.steps in
+    let few = run_few image (opening_of image case.session at) case.inputs case.writes case.steps in
     let steps : case.steps ≤ 4194304 = leb-true case.steps 4194304 (and_parts (nat_le 1 case.steps) (nat_le case.steps 4194304) formed.steps).1 in
     let many_bits = few.bits in
     let many_targets = few.targets in

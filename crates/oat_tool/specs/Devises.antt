@@ -8,19 +8,15 @@ use Rattle.oat_image.specs.declared.image.Image.{Image}
 use Rattle.oat_image.specs.Grammar.{image_text}
 use Rattle.oat_map.specs.Rows.{BeginsAt}
 use Rattle.oat_case.specs.declared.case.Case.{Case}
-use Rattle.oat_journal.specs.Measured.{Run, dev, opening, IsSealed, body_of}
+use Rattle.oat_journal.specs.Measured.{Run, dev, opening_of, IsSealed, body_of}
 use Rattle.oat_device.specs.Standing.{end_of}
 use Rattle.oat_tool.specs.Outcome.{Outcome, line}
 use Rattle.oat_tool.specs.RunText.{run_text}
 use Rattle.oat_tool.specs.Admits.{Admits}
 
--- what the window of a case's operation is opened for
-abbrev pub opening_of : Image → Case → ℕ → Opening
-opening_of image case begin_at = opening case.session (sha256 (image_text image)) begin_at
-
 -- the measured run of a case
 abbrev pub run_of : Image → Case → ℕ → Run
-run_of image case begin_at = dev image (opening_of image case begin_at) case.inputs case.writes case.steps
+run_of image case begin_at = dev image (opening_of image case.session begin_at) case.inputs case.writes case.steps
 
 abbrev pub run_lines : Run → List ℕ
 run_lines run = run_text run.running.outputs (end_of run)
@@ -35,7 +31,7 @@ pub data ShowsRun (o : Opening) (key : List ℕ) (run : Run) (p : Outcome) : Typ
 pub record Runs (image : Image) (case : Case) (p : Outcome) : Type 0 where
   pub begin_at : ℕ
   pub begins : BeginsAt image.map case.session.op begin_at
-  pub shown : ShowsRun (opening_of image case begin_at) case.session.key (run_of image case begin_at) p
+  pub shown : ShowsRun (opening_of image case.session begin_at) case.session.key (run_of image case begin_at) p
 
 abbrev pub Devises : (image_name case_name image_text case_text : List ℕ) → Outcome → Type 0
 Devises image_name case_name image_text case_text o =

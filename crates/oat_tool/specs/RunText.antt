@@ -8,8 +8,8 @@ use Rattle.oat_map.specs.declared.trap.TrapKind.{TrapKind}
 use Rattle.oat_map.specs.declared.trap.TrapKind.TheVariants.{DivZero, Index, NullCall, Depth, InputEnd}
 use Rattle.oat_journal.specs.declared.end.DeviceEnd.{DeviceEnd}
 use Rattle.oat_journal.specs.declared.end.DeviceEnd.TheVariants.{Halted, Trap, Fault, Stopped, OutOfSteps}
-use Rattle.oat_journal.specs.declared.end.StopKind.{StopKind}
-use Rattle.oat_journal.specs.declared.end.StopKind.TheVariants.{Nested, WrongEnd}
+use Rattle.oat_measure.specs.declared.stop.StopKind.{StopKind}
+use Rattle.oat_measure.specs.declared.stop.StopKind.TheVariants.{Nested, WrongEnd}
 use Rattle.oat_tool.specs.Outcome.{line}
 use Rattle.oat_tool.specs.Texts.{long_address}
 

@@ -2,7 +2,8 @@ use Rattle.std.proofs.Common.{◌+◌, subst}
 use Rattle.std.proofs.lemmas.Result.{IfOk-weaker}
 use Rattle.oat_blob.specs.Body.{Body}
 use Rattle.oat_blob.specs.Layout.{IsBlobOf}
-use Rattle.oat_tool.specs.Devises.{opening_of, sealed, unsealed}
+use Rattle.oat_tool.specs.Devises.{sealed, unsealed}
+use Rattle.oat_journal.specs.Measured.{opening_of}
 use Rattle.oat_tool.proofs.Devising.{begins, opens}
 use Rattle.oat_tool.proofs.Records.{reported_small}
 use Rattle.oat_tool.proofs.devise.run_case.Goals as goal
@@ -13,7 +14,7 @@ blob_under-requires-clause-few_bits c =
     let case = c.args.case.now in
     let begun = c.requires.operation in
     let stands = c.run-end.ensures.whole image case 0 c.in_ok-device.ensures in
-    let told = c.in-Some.ensures image case case.steps (opening_of image case (begun.0 + 4)) stands (opens image case begun) in
+    let told = c.in-Some.ensures image case case.steps (opening_of image case.session (begun.0 + 4)) stands (opens image case begun) in
     (reported_small image case (begun.0 + 4) c.in-Some.sealed.now c.requires.well_formed told.1).bits
 
 pub blob_under-requires-clause-few_targets : goal.blob_under-requires-clause-few_targets
@@ -22,7 +23,7 @@ blob_under-requires-clause-few_targets c =
     let case = c.args.case.now in
     let begun = c.requires.operation in
     let stands = c.run-end.ensures.whole image case 0 c.in_ok-device.ensures in
-    let told = c.in-Some.ensures image case case.steps (opening_of image case (begun.0 + 4)) stands (opens image case begun) in
+    let told = c.in-Some.ensures image case case.steps (opening_of image case.session (begun.0 + 4)) stands (opens image case begun) in
     (reported_small image case (begun.0 + 4) c.in-Some.sealed.now c.requires.well_formed told.1).targets
 
 pub returns-in-Some : goal.returns-in-Some
@@ -30,7 +31,7 @@ returns-in-Some c =
     let image = c.args.shaped.now in
     let case = c.args.case.now in
     let begun = c.requires.operation in
-    let o = opening_of image case (begun.0 + 4) in
+    let o = opening_of image case.session (begun.0 + 4) in
     let is = opens image case begun in
     let stands = c.run-end.ensures.whole image case 0 c.in_ok-device.ensures in
     let told = c.in-Some.ensures image case case.steps o stands is in
@@ -50,7 +51,7 @@ returns c =
     let image = c.args.shaped.now in
     let case = c.args.case.now in
     let begun = c.requires.operation in
-    let o = opening_of image case (begun.0 + 4) in
+    let o = opening_of image case.session (begun.0 + 4) in
     let is = opens image case begun in
     let stands = c.run-end.ensures.whole image case 0 c.in_ok-device.ensures in
     let none = c.in-None.ensures image case case.steps o stands is in

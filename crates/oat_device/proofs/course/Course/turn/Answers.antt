@@ -3,38 +3,37 @@ use Rattle.oat_cpu.specs.Processor.{regs_of}
 use Rattle.oat_device.specs.Bare.{running_of}
 use Rattle.oat_device.specs.Records.{bits_taken, targets_taken}
 use Rattle.oat_device.specs.Standing.{spare_bits, spare_targets}
-use Rattle.oat_device.specs.Calls.{call_of}
 use Rattle.oat_device.proofs.Rooms.{Takes, Kept, room-for, turn-takes, ready-next}
 use Rattle.oat_device.proofs.course.Course.turn.Goals as goal
 
-takes : (c : goal.After-tell-arg-1) → Takes c.args.self.now.bare.code.now 3 c.args.self.now.bare.cpu.pc c.turn-event.new.self.cpu.pc (bits_taken (call_of c.in-Some.call))
-    × Takes c.args.self.now.bare.code.now 4 c.args.self.now.bare.cpu.pc c.turn-event.new.self.cpu.pc (targets_taken (call_of c.in-Some.call))
+takes : (c : goal.After-tell-arg-1) → Takes c.args.self.now.bare.code.now 3 c.args.self.now.bare.cpu.pc c.turn-event.new.self.cpu.pc (bits_taken c.in-Some.call)
+    × Takes c.args.self.now.bare.code.now 4 c.args.self.now.bare.cpu.pc c.turn-event.new.self.cpu.pc (targets_taken c.in-Some.call)
 takes c =
     let bare = c.args.self.now.bare in
-    turn-takes bare.code.now bare.writes.now (running_of bare) (running_of c.turn-event.new.self) c.turn-event.result (call_of c.in-Some.call)
+    turn-takes bare.code.now bare.writes.now (running_of bare) (running_of c.turn-event.new.self) c.turn-event.result c.in-Some.call
     c.requires.going c.turn-event.ensures.event c.in-Some.ensures c.turn-event.ensures.after
 
 pub tell-requires-clause-bits : goal.tell-requires-clause-bits
 tell-requires-clause-bits c =
     let now = c.args.self.now in
     let left = c.requires.left in
-    room-for now.bare.code.now 3 (now.steps - now.bare.made) (spare_bits now.engine) now.bare.cpu.pc c.turn-event.new.self.cpu.pc (bits_taken (call_of c.in-Some.call))
+    room-for now.bare.code.now 3 (now.steps - now.bare.made) (spare_bits now.engine) now.bare.cpu.pc c.turn-event.new.self.cpu.pc (bits_taken c.in-Some.call)
     c.requires.ready.bits (omega (arith, left)) (takes c).0
 
 pub tell-requires-clause-targets : goal.tell-requires-clause-targets
 tell-requires-clause-targets c =
     let now = c.args.self.now in
     let left = c.requires.left in
-    room-for now.bare.code.now 4 (now.steps - now.bare.made) (spare_targets now.engine) now.bare.cpu.pc c.turn-event.new.self.cpu.pc (targets_taken (call_of c.in-Some.call))
+    room-for now.bare.code.now 4 (now.steps - now.bare.made) (spare_targets now.engine) now.bare.cpu.pc c.turn-event.new.self.cpu.pc (targets_taken c.in-Some.call)
     c.requires.ready.targets (omega (arith, left)) (takes c).1
 
 pub returns-in-Some-clause-ready : goal.returns-in-Some-clause-ready
 returns-in-Some-clause-ready c =
     let t = c.turn-event.ensures in
     let bare = c.args.self.now.bare in
-    let both = turn-takes bare.code.now bare.writes.now (running_of bare) (running_of c.turn-event.new.self) c.turn-event.result (call_of c.in-Some.call)
+    let both = turn-takes bare.code.now bare.writes.now (running_of bare) (running_of c.turn-event.new.self) c.turn-event.result c.in-Some.call
     c.requires.going t.event c.in-Some.ensures t.after in
-    ready-next c.args.self.now c.tell.new.self c.turn-event.new.self (bits_taken (call_of c.in-Some.call)) (targets_taken (call_of c.in-Some.call)) c.requires.ready c.requires.left
+    ready-next c.args.self.now c.tell.new.self c.turn-event.new.self (bits_taken c.in-Some.call) (targets_taken c.in-Some.call) c.requires.ready c.requires.left
     (record { code = t.code; made = t.made; outputs = t.outputs; capacity = t.capacity; fit = t.fit; rise = t.rise })
     c.tell.ensures.bare c.tell.ensures.steps c.tell.ensures.opening both.0 both.1 c.tell.ensures.bits c.tell.ensures.targets
 

@@ -1,4 +1,3 @@
-use Rattle.std.proofs.Common.{}
 use Rattle.oat_mem.specs.DataMemory.{with_word}
 use Rattle.oat_mem.proofs.Parts.{global_word-fits}
 use Rattle.oat_mem.proofs.memory.Memory.put_word.Goals as goal
