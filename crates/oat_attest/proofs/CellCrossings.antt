@@ -4,16 +4,18 @@ use Rattle.std.specs.List.{slice_get}
 use Rattle.std.proofs.lemmas.Bool.{eq-eqb, le-leb, and_from, or_left}
 use Rattle.oat_a64.specs.declared.inst.Inst.{Inst}
 use Rattle.oat_a64.specs.declared.inst.Inst.TheVariants.{Movz, Movk, Ldr, Str, Svc}
-use Rattle.oat_a64.specs.Step.{Regs, Outcome, act, next_pc, with_reg, with_bits, shifted_left, wrap, loads as loads_from, stores as stores_to}
+use Rattle.oat_a64.specs.Step.{Regs, Effect, act, next_pc, with_reg, with_bits, shifted_left, wrap, loads as loads_from, stores as stores_to}
 use Rattle.oat_mem.specs.DataMemory.{can_access, fits, word_in, global_base, global_size, global_address}
 use Rattle.oat_map.specs.declared.edge.Edge.TheVariants as edges
 use Rattle.oat_map.specs.declared.row.Row.{Row}
 use Rattle.oat_map.specs.declared.row.Row.TheVariants as rows
 use Rattle.oat_image.specs.declared.image.Image.{Image}
-use Rattle.oat_measure.specs.Monitor.{Call, begins, ends, defines, uses, call_of}
+use Rattle.oat_measure.specs.Monitor.{call_of}
+use Rattle.oat_measure.specs.declared.call.MonitorCall.{MonitorCall}
+use Rattle.oat_measure.specs.declared.call.MonitorCall.TheVariants as svc
 use Rattle.oat_shape.specs.Groups.{Stands}
 use Rattle.oat_journal.specs.Run.{Entry, pc_of}
-use Rattle.oat_journal.specs.Window.{made_call, edge_of, executed_path}
+use Rattle.oat_journal.specs.Window.{made_call, shown_edge, executed_path}
 use Rattle.oat_attest.specs.Headline.{NamesCell, IsUseOf, IsLoadOf, AllReadByLoad}
 use Rattle.oat_attest.specs.Lockstep.{Placed, placed_of, plain, calling}
 use Rattle.oat_attest.proofs.Lists.{contains-get}
@@ -47,7 +49,7 @@ abbrev with_address : Regs → ℕ → Regs
 with_address r index =
     with_reg (with_reg r 11 (shifted_left (global_address index % 2 ^ 16) (16 * 0))) 11 (global_address index)
 
-chosen : (t : Bool) (a b : Outcome) → t ≡ true → (cond t a b).machine.regs ≡ a.machine.regs
+chosen : (t : Bool) (a b : Effect) → t ≡ true → (cond t a b).machine.regs ≡ a.machine.regs
 chosen t a b is = ap (λ (x : Bool). (cond x a b).machine.regs) is
 
 loaded : (r : Regs) (index p q : ℕ) → index ≤ 65535 → next_pc p ≡ q → (memory : ℕ → ℕ)
@@ -70,20 +72,20 @@ stored r index cell p q low on memory =
 
 -- a use whose value was loaded two instructions before
 loads_use : (image : Image) (row : Row) (load move call : Entry) (rest : List Entry) (cell value index : ℕ) → Contains image.map.rows row
-    → made_call load ≡ None → made_call move ≡ None → made_call call ≡ Some (uses cell value) → slice_get image.cells cell ≡ Some index
+    → made_call load ≡ None → made_call move ≡ None → made_call call ≡ Some (svc.Use cell value) → slice_get image.cells cell ≡ Some index
     → NamesCell row cell → IsUseOf row call → IsLoadOf row load (global_address index) → pc_of load + 8 ≡ pc_of call → value ≡ word_in load.found.memory (global_address index)
     → AllReadByLoad image rest → AllReadByLoad image (load ∷ move ∷ call ∷ rest)
 loads_use image row load move call rest cell value index among none none' used has named is_use is_load apart read all zero cell' value' index' e stands used' has' =
     let same : load ≡ e = cc in
-    let both : None ≡ Some (uses cell' value') = sym none ∙ ap made_call same ∙ used' in
+    let both : None ≡ Some (svc.Use cell' value') = sym none ∙ ap made_call same ∙ used' in
     absurd (cc)
 loads_use image row load move call rest cell value index among none none' used has named is_use is_load apart read all (suc zero) cell' value' index' e stands used' has' =
     let same : move ≡ e = cc in
-    let both : None ≡ Some (uses cell' value') = sym none' ∙ ap made_call same ∙ used' in
+    let both : None ≡ Some (svc.Use cell' value') = sym none' ∙ ap made_call same ∙ used' in
     absurd (cc)
 loads_use image row load move call rest cell value index among none none' used has named is_use is_load apart read all (suc (suc zero)) cell' value' index' e stands used' has' =
     let same : call ≡ e = cc in
-    let both : Some (uses cell value) ≡ Some (uses cell' value') = sym used ∙ ap made_call same ∙ used' in
+    let both : Some (svc.Use cell value) ≡ Some (svc.Use cell' value') = sym used ∙ ap made_call same ∙ used' in
     let one : cell ≡ cell' = cc in
     let two : value ≡ value' = cc in
     let there : Some index ≡ Some index' = sym has ∙ ap (slice_get image.cells) one ∙ has' in
@@ -109,14 +111,14 @@ loads_use image row load move call rest cell value index among none none' used h
 
 -- an instruction in front that is neither a transfer nor a call
 silent : (image : Image) (op : ℕ) (i : Inst) (r : Regs) (memory : ℕ → ℕ) (rest es : List Entry) (group : List Placed) (to : ℕ)
-    → es ≡ entry_by i r memory ∷ rest → edge_of image.map op (entry_by i r memory) ≡ None → call_of i r ≡ None
+    → es ≡ entry_by i r memory ∷ rest → shown_edge image.map op (entry_by i r memory) ≡ None → call_of i r ≡ None
     → Crossed image op rest group [] to → Crossed image op es (plain r.pc ∷ group) [] to
 silent image op i r memory rest es group to whole shows none crossed =
-    subst (λ (call : Option Call). Crossed image op es (record { at = r.pc; call = call } ∷ group) [] to) none
-    (crossed_cons image op i r memory rest es group None [] to whole shows (λ c v u. let both : None ≡ Some (uses c v) = sym none ∙ u in cc) crossed)
+    subst (λ (call : Option MonitorCall). Crossed image op es (record { at = r.pc; call = call } ∷ group) [] to) none
+    (crossed_cons image op i r memory rest es group None [] to whole shows (λ c v u. let both : None ≡ Some (svc.Use c v) = sym none ∙ u in cc) crossed)
 
 abbrev pub use_group : ℕ → ℕ → ℕ → List Placed
-use_group at cell value = plain at ∷ plain (at + 4) ∷ plain (at + 8) ∷ plain (at + 12) ∷ calling (at + 16) (uses cell value) ∷ []
+use_group at cell value = plain at ∷ plain (at + 4) ∷ plain (at + 8) ∷ plain (at + 12) ∷ calling (at + 16) (svc.Use cell value) ∷ []
 
 pub record UsedCell (image : Image) (op cell at : ℕ) (es : List Entry) : Type 0 where
   pub value : ℕ
@@ -125,7 +127,7 @@ pub record UsedCell (image : Image) (op cell at : ℕ) (es : List Entry) : Type 
 -- the load, the cell's number and the call
 record Loaded (image : Image) (op cell at : ℕ) (es : List Entry) : Type 0 where
   value : ℕ
-  crossed : Crossed image op es (plain (at + 8) ∷ plain (at + 12) ∷ calling (at + 16) (uses cell value) ∷ []) [] (at + 20)
+  crossed : Crossed image op es (plain (at + 8) ∷ plain (at + 12) ∷ calling (at + 16) (svc.Use cell value) ∷ []) [] (at + 20)
 
 cross_load : (image : Image) (op at cell index : ℕ) → Contains image.map.rows (rows.UseCell at cell) → index ≤ 65535 → cell ≤ 65535 → at < 2 ^ 33 → slice_get image.cells cell ≡ Some index
     → Stands image.code (at + 8) (Ldr 10 11 0) → Stands image.code (at + 12) (Movz 9 0 cell) → Stands image.code (at + 16) (Svc 7)
@@ -185,7 +187,7 @@ cross_use image laid op at cell has r es runs =
 -- ---- defines
 
 abbrev pub define_group : ℕ → ℕ → ℕ → List Placed
-define_group at cell value = plain at ∷ plain (at + 4) ∷ plain (at + 8) ∷ plain (at + 12) ∷ calling (at + 16) (defines cell value) ∷ []
+define_group at cell value = plain at ∷ plain (at + 4) ∷ plain (at + 8) ∷ plain (at + 12) ∷ calling (at + 16) (svc.Define cell value) ∷ []
 
 pub record DefinedCell (image : Image) (op cell at : ℕ) (es : List Entry) : Type 0 where
   pub value : ℕ
@@ -227,27 +229,27 @@ cross_define image laid op at cell has r es runs =
 -- the last instructions of a run, in the group of an End row
 pub record EndedBy (image : Image) (op at ended : ℕ) (es : List Entry) : Type 0 where
   pub own : ended ≡ op
-  pub places : map placed_of es ≡ plain at ∷ calling (at + 4) (ends op) ∷ []
+  pub places : map placed_of es ≡ plain at ∷ calling (at + 4) (svc.End op) ∷ []
   pub shows : executed_path image.map op es ≡ edges.End op ∷ []
   pub loads : AllReadByLoad image es
 
 -- the SVC that ends the run
 record EndsThere (image : Image) (op p : ℕ) (r : Regs) (es : List Entry) : Type 0 where
   nine : r.x 9 ≡ op
-  places : map placed_of es ≡ calling p (ends op) ∷ []
+  places : map placed_of es ≡ calling p (svc.End op) ∷ []
   shows : executed_path image.map op es ≡ edges.End op ∷ []
   loads : AllReadByLoad image es
 
 ends_there : (image : Image) (op p : ℕ) (r : Regs) (es : List Entry) → Stands image.code p (Svc 2) → Runs image.code op (moved_to r p) es → EndsThere image op p r es
 ends_there image op p r es stands (last r' e made at seals) =
     let same : e.inst ≡ Svc 2 = inst_is image.code (Svc 2) (moved_to r p) e stands made at in
-    let both : Some (ends (e.found.regs.x 9)) ≡ Some (ends op) = sym (ap (λ (i : Inst). call_of i e.found.regs) same) ∙ seals in
+    let both : Some (svc.End (e.found.regs.x 9)) ≡ Some (svc.End op) = sym (ap (λ (i : Inst). call_of i e.found.regs) same) ∙ seals in
     let nine : e.found.regs.x 9 ≡ op = cc in
     record {
       nine = sym (ap (λ (q : Regs). q.x 9) at) ∙ nine;
-      places = ap₂ (λ (pc : ℕ) (call : Option Call). record { at = pc; call = call } ∷ []) (ap (λ (q : Regs). q.pc) at) seals;
+      places = ap₂ (λ (pc : ℕ) (call : Option MonitorCall). record { at = pc; call = call } ∷ []) (ap (λ (q : Regs). q.pc) at) seals;
       shows = rw (same, nine, eq-eqb op op refl) refl;
-      loads = read_cons image e [] (λ c v u. let both : Some (ends op) ≡ Some (uses c v) = sym seals ∙ u in cc) (none_read image);
+      loads = read_cons image e [] (λ c v u. let both : Some (svc.End op) ≡ Some (svc.Use c v) = sym seals ∙ u in cc) (none_read image);
     }
 ends_there image op p r es stands (more r' e rest made at quiet runs) =
     let same : e.inst ≡ Svc 2 = inst_is image.code (Svc 2) (moved_to r p) e stands made at in
@@ -277,7 +279,7 @@ pub record BegunBy (es : List Entry) : Type 0 where
   pub whole : es ≡ before ++ e ∷ others
   pub op : ℕ
   pub at : ℕ
-  pub called : made_call e ≡ Some (begins op at)
+  pub called : made_call e ≡ Some (svc.Begin op at)
 
 pub cross_begin : (image : Image) → IsLaid image → (op at other : ℕ) → Contains image.map.rows (rows.Begin at other) → (r : Regs) (es : List Entry)
     → Runs image.code op (moved_to r at) es → BegunBy es

@@ -20,14 +20,15 @@ use Rattle.oat_map.specs.declared.map.Map.{Map}
 use Rattle.oat_map.specs.declared.row.Row.{Row}
 use Rattle.oat_map.specs.declared.row.Row.TheVariants as rows
 use Rattle.oat_map.specs.Walk.{Step, passed, moved, edge_of, path_of, return_of, returns_of, return_site_of, Returns, RowGoes, Leads, Walk}
-use Rattle.oat_measure.specs.Monitor.{Call, begins, ends, bit, target, returns, defines, uses, call_of}
+use Rattle.oat_measure.specs.Monitor.{call_of}
+use Rattle.oat_measure.specs.declared.call.MonitorCall.{MonitorCall}
+use Rattle.oat_measure.specs.declared.call.MonitorCall.TheVariants as svc
 use Rattle.oat_journal.specs.Run.{Entry}
 use Rattle.oat_journal.specs.Journal.{IsEntryBounded}
 use Rattle.oat_journal.specs.Window.{made_call, returned, returns_of_run}
-use Rattle.oat_journal.specs.Measured.{dev, body_of, window_of}
+use Rattle.oat_journal.specs.Measured.{dev, body_of, window_of, opening_of}
 use Rattle.oat_journal.proofs.Traces.{windows_are_traces, runs_report_their_window}
 use Rattle.oat_verify.specs.Verdict.{Accepts, head_of, subject_of}
-use Rattle.oat_attest.specs.Headline.{opening_of}
 use Rattle.oat_attest.specs.Lockstep.{ClashOfUnequalReturns}
 
 abbrev AllFit : List ℕ → Type 0
@@ -43,22 +44,22 @@ fit_none k d lt = absurd (omega arith)
 -- ---- the returns of a run
 
 -- what a call records of a return is a register
-abbrev ReturnFits : Option Call → Type 0
+abbrev ReturnFits : Option MonitorCall → Type 0
 ReturnFits call = (address : ℕ) → returned call ≡ Some address → address < 2 ^ 64
 
-fits_if : (t : Bool) (a b : Option Call) → ReturnFits a → ReturnFits b → ReturnFits (cond t a b)
+fits_if : (t : Bool) (a b : Option MonitorCall) → ReturnFits a → ReturnFits b → ReturnFits (cond t a b)
 fits_if true a b p q = p
 fits_if false a b p q = q
 
 call_fits : (i : Inst) (r : Regs) → ((k : ℕ) → r.x k < 2 ^ 64) → ReturnFits (call_of i r)
 call_fits (Svc number) r low =
-    fits_if (eqb number 1) (Some (begins (r.x 9) r.pc)) _ (λ a q. absurd (cc))
-    (fits_if (eqb number 2) (Some (ends (r.x 9))) _ (λ a q. absurd (cc))
-    (fits_if (eqb number 3) (Some (bit (r.x 9))) _ (λ a q. absurd (cc))
-    (fits_if (eqb number 4) (Some (target (r.x 9))) _ (λ a q. absurd (cc))
-    (fits_if (eqb number 5) (Some (returns (r.x 30))) _ (λ a q. let same : r.x 30 ≡ a = cc in subst (λ (n : ℕ). n < 2 ^ 64) same (low 30))
-    (fits_if (eqb number 6) (Some (defines (r.x 9) (r.x 10))) _ (λ a q. absurd (cc))
-    (fits_if (eqb number 7) (Some (uses (r.x 9) (r.x 10))) None (λ a q. absurd (cc)) (λ a q. absurd (cc))))))))
+    fits_if (eqb number 1) (Some (svc.Begin (r.x 9) r.pc)) _ (λ a q. absurd (cc))
+    (fits_if (eqb number 2) (Some (svc.End (r.x 9))) _ (λ a q. absurd (cc))
+    (fits_if (eqb number 3) (Some (svc.Bit (r.x 9))) _ (λ a q. absurd (cc))
+    (fits_if (eqb number 4) (Some (svc.Target (r.x 9))) _ (λ a q. absurd (cc))
+    (fits_if (eqb number 5) (Some (svc.Return (r.x 30))) _ (λ a q. let same : r.x 30 ≡ a = cc in subst (λ (n : ℕ). n < 2 ^ 64) same (low 30))
+    (fits_if (eqb number 6) (Some (svc.Define (r.x 9) (r.x 10))) _ (λ a q. absurd (cc))
+    (fits_if (eqb number 7) (Some (svc.Use (r.x 9) (r.x 10))) None (λ a q. absurd (cc)) (λ a q. absurd (cc))))))))
 call_fits _ r low = λ a q. absurd (cc)
 
 run_fits : (window : List Entry) → ((k : ℕ) (e : Entry) → slice_get window k ≡ Some e → IsEntryBounded e) → AllFit (returns_of_run window)

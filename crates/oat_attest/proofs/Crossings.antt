@@ -3,18 +3,20 @@ use Rattle.std.proofs.Common.{◌≡◌, ◌≢◌, ℕ, ◌+◌, ◌^◌, ◌<�
 use Rattle.std.proofs.lemmas.Bool.{ne_eqb, eq-eqb}
 use Rattle.oat_a64.specs.declared.inst.Inst.{Inst}
 use Rattle.oat_a64.specs.declared.inst.Inst.TheVariants.{B, Bl, BCond, Cbnz, Blr, Ret, Svc, Brk}
-use Rattle.oat_a64.specs.Step.{Regs, Outcome, act, next_pc, with_reg, branch_target, reg, holds}
+use Rattle.oat_a64.specs.Step.{Regs, Effect, act, next_pc, with_reg, branch_target, reg, holds}
 use Rattle.oat_map.specs.declared.edge.Edge.{Edge}
 use Rattle.oat_map.specs.declared.edge.Edge.TheVariants as edges
 use Rattle.oat_map.specs.declared.map.Map.{Map}
 use Rattle.oat_map.specs.declared.row.Row.{Row}
 use Rattle.oat_map.specs.declared.row.Row.TheVariants as rows
 use Rattle.oat_image.specs.declared.image.Image.{Image}
-use Rattle.oat_measure.specs.Monitor.{Call, bit, target, returns, uses, ends as stops, call_of}
+use Rattle.oat_measure.specs.Monitor.{call_of}
+use Rattle.oat_measure.specs.declared.call.MonitorCall.{MonitorCall}
+use Rattle.oat_measure.specs.declared.call.MonitorCall.TheVariants as svc
 use Rattle.oat_shape.specs.Groups.{Stands}
 use Rattle.oat_journal.specs.Run.{Entry}
 use Rattle.oat_journal.specs.Journal.{takes_input}
-use Rattle.oat_journal.specs.Window.{edge_of, edge_over}
+use Rattle.oat_journal.specs.Window.{shown_edge, edge_over}
 use Rattle.oat_attest.specs.Lockstep.{plain, calling}
 use Rattle.oat_attest.proofs.Laid.{IsLaid}
 use Rattle.oat_attest.proofs.Stretches.{Runs, machine, moved_to, GoesOn, no_runs, entry_by, pop, Crossed, arrives, crossed_cons}
@@ -72,7 +74,7 @@ cross_call image laid op at to has r es runs =
 
 pub cross_icall : (image : Image) → IsLaid image → (op at params : ℕ) → Contains image.map.rows (rows.ICall at params) → (r : Regs) (es : List Entry)
     → (edge : Edge) → edge_over image.map (Some (rows.ICall at params)) (at + 4) (r.x 9) ≡ Some edge
-    → Runs image.code op (moved_to r at) es → Crossed image op es (calling at (target (r.x 9)) ∷ plain (at + 4) ∷ []) (edge ∷ []) (r.x 9)
+    → Runs image.code op (moved_to r at) es → Crossed image op es (calling at (svc.Target (r.x 9)) ∷ plain (at + 4) ∷ []) (edge ∷ []) (r.x 9)
 cross_icall image laid op at params has r es edge is runs =
     let (call, jump) = laid.group (rows.ICall at params) has in
     let (fits, short, ends) = laid.low (rows.ICall at params) has in
@@ -88,7 +90,7 @@ cross_icall image laid op at params has r es edge is runs =
 
 pub cross_ret : (image : Image) → IsLaid image → (op at : ℕ) → Contains image.map.rows (rows.Ret at) → (r : Regs) (es : List Entry)
     → (edge : Edge) → edge_over image.map (Some (rows.Ret at)) (at + 4) (r.x 30) ≡ Some edge
-    → Runs image.code op (moved_to r at) es → Crossed image op es (calling at (returns (r.x 30)) ∷ plain (at + 4) ∷ []) (edge ∷ []) (r.x 30)
+    → Runs image.code op (moved_to r at) es → Crossed image op es (calling at (svc.Return (r.x 30)) ∷ plain (at + 4) ∷ []) (edge ∷ []) (r.x 30)
 cross_ret image laid op at has r es edge is runs =
     let (call, jump) = laid.group (rows.Ret at) has in
     let (fits, short, ends) = laid.low (rows.Ret at) has in
@@ -118,7 +120,7 @@ other_edge flow at taken other = rw (eq-eqb (at + 8) (at + 8) refl) refl
 
 pub cross_taken : (image : Image) → IsLaid image → (op at taken other : ℕ) → Contains image.map.rows (rows.Branch at taken other) → (r : Regs) (es : List Entry)
     → eqb (r.x 9) 0 ≡ false → Runs image.code op (moved_to r at) es
-    → Crossed image op es (calling at (bit (r.x 9)) ∷ plain (at + 4) ∷ []) (edges.Branch at true taken ∷ []) taken
+    → Crossed image op es (calling at (svc.Bit (r.x 9)) ∷ plain (at + 4) ∷ []) (edges.Branch at true taken ∷ []) taken
 cross_taken image laid op at taken other has r es set runs =
     let (call, (offset, jump, leads), (offset', jump', leads')) = laid.group (rows.Branch at taken other) has in
     let (fits, short, ends) = laid.low (rows.Branch at taken other) has in
@@ -133,7 +135,7 @@ cross_taken image laid op at taken other has r es set runs =
 
 pub cross_other : (image : Image) → IsLaid image → (op at taken other : ℕ) → Contains image.map.rows (rows.Branch at taken other) → (r : Regs) (es : List Entry)
     → eqb (r.x 9) 0 ≡ true → at + 8 ≢ taken → Runs image.code op (moved_to r at) es
-    → Crossed image op es (calling at (bit (r.x 9)) ∷ plain (at + 4) ∷ plain (at + 8) ∷ []) (edges.Branch at false other ∷ []) other
+    → Crossed image op es (calling at (svc.Bit (r.x 9)) ∷ plain (at + 4) ∷ plain (at + 8) ∷ []) (edges.Branch at false other ∷ []) other
 cross_other image laid op at taken other has r es unset differ runs =
     let (call, (offset, jump, leads), (offset', jump', leads')) = laid.group (rows.Branch at taken other) has in
     let (fits, short, ends) = laid.low (rows.Branch at taken other) has in
@@ -154,7 +156,7 @@ cross_other image laid op at taken other has r es unset differ runs =
 
 -- ---- checks
 
-both_same : (t : Bool) (a b : Outcome) (r : Regs) → a.machine.regs ≡ r → b.machine.regs ≡ r → (cond t a b).machine.regs ≡ r
+both_same : (t : Bool) (a b : Effect) (r : Regs) → a.machine.regs ≡ r → b.machine.regs ≡ r → (cond t a b).machine.regs ≡ r
 both_same true a b r p q = p
 both_same false a b r p q = q
 
@@ -175,24 +177,24 @@ stuck code op r p number stands (e ∷ es) runs =
 skips : (image : Image) → IsLaid image → (op at number : ℕ) → Contains image.map.rows (rows.Check at) → (r : Regs) (es : List Entry)
     → (i : Inst) → Stands image.code at i → Stands image.code (at + 4) (Brk number) → takes_input i ≡ false → call_of i (moved_to r at) ≡ None
     → (test : Bool) → ((memory : ℕ → ℕ) → (act i (machine (moved_to r at) memory)).machine.regs ≡ moved_to r (cond test (branch_target at (pos 2)) (next_pc at)))
-    → ((memory : ℕ → ℕ) → edge_of image.map op (entry_by i (moved_to r at) memory) ≡ None)
+    → ((memory : ℕ → ℕ) → shown_edge image.map op (entry_by i (moved_to r at) memory) ≡ None)
     → Runs image.code op (moved_to r at) es → Crossed image op es (plain at ∷ []) [] (at + 8)
 skips image laid op at number has r es i stands trap dry none true leaves silent runs =
     let (fits, short, ends) = laid.low (rows.Check at) has in
     let low : at + 8 < 2 ^ 64 = omega arith in
     let on : branch_target at (pos 2) ≡ at + 8 = mod-eq_of_lt low in
-    let a = lead image op i r at (at + 8) (λ _. r) es stands dry (λ o h. let both : None ≡ Some (stops o) = sym none ∙ h in cc) (λ m. leaves m ∙ ap (moved_to r) on) runs in
-    subst (λ (call : Option Call). Crossed image op es (record { at = at; call = call } ∷ []) [] (at + 8)) none
+    let a = lead image op i r at (at + 8) (λ _. r) es stands dry (λ o h. let both : None ≡ Some (svc.End o) = sym none ∙ h in cc) (λ m. leaves m ∙ ap (moved_to r) on) runs in
+    subst (λ (call : Option MonitorCall). Crossed image op es (record { at = at; call = call } ∷ []) [] (at + 8)) none
     (crossed_cons image op i (moved_to r at) a.memory a.rest es [] None [] (at + 8) a.whole (silent a.memory)
-    (λ c v u. let both : None ≡ Some (uses c v) = sym none ∙ u in cc)
+    (λ c v u. let both : None ≡ Some (svc.Use c v) = sym none ∙ u in cc)
     (arrives image op r a.rest (at + 8) (at + 8) refl a.runs))
 skips image laid op at number has r es i stands trap dry none false leaves silent runs =
     let (fits, short, ends) = laid.low (rows.Check at) has in
     let low : at + 4 < 2 ^ 64 = omega arith in
-    let a = lead image op i r at (at + 4) (λ _. r) es stands dry (λ o h. let both : None ≡ Some (stops o) = sym none ∙ h in cc) (λ m. leaves m ∙ ap (moved_to r) (next_at at (at + 4) refl low)) runs in
+    let a = lead image op i r at (at + 4) (λ _. r) es stands dry (λ o h. let both : None ≡ Some (svc.End o) = sym none ∙ h in cc) (λ m. leaves m ∙ ap (moved_to r) (next_at at (at + 4) refl low)) runs in
     absurd (stuck image.code op r (at + 4) number trap a.rest a.runs)
 
-if_leads : (t : Bool) (a b : Outcome) (r : Regs) (p q : ℕ) → a.machine.regs ≡ moved_to r p → b.machine.regs ≡ moved_to r q → (cond t a b).machine.regs ≡ moved_to r (cond t p q)
+if_leads : (t : Bool) (a b : Effect) (r : Regs) (p q : ℕ) → a.machine.regs ≡ moved_to r p → b.machine.regs ≡ moved_to r q → (cond t a b).machine.regs ≡ moved_to r (cond t p q)
 if_leads true a b r p q x y = x
 if_leads false a b r p q x y = y
 

@@ -12,32 +12,33 @@ use Rattle.oat_map.specs.declared.row.Row.{Row}
 use Rattle.oat_map.specs.declared.row.Row.TheVariants as rows
 use Rattle.oat_map.specs.Walk.{Step, moved, edge_of as step_edge, path_of, bit_of, bits_of, target_of, targets_of, return_of, returns_of, RowGoes, Leads}
 use Rattle.oat_image.specs.declared.image.Image.{Image}
-use Rattle.oat_measure.specs.Monitor.{Call, uses}
+use Rattle.oat_measure.specs.declared.call.MonitorCall.{MonitorCall}
+use Rattle.oat_measure.specs.declared.call.MonitorCall.TheVariants as svc
 use Rattle.oat_journal.specs.Run.{Entry}
 use Rattle.oat_a64.specs.Kinds.{is_transfer}
-use Rattle.oat_journal.specs.Window.{made_call, edge_of, executed_path, returned, recorded_bit, recorded_target}
+use Rattle.oat_journal.specs.Window.{made_call, shown_edge, executed_path, returned, recorded_bit, recorded_target}
 use Rattle.oat_attest.specs.Lockstep.{Placed, placed_of, AreQuiet, IsGroupRun, Makes, Executes, AreUsedAt, PassesCells}
 use Rattle.oat_attest.proofs.Laid.{IsLaid}
 
 -- ---- what is seen of instructions
 
 -- what is seen of the calls of instructions
-abbrev pub seen : {X : Type 0} → (Option Call → Option X) → List Entry → List X
+abbrev pub seen : {X : Type 0} → (Option MonitorCall → Option X) → List Entry → List X
 seen see es = filter_map (λ (e : Entry). see (made_call e)) es
 
-abbrev pub seen_placed : {X : Type 0} → (Option Call → Option X) → List Placed → List X
+abbrev pub seen_placed : {X : Type 0} → (Option MonitorCall → Option X) → List Placed → List X
 seen_placed see group = filter_map (λ (p : Placed). see p.call) group
 
-seen_group : {X : Type 0} (see : Option Call → Option X) (es : List Entry) → seen see es ≡ seen_placed see (map placed_of es)
+seen_group : {X : Type 0} (see : Option MonitorCall → Option X) (es : List Entry) → seen see es ≡ seen_placed see (map placed_of es)
 seen_group see [] = refl
 seen_group see (e ∷ es) = ap (cons_option (see (made_call e))) (seen_group see es)
 
-seen_quiet : {X : Type 0} (see : Option Call → Option X) → see None ≡ None → (es : List Entry) → AreQuiet es → seen see es ≡ []
+seen_quiet : {X : Type 0} (see : Option MonitorCall → Option X) → see None ≡ None → (es : List Entry) → AreQuiet es → seen see es ≡ []
 seen_quiet see nothing [] quiet = refl
 seen_quiet see nothing (e ∷ es) quiet =
     ap (λ o. cons_option o (seen see es)) (ap see quiet.1 ∙ nothing) ∙ seen_quiet see nothing es quiet.2
 
-quiet_edge : (flow : Map) (op : ℕ) (e : Entry) → is_transfer e.inst ≡ false → made_call e ≡ None → edge_of flow op e ≡ None
+quiet_edge : (flow : Map) (op : ℕ) (e : Entry) → is_transfer e.inst ≡ false → made_call e ≡ None → shown_edge flow op e ≡ None
 quiet_edge flow op e plain_ none = rw (plain_, none) refl
 
 path_quiet : (flow : Map) (op : ℕ) (es : List Entry) → AreQuiet es → executed_path flow op es ≡ []
@@ -51,11 +52,11 @@ pub makes_path : (image : Image) (op from : ℕ) (row : Row) (shown : List Edge)
     → executed_path image.map op es ≡ shown ++ executed_path image.map op rest
 makes_path image op from row shown to es rest m =
     let path = executed_path image.map op in
-    ap path m.whole ∙ filter_map-append (edge_of image.map op) m.way (m.group ++ rest)
+    ap path m.whole ∙ filter_map-append (shown_edge image.map op) m.way (m.group ++ rest)
     ∙ ap₂ (λ (xs ys : List Edge). xs ++ ys) (path_quiet image.map op m.way m.quiet)
-    (filter_map-append (edge_of image.map op) m.group rest ∙ ap (λ (xs : List Edge). xs ++ path rest) m.shows)
+    (filter_map-append (shown_edge image.map op) m.group rest ∙ ap (λ (xs : List Edge). xs ++ path rest) m.shows)
 
-pub makes_seen : {X : Type 0} (see : Option Call → Option X) → see None ≡ None
+pub makes_seen : {X : Type 0} (see : Option MonitorCall → Option X) → see None ≡ None
     → (image : Image) (op from : ℕ) (row : Row) (shown : List Edge) (to : ℕ) (es rest : List Entry) → (m : Makes image op from row shown to es rest)
     → seen see es ≡ seen_placed see (map placed_of m.group) ++ seen see rest
 makes_seen see nothing image op from row shown to es rest m =
@@ -119,7 +120,7 @@ pub records_split : {X : Type 0} (g : Edge → Option X) (step : Step) (steps : 
 records_split g step steps = ap (filter_map g) (path_split step steps) ∙ filter_map-append g (path_of (step ∷ [])) (path_of steps)
 
 -- what the calls of each step's group show is what its edge records
-abbrev pub Agree : {X : Type 0} → (Option Call → Option X) → (Edge → Option X) → Type 0
+abbrev pub Agree : {X : Type 0} → (Option MonitorCall → Option X) → (Edge → Option X) → Type 0
 Agree see g = (flow : Map) (row : Row) (before : List Step) (step : Step) (to : ℕ) (group : List Placed) → RowGoes flow row before step to
     → IsGroupRun row (path_of (step ∷ [])) to group → seen_placed see group ≡ filter_map g (path_of (step ∷ []))
 
@@ -133,7 +134,7 @@ pub returns_agree : Agree returned return_of
 returns_agree flow row before step to group goes made = (group_records flow row before step to group goes made).returns
 
 -- the records of one step
-pub step_seen : {X : Type 0} (see : Option Call → Option X) (g : Edge → Option X) → see None ≡ None → Agree see g
+pub step_seen : {X : Type 0} (see : Option MonitorCall → Option X) (g : Edge → Option X) → see None ≡ None → Agree see g
     → (image : Image) (op : ℕ) (before : List Step) (from : ℕ) (row : Row) (step : Step) (to : ℕ) (es rest : List Entry) → RowGoes image.map row before step to
     → Makes image op from row (path_of (step ∷ [])) to es rest → seen see es ≡ filter_map g (path_of (step ∷ [])) ++ seen see rest
 step_seen see g nothing agree image op before from row step to es rest goes m =
@@ -141,7 +142,7 @@ step_seen see g nothing agree image op before from row step to es rest goes m =
     ∙ ap (λ xs. xs ++ seen see rest) (agree image.map row before step to (map placed_of m.group) goes m.made)
 
 -- The records of a window that executes steps are those of the steps, and of what is left of it.
-pub executed_seen : {X : Type 0} (see : Option Call → Option X) (g : Edge → Option X) → see None ≡ None → Agree see g
+pub executed_seen : {X : Type 0} (see : Option MonitorCall → Option X) (g : Edge → Option X) → see None ≡ None → Agree see g
     → (image : Image) (op : ℕ) (before : List Step) (from : ℕ) (steps : List Step) (es : List Entry) (place : ℕ) (rest : List Entry)
     → Executes image op before from steps es place rest → seen see es ≡ filter_map g (path_of steps) ++ seen see rest
 executed_seen see g nothing agree image op before from [] es place rest x = ap (seen see) x.1
@@ -190,8 +191,8 @@ executed_length image op before from (step ∷ steps) es place rest (row, to, ot
 -- ---- the cells of uses
 
 -- the cell that a call uses; a number that is no cell is none
-abbrev pub used : List ℕ → Option Call → Option ℕ
-used cells (Some (uses cell value)) = option_map (λ index. cell) (slice_get cells cell)
+abbrev pub used : List ℕ → Option MonitorCall → Option ℕ
+used cells (Some (svc.Use cell value)) = option_map (λ index. cell) (slice_get cells cell)
 used cells _ = None
 
 cells_by : (image : Image) (row : Row) (group g : List Placed) → group ≡ g → AreUsedAt row (seen_placed (used image.cells) g) → AreUsedAt row (seen_placed (used image.cells) group)

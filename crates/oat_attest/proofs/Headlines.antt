@@ -10,13 +10,13 @@ use Rattle.oat_map.specs.declared.edge.Edge.{Edge}
 use Rattle.oat_map.specs.Walk.{returns_of}
 use Rattle.oat_journal.specs.Uses.{IsSound}
 use Rattle.oat_journal.specs.Window.{returns_of_run}
-use Rattle.oat_journal.specs.Measured.{dev, body_of, window_of, uses_of}
+use Rattle.oat_journal.specs.Measured.{dev, body_of, window_of, uses_of, opening_of}
 use Rattle.oat_journal.proofs.Sealing.{sound-uses}
 use Rattle.oat_journal.proofs.Reports.{runs_report_exactly}
 use Rattle.oat_verify.specs.Verdict.{Accepts, subject_of}
 use Rattle.oat_attest.proofs.Joining.{same_path}
 use Rattle.oat_attest.proofs.Clashing.{clash_of_unequal_returns}
-use Rattle.oat_attest.specs.Headline.{opening_of, IsReported, Headline}
+use Rattle.oat_attest.specs.Headline.{IsReported, Headline}
 use Rattle.oat_attest.specs.Lockstep.{SamePath, ClashOfUnequalReturns}
 
 -- an accepted run has no violation, and so each of its checked uses is sound

@@ -14,19 +14,20 @@ use Rattle.oat_map.specs.declared.row.Row.TheVariants as rows
 use Rattle.oat_map.specs.Rows.{after, start}
 use Rattle.oat_map.specs.Walk.{Step, moved, edge_of, path_of, bit_of, bits_of, target_of, targets_of, return_of, returns_of, Walk}
 use Rattle.oat_image.specs.declared.image.Image.{Image}
-use Rattle.oat_measure.specs.Monitor.{Call, ends, uses}
+use Rattle.oat_measure.specs.declared.call.MonitorCall.{MonitorCall}
+use Rattle.oat_measure.specs.declared.call.MonitorCall.TheVariants as svc
 use Rattle.oat_blob.specs.Body.{Body}
 use Rattle.oat_blob.proofs.OneLayout.{one_body}
-use Rattle.oat_journal.specs.Run.{Entry, Given, start_memory}
+use Rattle.oat_journal.specs.Run.{Entry, AreGiven, start_memory}
 use Rattle.oat_mem.specs.DataMemory.{global_address, word_in}
 use Rattle.oat_journal.specs.Journal.{IsMade}
 use Rattle.oat_journal.specs.Window.{made_call, executed_path, returned, bits_of_run, targets_of_run, returns_of_run}
 use Rattle.oat_journal.specs.Uses.{CheckedUse, defined_value, use_behind, uses_behind}
-use Rattle.oat_journal.specs.Measured.{dev, body_of, window_of, start_cells}
+use Rattle.oat_journal.specs.Measured.{dev, body_of, window_of, start_cells, opening_of}
 use Rattle.oat_journal.specs.Trace.{IsQuiet, IsTrace}
 use Rattle.oat_journal.proofs.Traces.{windows_are_traces, runs_report_their_window}
 use Rattle.oat_verify.specs.Verdict.{Accepts, subject_of}
-use Rattle.oat_attest.specs.Headline.{IsSetting, opening_of, IsReported, calls_before}
+use Rattle.oat_attest.specs.Headline.{IsSetting, IsReported, calls_before}
 use Rattle.oat_attest.specs.Lockstep.{placed_of, Makes, ExecutesWalk, ExecutesUpToFirst, PassesCells, SamePath, Lockstep}
 use Rattle.oat_attest.proofs.Laid.{IsLaid, laid, end_of, IsClear}
 use Rattle.oat_attest.proofs.Stretches.{Runs, last, more, GoesOn, moved_to, moved_itself}
@@ -48,7 +49,7 @@ abbrev StartsWith : Regs → List Entry → Type 0
 StartsWith r es = (e : Entry) → slice_get es 0 ≡ Some e → e.found.regs ≡ r
 
 runs_from : (code : List ℕ) (op : ℕ) (front : List Entry) (final : Entry) (r : Regs) → MadeIn code (front ++ final ∷ []) → LinkedIn (front ++ final ∷ [])
-    → made_call final ≡ Some (ends op) → ((k : ℕ) (e : Entry) → slice_get front k ≡ Some e → GoesOn (made_call e)) → StartsWith r (front ++ final ∷ [])
+    → made_call final ≡ Some (svc.End op) → ((k : ℕ) (e : Entry) → slice_get front k ≡ Some e → GoesOn (made_call e)) → StartsWith r (front ++ final ∷ [])
     → Runs code op r (front ++ final ∷ [])
 runs_from code op [] final r made linked seals quiet starts = last r final (made 0 final refl) (starts final refl) seals
 runs_from code op (e ∷ front) final r made linked seals quiet starts =
@@ -71,7 +72,7 @@ trace_runs code op from es t =
     let r = first.0.found.regs in
     let made : MadeIn code all = subst (MadeIn code) t.whole (λ k e h. (t.made k e h).0) in
     let linked : LinkedIn all = subst LinkedIn t.whole (trace_linked code op from es t) in
-    let quiet = λ (k : ℕ) (e : Entry) (h : slice_get t.front k ≡ Some e) (o : ℕ) (is : made_call e ≡ Some (ends o)). subst IsQuiet is (t.quiet k e h) in
+    let quiet = λ (k : ℕ) (e : Entry) (h : slice_get t.front k ≡ Some e) (o : ℕ) (is : made_call e ≡ Some (svc.End o)). subst IsQuiet is (t.quiet k e h) in
     let starts : StartsWith r all = λ e h. let both : Some e ≡ Some first.0 = sym h ∙ first.1 in let same : e ≡ first.0 = cc in ap (λ (x : Entry). x.found.regs) same in
     let here = t.starts first.0 (ap (λ (xs : List Entry). slice_get xs 0) t.whole ∙ first.1) in
     let runs = runs_from code op t.front t.last r made linked t.seals quiet starts in
@@ -93,19 +94,19 @@ cons_map : {A B : Type 0} (f : A → B) (o : Option A) (xs : List A) → map f (
 cons_map f None xs = refl
 cons_map f (Some x) xs = refl
 
-cell_known : (words : ℕ → ℕ) (cell value : ℕ) (calls : List (Option Call)) (o : Option ℕ)
+cell_known : (words : ℕ → ℕ) (cell value : ℕ) (calls : List (Option MonitorCall)) (o : Option ℕ)
     → option_map (λ (c : CheckedUse). c.cell) (option_map (λ word. record { cell = cell; found = value; defined = defined_value word cell calls }) (option_map words o))
     ≡ option_map (λ index. cell) o
 cell_known words cell value calls None = refl
 cell_known words cell value calls (Some index) = refl
 
-cell_used : (image : Image) (calls : List (Option Call)) (call : Option Call)
+cell_used : (image : Image) (calls : List (Option MonitorCall)) (call : Option MonitorCall)
     → option_map (λ (c : CheckedUse). c.cell) (use_behind (start_cells image) calls call) ≡ used image.cells call
-cell_used image calls (Some (uses cell value)) =
+cell_used image calls (Some (svc.Use cell value)) =
     cell_known (λ index. word_in (start_memory image.words) (global_address index)) cell value calls (slice_get image.cells cell)
 cell_used image calls _ = refl
 
-cells_used : (image : Image) (before : List (Option Call)) (es : List Entry)
+cells_used : (image : Image) (before : List (Option MonitorCall)) (es : List Entry)
     → map (λ (c : CheckedUse). c.cell) (uses_behind (start_cells image) before (map made_call es)) ≡ seen (used image.cells) es
 cells_used image before [] = refl
 cells_used image before (e ∷ es) =
@@ -126,7 +127,7 @@ pub record IsAccepted (image : Image) (op begin_at : ℕ) (window : List Entry) 
 
 pub accepted : (image : Image) (session : Session) (begin_at : ℕ) → IsSetting image session begin_at
     → (bytes : List ℕ) (path : List Edge) → Accepts (subject_of image session) bytes path
-    → (inputs : List ℤ) (writes : List Write) (n : ℕ) → Given inputs writes
+    → (inputs : List ℤ) (writes : List Write) (n : ℕ) → AreGiven inputs writes
     → IsReported image session begin_at (dev image (opening_of image session begin_at) inputs writes n) bytes
     → IsAccepted image session.op begin_at (window_of (opening_of image session begin_at) (dev image (opening_of image session begin_at) inputs writes n)) path
 accepted image session begin_at setting bytes path accepts inputs writes n given reported =
@@ -178,7 +179,7 @@ outcome image op begin_at es path a steps walk is =
 -- ---- a window that executes a walk
 
 -- at its end a run makes no other call and shows no other edge
-end_seen : {X : Type 0} (see : Option Call → Option X) → see None ≡ None → (image : Image) (op place finish to : ℕ) (rest : List Entry) → see (Some (ends op)) ≡ None
+end_seen : {X : Type 0} (see : Option MonitorCall → Option X) → see None ≡ None → (image : Image) (op place finish to : ℕ) (rest : List Entry) → see (Some (svc.End op)) ≡ None
     → Makes image op place (rows.End finish op) (edges.End op ∷ []) to rest [] → seen see rest ≡ []
 end_seen see nothing image op place finish to rest none m =
     makes_seen see nothing image op place (rows.End finish op) (edges.End op ∷ []) to rest [] m
@@ -191,8 +192,8 @@ walk_path image op steps walk es x =
     ∙ ap (λ (xs : List Edge). path_of walk.front ++ xs) (makes_path image op walk.place (rows.End walk.end_address op) (edges.End op ∷ []) _ x.rest [] x.ends)
     ∙ sym (ap path_of walk.whole ∙ steps_path walk.front op)
 
-pub walk_records : {X : Type 0} (see : Option Call → Option X) (g : Edge → Option X) → see None ≡ None → Agree see g
-    → (image : Image) (op : ℕ) (steps : List Step) (walk : Walk image.map op steps) (es : List Entry) → see (Some (ends op)) ≡ None → g (edges.End op) ≡ None
+pub walk_records : {X : Type 0} (see : Option MonitorCall → Option X) (g : Edge → Option X) → see None ≡ None → Agree see g
+    → (image : Image) (op : ℕ) (steps : List Step) (walk : Walk image.map op steps) (es : List Entry) → see (Some (svc.End op)) ≡ None → g (edges.End op) ≡ None
     → ExecutesWalk image op steps walk es → seen see es ≡ filter_map g (path_of steps)
 walk_records see g nothing agree image op steps walk es no_call no_edge x =
     executed_seen see g nothing agree image op [] walk.partial.from walk.front es walk.place x.rest x.executes

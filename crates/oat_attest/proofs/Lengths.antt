@@ -5,10 +5,13 @@ use Rattle.std.proofs.lemmas.Bool.{cases_Bool}
 use Rattle.oat_case.specs.declared.case.Write.{Write}
 use Rattle.oat_image.specs.declared.image.Image.{Image}
 use Rattle.oat_measure.specs.declared.opening.Opening.{Opening}
-use Rattle.oat_measure.specs.Monitor.{Call, opens, seals}
-use Rattle.oat_measure.specs.Measurement.{State, Stop, Measured, measures, measured, booted, behind as measured_behind}
+use Rattle.oat_measure.specs.Monitor.{opens, seals}
+use Rattle.oat_measure.specs.declared.call.MonitorCall.{MonitorCall}
+use Rattle.oat_measure.specs.Measurement.{State, Measured, measures, measured, booted, with_rest}
+use Rattle.oat_measure.specs.declared.stop.StopKind.{StopKind}
 use Rattle.oat_journal.specs.Run.{Running, Entry, entry, from_entry, journal, journal_from, turn, started}
-use Rattle.oat_journal.specs.Window.{is_made, made_call, behind, through_end, window}
+use Rattle.oat_journal.specs.Window.{is_made, made_call, window, opens_window, seals_window}
+use Rattle.oat_events.specs.Windows.{beyond, through}
 use Rattle.oat_journal.specs.Measured.{dev, run_until, start_cells, window_of}
 
 length-from : (code : List ℕ) (writes : List Write) (n : ℕ) (first : Option Entry) (others : List Entry) → length others ≤ n → length (from_entry first others) ≤ suc n
@@ -21,7 +24,7 @@ length-entries code writes zero s = omega arith
 length-entries code writes (suc n) s =
     length-from code writes n (entry code writes s) (journal_from code writes n (turn code writes s)) (length-entries code writes n (turn code writes s))
 
-length-behind : (op begin_at : ℕ) (es : List Entry) → length (behind made_call op begin_at es) ≤ length es
+length-behind : (op begin_at : ℕ) (es : List Entry) → length (beyond (opens_window made_call op begin_at) es) ≤ length es
 length-behind op begin_at [] = omega arith
 length-behind op begin_at (e ∷ es) =
     let rest = length-behind op begin_at es in
@@ -30,7 +33,7 @@ length-behind op begin_at (e ∷ es) =
       | inr off ↦ rw off (omega arith)
     ]
 
-length-through : (op : ℕ) (es : List Entry) → length (through_end made_call op es) ≤ length es
+length-through : (op : ℕ) (es : List Entry) → length (through (seals_window made_call op) es) ≤ length es
 length-through op [] = omega arith
 length-through op (e ∷ es) =
     let rest = length-through op es in
@@ -41,22 +44,22 @@ length-through op (e ∷ es) =
 
 -- the monitor lets the run make no more instructions than it made
 taken-behind : (o : Opening) (s : State) (rest : State → Measured) (most : ℕ) → ((next : State) → (rest next).taken ≤ most)
-    → (r : Result State Stop) → (measured_behind s r rest).taken ≤ suc most
+    → (r : Result State StopKind) → (with_rest s r rest).taken ≤ suc most
 taken-behind o s rest most few (Ok next) = let f = few next in omega arith
 taken-behind o s rest most few (Err stop) = omega arith
 
-taken-within : (o : Opening) (s : State) (calls : List (Option Call)) → (measures o s calls).taken ≤ length calls
+taken-within : (o : Opening) (s : State) (calls : List (Option MonitorCall)) → (measures o s calls).taken ≤ length calls
 unfolding measures
 taken-within o s [] = omega arith
 taken-within o s (call ∷ calls) = taken-behind o s (λ next. measures o next calls) (length calls) (λ next. taken-within o next calls) (measured o s call)
 
 window-length : (o : Opening) (es : List Entry) → length (window made_call o.op o.begin_at es) ≤ length es
 window-length o es =
-    let a = length-through o.op (behind made_call o.op o.begin_at es) in
+    let a = length-through o.op (beyond (opens_window made_call o.op o.begin_at) es) in
     let b = length-behind o.op o.begin_at es in
     omega arith
 
-length-until : (image : Image) (o : Opening) (inputs : List ℤ) (writes : List Write) (n : ℕ) (m : Measured) → m.taken ≤ n → (stop : Option Stop)
+length-until : (image : Image) (o : Opening) (inputs : List ℤ) (writes : List Write) (n : ℕ) (m : Measured) → m.taken ≤ n → (stop : Option StopKind)
     → length (run_until image inputs writes n m stop).journal ≤ n
 length-until image o inputs writes n m few None = length-entries image.code writes n (started image inputs)
 length-until image o inputs writes n m few (Some stop) = let j = length-entries image.code writes m.taken (started image inputs) in omega arith

@@ -10,11 +10,10 @@ use Rattle.oat_map.specs.declared.map.Map.{Map}
 use Rattle.oat_map.specs.declared.map.Function.{Function}
 use Rattle.oat_map.specs.declared.row.Row.{Row}
 use Rattle.oat_map.specs.declared.row.Row.TheVariants.{Jump, Branch, Call, ICall, Ret, Begin, End, UseCell, DefCell, Check}
-use Rattle.oat_map.specs.Rows.{after, entries_of, IsIndirectTarget, is_call}
+use Rattle.oat_map.specs.Rows.{after, entries_of, IsIndirectTarget, is_call, is_called_at, is_returned_to}
 use Rattle.oat_map.specs.Walk.{Step, passed, moved, return_site_of, Returns, RowGoes}
 use Rattle.oat_image.specs.declared.image.Image.{Image}
 use Rattle.oat_shape.specs.Shape.{IsReturnSite}
-use Rattle.oat_journal.specs.Window.{is_target, is_returned_to}
 use Rattle.oat_attest.proofs.Lists.{contains-get, get-contains}
 use Rattle.oat_attest.proofs.Laid.{IsLaid, IsClear}
 
@@ -106,10 +105,10 @@ branch_apart image laid at taken other has same =
 
 -- ---- what the tests on targets and return sites find
 
-pub target_any : (functions : List Function) (params to : ℕ) → IsIndirectTarget functions params to → list_any (is_target params to) functions ≡ true
+pub target_any : (functions : List Function) (params to : ℕ) → IsIndirectTarget functions params to → list_any (is_called_at params to) functions ≡ true
 target_any functions params to t =
-    let passes : is_target params to t.function ≡ true = rw (eq-eqb t.function.entry to t.entry, eq-eqb t.function.params params t.same_params, t.referenced) refl in
-    list_any_at (is_target params to) functions t.among.0 t.function t.among.1 (ap (is_target params to) t.among.2 ∙ passes)
+    let passes : is_called_at params to t.function ≡ true = rw (eq-eqb t.function.entry to t.entry, eq-eqb t.function.params params t.same_params, t.referenced) refl in
+    list_any_at (is_called_at params to) functions t.among.0 t.function t.among.1 (ap (is_called_at params to) t.among.2 ∙ passes)
 
 pub returned_any : (rows : List Row) (to : ℕ) → IsReturnSite rows to → list_any (is_returned_to to) rows ≡ true
 returned_any rows to (row, has, call, there) =

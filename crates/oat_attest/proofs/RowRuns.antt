@@ -9,12 +9,12 @@ use Rattle.oat_map.specs.declared.edge.Edge.TheVariants as edges
 use Rattle.oat_map.specs.declared.map.Function.{Function}
 use Rattle.oat_map.specs.declared.row.Row.{Row}
 use Rattle.oat_map.specs.declared.row.Row.TheVariants as rows
-use Rattle.oat_map.specs.Rows.{address_of, after, next, IsIndirectTarget}
+use Rattle.oat_map.specs.Rows.{address_of, after, next, IsIndirectTarget, is_called_at, is_returned_to}
 use Rattle.oat_image.specs.declared.image.Image.{Image}
-use Rattle.oat_measure.specs.Monitor.{bit}
+use Rattle.oat_measure.specs.declared.call.MonitorCall.TheVariants as svc
 use Rattle.oat_journal.specs.Run.{Entry}
 use Rattle.oat_shape.specs.Shape.{IsReturnSite}
-use Rattle.oat_journal.specs.Window.{edge_over, is_target, is_returned_to}
+use Rattle.oat_journal.specs.Window.{edge_over}
 use Rattle.oat_attest.specs.Headline.{AllReadByLoad}
 use Rattle.oat_attest.specs.Lockstep.{Placed, plain, calling, IsGroupRun, Makes}
 use Rattle.oat_attest.proofs.Laid.{IsLaid, IsClear}
@@ -88,9 +88,9 @@ past image op from row shown to es group come crossed is = record {
 
 -- ---- what the tests on targets and return sites say
 
-any_target : (functions : List Function) (params to : ℕ) → list_any (is_target params to) functions ≡ true → IsIndirectTarget functions params to
+any_target : (functions : List Function) (params to : ℕ) → list_any (is_called_at params to) functions ≡ true → IsIndirectTarget functions params to
 any_target functions params to found =
-    let (place, function, within, is, passes) = Any-from_list_any (is_target params to) functions found in
+    let (place, function, within, is, passes) = Any-from_list_any (is_called_at params to) functions found in
     let here = and_parts _ _ passes in
     let both = and_parts _ _ here.0 in
     record { function = function; among = (place, within, is); entry = eqb-true _ _ both.0; same_params = eqb-true _ _ both.1; referenced = here.1 }
@@ -119,7 +119,7 @@ run_branch image op from at taken other es come =
       | inl unset ↦
           inr (past image op from row (edges.Branch at false other ∷ []) other es _ come
           (cross_other image come.laid op at taken other come.has r come.skipped.rest unset (branch_apart image come.laid at taken other come.has) come.skipped.runs)
-          (ap (λ (v : ℕ). calling at (bit v) ∷ plain (at + 4) ∷ plain (at + 8) ∷ []) (eqb-true (r.x 9) 0 unset)))
+          (ap (λ (v : ℕ). calling at (svc.Bit v) ∷ plain (at + 4) ∷ plain (at + 8) ∷ []) (eqb-true (r.x 9) 0 unset)))
     ]
 
 run_icall : (image : Image) (op from at params : ℕ) (es : List Entry) → Come image op from (rows.ICall at params) es → RowRuns image op from (rows.ICall at params) es
@@ -127,7 +127,7 @@ run_icall image op from at params es come =
     let row = rows.ICall at params in
     let r = come.skipped.regs in
     let v = r.x 9 in
-    elim (cases_Bool (list_any (is_target params v) image.map.functions)) [
+    elim (cases_Bool (list_any (is_called_at params v) image.map.functions)) [
       | inl any ↦
           let edge : edge_over image.map (Some row) (at + 4) v ≡ Some (edges.ICall at v) = ap (λ (t : Bool). cond t (Some (edges.ICall at v)) (Some (edges.Stray (at + 4) v))) any in (
             v,
@@ -140,7 +140,7 @@ run_icall image op from at params es come =
           let edge : edge_over image.map (Some row) (at + 4) v ≡ Some (edges.Stray (at + 4) v) = ap (λ (t : Bool). cond t (Some (edges.ICall at v)) (Some (edges.Stray (at + 4) v))) none in (
             v,
             inr (
-              λ target. never (list_any (is_target params v) image.map.functions) none (target_any image.map.functions params v target),
+              λ target. never (list_any (is_called_at params v) image.map.functions) none (target_any image.map.functions params v target),
               past image op from row (edges.Stray (at + 4) v ∷ []) v es _ come (cross_icall image come.laid op at params come.has r come.skipped.rest (edges.Stray (at + 4) v) edge come.skipped.runs) refl,
             ),
           )

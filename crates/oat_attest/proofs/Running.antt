@@ -11,18 +11,17 @@ use Rattle.oat_map.specs.declared.row.Row.TheVariants.{Begin}
 use Rattle.oat_map.specs.Rows.{after}
 use Rattle.oat_map.specs.Walk.{moved, Walk, bit_of, bits_of, target_of, targets_of, return_of, returns_of}
 use Rattle.oat_map.proofs.StackLemmas.{IsStack-empty}
-use Rattle.oat_measure.specs.Monitor.{begins, ends}
+use Rattle.oat_measure.specs.declared.call.MonitorCall.TheVariants as svc
 use Rattle.oat_journal.specs.Run.{Entry}
 use Rattle.oat_journal.specs.Uses.{CheckedUse, IsSound}
 use Rattle.oat_journal.specs.Window.{made_call, executed_path, returned, recorded_bit, recorded_target}
-use Rattle.oat_journal.specs.Measured.{dev, body_of, window_of, uses_of, first_unsound}
+use Rattle.oat_journal.specs.Measured.{dev, body_of, window_of, uses_of, first_unsound, opening_of}
 use Rattle.oat_journal.specs.Trace.{IsQuiet, IsTrace}
 use Rattle.oat_journal.proofs.Reports.{runs_report_exactly}
 use Rattle.oat_journal.proofs.Traces.{windows_are_traces, runs_report_their_window}
 use Rattle.oat_verify.proofs.OneVerdict.{one_verdict, acceptance_at_once}
 use Rattle.oat_verify.specs.Verdict.{IsVerdict, subject_of, head_of}
 use Rattle.oat_verify.specs.declared.verdict.Verdict.TheVariants.{Accept}
-use Rattle.oat_attest.specs.Headline.{opening_of}
 use Rattle.oat_attest.specs.Honest.{TracesAreWalks, HonestRunsWalk, HonestRunsAreAccepted, SoundRunsAreAccepted}
 use Rattle.oat_attest.specs.Lockstep.{ExecutesWalk}
 use Rattle.oat_attest.proofs.Lists.{contains-get}
@@ -53,7 +52,7 @@ split_last (b ∷ before) (f ∷ front) others e final is =
 none_begins : (code : List ℕ) (op from : ℕ) (es : List Entry) → IsTrace code op from es → NoneBegins es
 none_begins code op from es t b =
     elim (split_last b.before t.front b.others b.e t.last (sym b.whole ∙ t.whole)) [
-      | inl same ↦ let both : Some (begins b.op b.at) ≡ Some (ends op) = sym b.called ∙ ap made_call same ∙ t.seals in absurd (cc)
+      | inl same ↦ let both : Some (svc.Begin b.op b.at) ≡ Some (svc.End op) = sym b.called ∙ ap made_call same ∙ t.seals in absurd (cc)
       | inr (k, at) ↦ subst IsQuiet b.called (t.quiet k b.e at)
     ]
 

@@ -4,14 +4,15 @@ use Rattle.std.specs.List.{slice_get, find}
 use Rattle.std.proofs.lemmas.Bool.{cases_lt, cases_Bool, or_parts, le-leb, leb-false, ne_eqb}
 use Rattle.oat_a64.specs.declared.inst.Inst.{Inst}
 use Rattle.oat_a64.specs.declared.inst.Inst.TheVariants.{B, Bl, BCond, Cbz, Cbnz, Blr, Ret, Ldr, Str, Svc, Brk}
-use Rattle.oat_a64.specs.Step.{Regs, Machine, Outcome, act, next_pc, wrap, reg_or_sp, instruction_at}
+use Rattle.oat_a64.specs.Step.{Regs, Machine, Effect, act, next_pc, wrap, reg_or_sp, instruction_at}
 use Rattle.oat_mem.specs.DataMemory.{can_access}
 use Rattle.oat_map.specs.declared.row.Row.{Row}
 use Rattle.oat_map.specs.declared.row.Row.TheVariants.{Jump, Branch, Call, ICall, Begin, End, UseCell, DefCell, Check}
 use Rattle.oat_map.specs.declared.row.Row.TheVariants as rows
 use Rattle.oat_map.specs.Rows.{address_of, next}
 use Rattle.oat_image.specs.declared.image.Image.{Image}
-use Rattle.oat_measure.specs.Monitor.{ends, uses, call_of, call_numbered}
+use Rattle.oat_measure.specs.Monitor.{call_of, call_numbered}
+use Rattle.oat_measure.specs.declared.call.MonitorCall.TheVariants as svc
 use Rattle.oat_shape.specs.Groups.{Stands, IsGroup}
 use Rattle.oat_journal.specs.Run.{Entry, pc_of}
 use Rattle.oat_journal.specs.Journal.{IsMade, takes_input}
@@ -54,7 +55,7 @@ plain_call _ r h = refl
 abbrev Stays : ℕ → ℕ → Type 0
 Stays q p = (q ≡ p) ⊎ (q ≡ next_pc p)
 
-stays_cond : (t : Bool) (a b : Outcome) (p : ℕ) → Stays a.machine.regs.pc p → Stays b.machine.regs.pc p → Stays (cond t a b).machine.regs.pc p
+stays_cond : (t : Bool) (a b : Effect) (p : ℕ) → Stays a.machine.regs.pc p → Stays b.machine.regs.pc p → Stays (cond t a b).machine.regs.pc p
 stays_cond true a b p x y = x
 stays_cond false a b p x y = y
 
@@ -121,7 +122,7 @@ goes_past image op e es q plain none skipped = record {
   regs = skipped.regs;
   runs = skipped.runs;
   quiet = (plain, none, skipped.quiet);
-  loads = λ all. read_cons image e es (λ cell value used. let both : None ≡ Some (uses cell value) = sym none ∙ used in cc) (skipped.loads all);
+  loads = λ all. read_cons image e es (λ cell value used. let both : None ≡ Some (svc.Use cell value) = sym none ∙ used in cc) (skipped.loads all);
 }
 
 skip_from : (image : Image) → IsLaid image → (op t : ℕ) (row : Row) → IsClear image.map.rows t → IsNext image.map.rows t row
@@ -141,7 +142,7 @@ skip_from image laid op t row clear is aligned low (e ∷ es) r p above below ru
           let four : next_pc p ≡ p + 4 = mod-eq_of_lt small in
           let here : pc_of e ≡ p = ap (λ (q : Regs). q.pc) first.at in
           let goes = left_pc image.code e first.made parts.0 in
-          let rest = first.rest (λ op' ended. let both : None ≡ Some (ends op') = sym none ∙ ended in cc) in
+          let rest = first.rest (λ op' ended. let both : None ≡ Some (svc.End op') = sym none ∙ ended in cc) in
           goes_past image op e es (address_of row) parts.0 none
           (elim goes [
             | inl stays ↦
@@ -221,7 +222,7 @@ skip_none image laid op t clear none (e ∷ es) r p above runs =
     let small : p + 4 < 2 ^ 64 = (let c = code.1 in omega arith) in
     let four : next_pc p ≡ p + 4 = mod-eq_of_lt small in
     let here : pc_of e ≡ p = ap (λ (q : Regs). q.pc) first.at in
-    let rest = first.rest (λ op' ended. let both : None ≡ Some (ends op') = sym no_call ∙ ended in cc) in
+    let rest = first.rest (λ op' ended. let both : None ≡ Some (svc.End op') = sym no_call ∙ ended in cc) in
     elim (left_pc image.code e first.made parts.0) [
       | inl stays ↦
           skip_none image laid op t clear none es e.left p above

@@ -5,11 +5,13 @@ use Rattle.oat_a64.specs.declared.inst.Inst.{Inst}
 use Rattle.oat_a64.specs.Step.{Regs, Machine, act, instruction_at}
 use Rattle.oat_map.specs.declared.edge.Edge.{Edge}
 use Rattle.oat_image.specs.declared.image.Image.{Image}
-use Rattle.oat_measure.specs.Monitor.{Call, ends, uses, call_of}
+use Rattle.oat_measure.specs.Monitor.{call_of}
+use Rattle.oat_measure.specs.declared.call.MonitorCall.{MonitorCall}
+use Rattle.oat_measure.specs.declared.call.MonitorCall.TheVariants as svc
 use Rattle.oat_shape.specs.Groups.{Stands}
 use Rattle.oat_journal.specs.Run.{Entry}
 use Rattle.oat_journal.specs.Journal.{IsMade, takes_input}
-use Rattle.oat_journal.specs.Window.{made_call, edge_of, executed_path}
+use Rattle.oat_journal.specs.Window.{made_call, shown_edge, executed_path}
 use Rattle.oat_attest.specs.Headline.{ReadByLoad, AllReadByLoad}
 use Rattle.oat_attest.specs.Lockstep.{Placed, placed_of, AreQuiet, StandsAt}
 
@@ -26,12 +28,12 @@ pub moved_itself : (r : Regs) (p : ℕ) → r.pc ≡ p → r ≡ moved_to r p
 moved_itself r p h = ap (λ (q : ℕ). moved_to r q) h
 
 -- no operation ends
-abbrev pub GoesOn : Option Call → Type 0
-GoesOn call = (op : ℕ) → call ≡ Some (ends op) → ⊥
+abbrev pub GoesOn : Option MonitorCall → Type 0
+GoesOn call = (op : ℕ) → call ≡ Some (svc.End op) → ⊥
 
 -- instructions one behind the other, from these registers on, of which the last alone ends an operation: this one
 pub data Runs (code : List ℕ) (op : ℕ) : Regs → List Entry → Type 0 where
-  last : (r : Regs) (e : Entry) → IsMade code e → e.found.regs ≡ r → made_call e ≡ Some (ends op) → Runs code op r (e ∷ [])
+  last : (r : Regs) (e : Entry) → IsMade code e → e.found.regs ≡ r → made_call e ≡ Some (svc.End op) → Runs code op r (e ∷ [])
   more : (r : Regs) (e : Entry) (es : List Entry) → IsMade code e → e.found.regs ≡ r → GoesOn (made_call e)
       → Runs code op e.left es → Runs code op r (e ∷ es)
 
@@ -90,8 +92,8 @@ pop code op i r es stands dry goes_on (more r' e rest made at quiet runs) =
 -- ---- uses that were read by their loads
 
 -- no call uses a cell
-abbrev pub IsNoUse : Option Call → Type 0
-IsNoUse call = (cell value : ℕ) → call ≡ Some (uses cell value) → ⊥
+abbrev pub IsNoUse : Option MonitorCall → Type 0
+IsNoUse call = (cell value : ℕ) → call ≡ Some (svc.Use cell value) → ⊥
 
 pub none_read : (image : Image) → AllReadByLoad image []
 none_read image k cell value index e stands used has = absurd (cc)
@@ -158,7 +160,7 @@ arrives image op r es p q same runs = record {
 
 -- one more instruction in front
 pub crossed_cons : (image : Image) (op : ℕ) (i : Inst) (r : Regs) (memory : ℕ → ℕ) (rest es : List Entry) (group : List Placed) (first : Option Edge) (shown : List Edge) (to : ℕ)
-    → es ≡ entry_by i r memory ∷ rest → edge_of image.map op (entry_by i r memory) ≡ first → IsNoUse (call_of i r)
+    → es ≡ entry_by i r memory ∷ rest → shown_edge image.map op (entry_by i r memory) ≡ first → IsNoUse (call_of i r)
     → Crossed image op rest group shown to → Crossed image op es (record { at = r.pc; call = call_of i r } ∷ group) (cons_option first shown) to
 crossed_cons image op i r memory rest es group first shown to whole shows none c =
     let e = entry_by i r memory in

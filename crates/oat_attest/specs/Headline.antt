@@ -14,14 +14,15 @@ use Rattle.oat_map.specs.declared.row.Row.{Row}
 use Rattle.oat_map.specs.declared.row.Row.TheVariants as rows
 use Rattle.oat_mem.specs.DataMemory.{word_in, global_address}
 use Rattle.oat_a64.specs.declared.inst.Inst.TheVariants.{Ldr}
-use Rattle.oat_measure.specs.Monitor.{Call, uses}
+use Rattle.oat_measure.specs.declared.call.MonitorCall.{MonitorCall}
+use Rattle.oat_measure.specs.declared.call.MonitorCall.TheVariants as svc
 use Rattle.oat_measure.specs.declared.opening.Opening.{Opening}
 use Rattle.oat_shape.specs.Shape.{IsShaped}
 use Rattle.oat_map.specs.Rows.{BeginsAt}
-use Rattle.oat_journal.specs.Run.{Entry, Given, pc_of}
-use Rattle.oat_journal.specs.Window.{executed_path, returns_of_run, made_call, ahead}
+use Rattle.oat_journal.specs.Run.{Entry, AreGiven, pc_of}
+use Rattle.oat_journal.specs.Window.{executed_path, returns_of_run, made_call, up_to_window}
 use Rattle.oat_journal.specs.Uses.{CheckedUse, IsSound, uses_behind}
-use Rattle.oat_journal.specs.Measured.{Run, dev, opening, IsSealed, body_of, window_of, start_cells}
+use Rattle.oat_journal.specs.Measured.{Run, dev, opening_of, IsSealed, body_of, window_of, start_cells}
 use Rattle.oat_verify.specs.Verdict.{Accepts, subject_of, head_of}
 
 -- ---- the run and its window
@@ -32,32 +33,29 @@ pub record IsSetting (image : Image) (session : Session) (begin_at : ℕ) : Type
   pub shaped : IsShaped image
   pub begins : BeginsAt image.map session.op begin_at
 
-abbrev pub opening_of : Image → Session → ℕ → Opening
-opening_of image session begin_at = opening session (sha256 (image_text image)) begin_at
-
 -- A sealed run, and the blob of its body under the session's key.
 pub record IsReported (image : Image) (session : Session) (begin_at : ℕ) (run : Run) (bytes : List ℕ) : Type 0 where
   pub sealed : IsSealed run
   pub blob : IsBlobOf (body_of (opening_of image session begin_at) run.state) session.key bytes
 
 -- the monitor calls that a run made up to the begin that opens its window
-abbrev pub calls_before : Opening → Run → List (Option Call)
-calls_before o run = map made_call (ahead made_call o.op o.begin_at run.journal)
+abbrev pub calls_before : Opening → Run → List (Option MonitorCall)
+calls_before o run = map made_call (up_to_window made_call o.op o.begin_at run.journal)
 
 -- the checked uses of a window, behind the calls before it
-abbrev pub uses_in : Image → List (Option Call) → List Entry → List CheckedUse
+abbrev pub uses_in : Image → List (Option MonitorCall) → List Entry → List CheckedUse
 uses_in image before window = uses_behind (start_cells image) before (map made_call window)
 
 -- What holds of the window of each device run whose blob these bytes are, and of the calls before it, whatever was given and written.
-abbrev pub OfRuns : Image → Session → ℕ → List ℕ → (List (Option Call) → List Entry → Type 0) → Type 0
+abbrev pub OfRuns : Image → Session → ℕ → List ℕ → (List (Option MonitorCall) → List Entry → Type 0) → Type 0
 OfRuns image session begin_at bytes claim =
-    (inputs : List ℤ) (writes : List Write) (n : ℕ) → Given inputs writes
+    (inputs : List ℤ) (writes : List Write) (n : ℕ) → AreGiven inputs writes
     → let o = opening_of image session begin_at in
     let run = dev image o inputs writes n in
     IsReported image session begin_at run bytes → claim (calls_before o run) (window_of o run)
 
 -- What holds of each accepted blob of a device run.
-abbrev pub OfAcceptedRuns : ((image : Image) → Session → List Edge → List (Option Call) → List Entry → Type 0) → Type 0
+abbrev pub OfAcceptedRuns : ((image : Image) → Session → List Edge → List (Option MonitorCall) → List Entry → Type 0) → Type 0
 OfAcceptedRuns claim =
     (image : Image) (session : Session) (begin_at : ℕ) → IsSetting image session begin_at
     → (bytes : List ℕ) (path : List Edge) → Accepts (subject_of image session) bytes path
@@ -99,12 +97,12 @@ pub record ReadByLoad (image : Image) (window : List Entry) (k : ℕ) (call : En
 
 abbrev pub AllReadByLoad : Image → List Entry → Type 0
 AllReadByLoad image window = (k cell value index : ℕ) (e : Entry) → slice_get window k ≡ Some e
-    → made_call e ≡ Some (uses cell value) → slice_get image.cells cell ≡ Some index → ReadByLoad image window k e cell index value
+    → made_call e ≡ Some (svc.Use cell value) → slice_get image.cells cell ≡ Some index → ReadByLoad image window k e cell index value
 
 -- ---- the two cases
 
 -- The run took the accepted path, and each checked use read the last defined value of its cell, by the load of its own group.
-pub record Followed (image : Image) (op : ℕ) (path : List Edge) (before : List (Option Call)) (window : List Entry) : Type 0 where
+pub record Followed (image : Image) (op : ℕ) (path : List Edge) (before : List (Option MonitorCall)) (window : List Entry) : Type 0 where
   pub executed : executed_path image.map op window ≡ path
   pub sound : All IsSound (uses_in image before window)
   pub loaded : AllReadByLoad image window
@@ -118,7 +116,7 @@ pub record Clashes (head run_returns replay_returns : List ℕ) : Type 0 where
   pub one_digest : sha256 first ≡ sha256 second
 
 -- The run followed the path, or its returns and the replay's clash.
-abbrev pub FollowedOrClashes : Image → Session → List Edge → List (Option Call) → List Entry → Type 0
+abbrev pub FollowedOrClashes : Image → Session → List Edge → List (Option MonitorCall) → List Entry → Type 0
 FollowedOrClashes image session path before window =
     Followed image session.op path before window
     ⊎ Clashes (head_of (subject_of image session)) (returns_of_run window) (returns_of path)

@@ -9,17 +9,17 @@ use Rattle.oat_chain.specs.Chain.{chain}
 use Rattle.oat_image.specs.declared.image.Image.{Image}
 use Rattle.oat_image.specs.Grammar.{IsWellFormed}
 use Rattle.oat_map.specs.Walk.{Step, Walk, path_of, bits_of, targets_of, returns_of, path_limit}
-use Rattle.oat_journal.specs.Run.{Entry, Given}
+use Rattle.oat_journal.specs.Run.{Entry, AreGiven}
 use Rattle.oat_shape.specs.Shape.{IsShaped}
 use Rattle.oat_map.specs.Rows.{BeginsAt}
 use Rattle.oat_journal.specs.Uses.{IsSound}
 use Rattle.oat_journal.specs.Window.{executed_path, bits_of_run, targets_of_run, returns_of_run}
-use Rattle.oat_journal.specs.Measured.{Run, dev, IsSealed, body_of, window_of, uses_of}
+use Rattle.oat_journal.specs.Measured.{Run, dev, IsSealed, body_of, window_of, uses_of, opening_of}
 use Rattle.oat_journal.specs.Trace.{IsTrace}
 use Rattle.oat_verify.specs.Verdict.{Accepts, IsVerdict, subject_of, head_of}
 use Rattle.oat_verify.specs.declared.verdict.Verdict.{Verdict}
 use Rattle.oat_verify.specs.declared.verdict.Verdict.TheVariants.{Accept}
-use Rattle.oat_attest.specs.Headline.{IsSetting, opening_of}
+use Rattle.oat_attest.specs.Headline.{IsSetting}
 use Rattle.oat_attest.specs.Lockstep.{ExecutesWalk}
 use Rattle.oat_map.specs.Turns.{GoesBack, turn_of}
 
@@ -44,7 +44,7 @@ TracesAreWalks =
 abbrev pub OfHonestRuns : ((image : Image) → Session → ℕ → ℕ → Run → Type 0) → Type 0
 OfHonestRuns claim =
     (image : Image) (session : Session) (begin_at : ℕ) → IsSetting image session begin_at
-    → (inputs : List ℤ) (writes : List Write) (n : ℕ) → Given inputs writes
+    → (inputs : List ℤ) (writes : List Write) (n : ℕ) → AreGiven inputs writes
     → let o = opening_of image session begin_at in
     let run = dev image o inputs writes n in
     IsSealed run → GoesBack turn_of [] (executed_path image.map session.op (window_of o run)) → claim image session begin_at n run

@@ -10,20 +10,21 @@ use Rattle.oat_map.specs.declared.row.Row.{Row}
 use Rattle.oat_map.specs.declared.row.Row.TheVariants as rows
 use Rattle.oat_map.specs.Rows.{after, next}
 use Rattle.oat_map.specs.Walk.{Step, moved, Walk, Returns, RowGoes, path_of, returns_of}
-use Rattle.oat_measure.specs.Monitor.{Call, ends, bit, target, returns, defines, uses}
+use Rattle.oat_measure.specs.declared.call.MonitorCall.{MonitorCall}
+use Rattle.oat_measure.specs.declared.call.MonitorCall.TheVariants as svc
 use Rattle.oat_journal.specs.Run.{Entry, pc_of}
 use Rattle.oat_a64.specs.Kinds.{is_transfer}
 use Rattle.oat_journal.specs.Window.{executed_path, returns_of_run, made_call}
-use Rattle.oat_journal.specs.Measured.{dev, IsSealed, uses_of, first_unsound}
+use Rattle.oat_journal.specs.Measured.{dev, IsSealed, uses_of, first_unsound, opening_of}
 use Rattle.oat_verify.specs.Verdict.{subject_of, head_of}
-use Rattle.oat_attest.specs.Headline.{opening_of, uses_in, OfAcceptedRuns, AllReadByLoad, Clashes, NamesCell}
+use Rattle.oat_attest.specs.Headline.{uses_in, OfAcceptedRuns, AllReadByLoad, Clashes, NamesCell}
 
 -- ---- the run executes steps
 
 -- an instruction of a group by where it stands and the monitor call that it makes
 pub record Placed : Type 0 where
   pub at : ℕ
-  pub call : Option Call
+  pub call : Option MonitorCall
 
 abbrev pub placed_of : Entry → Placed
 placed_of e = record { at = pc_of e; call = made_call e }
@@ -31,26 +32,26 @@ placed_of e = record { at = pc_of e; call = made_call e }
 abbrev pub plain : ℕ → Placed
 plain at = record { at = at; call = None }
 
-abbrev pub calling : ℕ → Call → Placed
+abbrev pub calling : ℕ → MonitorCall → Placed
 calling at call = record { at = at; call = Some call }
 
 -- The instructions that the run makes of a row's group, where it shows these edges and goes on at `to`: all of them in their order, but for the last of a branch that is taken and of a check.
 abbrev pub IsGroupRun : Row → List Edge → ℕ → List Placed → Type 0
 IsGroupRun (rows.Jump at place) shown to group = group ≡ plain at ∷ []
 IsGroupRun (rows.Branch at taken other) (edges.Branch from true place ∷ []) to group =
-    (value : ℕ) × (value ≢ 0) × (group ≡ calling at (bit value) ∷ plain (at + 4) ∷ [])
-IsGroupRun (rows.Branch at taken other) _ to group = group ≡ calling at (bit 0) ∷ plain (at + 4) ∷ plain (at + 8) ∷ []
+    (value : ℕ) × (value ≢ 0) × (group ≡ calling at (svc.Bit value) ∷ plain (at + 4) ∷ [])
+IsGroupRun (rows.Branch at taken other) _ to group = group ≡ calling at (svc.Bit 0) ∷ plain (at + 4) ∷ plain (at + 8) ∷ []
 IsGroupRun (rows.Call at place) shown to group = group ≡ plain at ∷ []
-IsGroupRun (rows.ICall at params) shown to group = group ≡ calling at (target to) ∷ plain (at + 4) ∷ []
-IsGroupRun (rows.Ret at) shown to group = group ≡ calling at (returns to) ∷ plain (at + 4) ∷ []
+IsGroupRun (rows.ICall at params) shown to group = group ≡ calling at (svc.Target to) ∷ plain (at + 4) ∷ []
+IsGroupRun (rows.Ret at) shown to group = group ≡ calling at (svc.Return to) ∷ plain (at + 4) ∷ []
 IsGroupRun (rows.Begin at op) shown to group = ⊥
-IsGroupRun (rows.End at op) shown to group = group ≡ plain at ∷ calling (at + 4) (ends op) ∷ []
+IsGroupRun (rows.End at op) shown to group = group ≡ plain at ∷ calling (at + 4) (svc.End op) ∷ []
 IsGroupRun (rows.UseCell at own) shown to group =
     (cell : ℕ) × (value : ℕ) × NamesCell (rows.UseCell at own) cell
-    × (group ≡ plain at ∷ plain (at + 4) ∷ plain (at + 8) ∷ plain (at + 12) ∷ calling (at + 16) (uses cell value) ∷ [])
+    × (group ≡ plain at ∷ plain (at + 4) ∷ plain (at + 8) ∷ plain (at + 12) ∷ calling (at + 16) (svc.Use cell value) ∷ [])
 IsGroupRun (rows.DefCell at own) shown to group =
     (cell : ℕ) × (value : ℕ) × NamesCell (rows.DefCell at own) cell
-    × (group ≡ plain at ∷ plain (at + 4) ∷ plain (at + 8) ∷ plain (at + 12) ∷ calling (at + 16) (defines cell value) ∷ [])
+    × (group ≡ plain at ∷ plain (at + 4) ∷ plain (at + 8) ∷ plain (at + 12) ∷ calling (at + 16) (svc.Define cell value) ∷ [])
 IsGroupRun (rows.Check at) shown to group = group ≡ plain at ∷ []
 
 -- instructions that neither transfer control nor call the monitor
