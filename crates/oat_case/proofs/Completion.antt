@@ -4,34 +4,37 @@ use Rattle.std.specs.Prelude.{is_none, codes}
 use Rattle.std.specs.List.{filter_map}
 use Rattle.std.proofs.lemmas.Bool.{and_parts, leb-true, ltb-true, eq-eqb}
 use Rattle.hex.specs.Hex.{decode_of}
+use Rattle.oat_lines.specs.Lines.{TextWord}
 use Rattle.oat_lines.specs.Decimal.{numeral_of}
+use Rattle.oat_lines.specs.Integer.{integer_of, is_i64}
 use Rattle.oat_lines.specs.Reading.{between}
 use Rattle.oat_mem.specs.DataMemory.{fits}
-use Rattle.oat_case.specs.Limits.{is_i64, key_fits, operation_fits, steps_fit, write_fits}
-use Rattle.oat_case.specs.Grammar.{Word, Statement, KeyIs, NonceIs, OperationIs, StepsAre, InputIs, WriteIs, Says, integer_of, address_of, key_in, nonce_in, operation_in, steps_in, input_in, write_in}
-use Rattle.oat_case.specs.Reading.{Given, bytes_at, number_at, integer_at, key_line, nonce_line, operation_line, steps_line, input_line, write_of, add_write, write_line, statement_line}
+use Rattle.oat_case.specs.Limits.{key_fits, operation_fits, steps_fit, write_fits}
+use Rattle.oat_case.specs.Grammar.{Statement, KeyIs, NonceIs, OperationIs, StepsAre, InputIs, WriteIs, SaysStatement, address_numeral, key_in, nonce_in, operation_in, steps_in, input_in, write_in}
+use Rattle.oat_case.specs.Reading.{Gathered, bytes_at, numeral_at, integer_at, key_line, nonce_line, operation_line, steps_line, input_line, write_of, add_write, write_line, statement_line}
 use Rattle.oat_case.specs.declared.case.Write.{Write}
 use Rattle.oat_case.specs.declared.case.Case.{Case}
-use Rattle.oat_case.proofs.Steps.{number_again, one_again, once_back}
+use Rattle.oat_lines.proofs.Integers.{integer_again}
+use Rattle.oat_case.proofs.OneLine.{number_again, one_again, once_back}
 use Rattle.oat_case.proofs.Statements.{Gathers, any, nonce_fits, with_key, with_nonce, with_operation, with_steps, with_input, with_write}
 
 -- the line is taken, and completes what the lines above have given
-pub record Goes (n : ℕ) (g : Given) (keyword : Word) (words : List Word) (statements : List Statement) (c : Case) : Type 0 where
-  pub after : Given
+pub record Goes (n : ℕ) (g : Gathered) (keyword : TextWord) (words : List TextWord) (statements : List Statement) (c : Case) : Type 0 where
+  pub after : Gathered
   pub taken : statement_line n g keyword words ≡ Ok after
   pub begun : after.begun ≡ g.begun
   pub gathers : Gathers after statements c
 
-at_words : (n : ℕ) (g : Given) (keyword name : Word) (words more : List Word) (ss : List Statement) (c : Case) → keyword ∷ words ≡ name ∷ more → Goes n g name more ss c → Goes n g keyword words ss c
+at_words : (n : ℕ) (g : Gathered) (keyword name : TextWord) (words more : List TextWord) (ss : List Statement) (c : Case) → keyword ∷ words ≡ name ∷ more → Goes n g name more ss c → Goes n g keyword words ss c
 at_words n g keyword name words more ss c same goes =
     let first : keyword ≡ name = cc in
     let others : words ≡ more = cc in
     rw (first, others) goes
 
-bytes_again : (n : ℕ) (digits : Word) (bytes : List ℕ) → decode_of digits ≡ Ok bytes → bytes_at n digits ≡ Ok bytes
+bytes_again : (n : ℕ) (digits : TextWord) (bytes : List ℕ) → decode_of digits ≡ Ok bytes → bytes_at n digits ≡ Ok bytes
 bytes_again n digits bytes e = rw e refl
 
-key_goes : (n : ℕ) (g : Given) (digits : Word) (key : List ℕ) (ss : List Statement) (c : Case) → decode_of digits ≡ Ok key → Gathers g (KeyIs key ∷ ss) c → Goes n g (codes "key") (digits ∷ []) ss c
+key_goes : (n : ℕ) (g : Gathered) (digits : TextWord) (key : List ℕ) (ss : List Statement) (c : Case) → decode_of digits ≡ Ok key → Gathers g (KeyIs key ∷ ss) c → Goes n g (codes "key") (digits ∷ []) ss c
 unfolding statement_line key_line
 key_goes n g digits key ss c spelled k =
     let b = once_back key_fits g.key key (filter_map key_in ss) c.session.key k.key in
@@ -42,7 +45,7 @@ key_goes n g digits key ss c spelled k =
       gathers = record { key = b.2; nonce = k.nonce; operation = k.operation; steps = k.steps; inputs = k.inputs; writes = k.writes; limits = k.limits; order = k.order };
     }
 
-nonce_goes : (n : ℕ) (g : Given) (digits : Word) (nonce : List ℕ) (ss : List Statement) (c : Case) → decode_of digits ≡ Ok nonce → length nonce ≡ 16 → Gathers g (NonceIs nonce ∷ ss) c → Goes n g (codes "nonce") (digits ∷ []) ss c
+nonce_goes : (n : ℕ) (g : Gathered) (digits : TextWord) (nonce : List ℕ) (ss : List Statement) (c : Case) → decode_of digits ≡ Ok nonce → length nonce ≡ 16 → Gathers g (NonceIs nonce ∷ ss) c → Goes n g (codes "nonce") (digits ∷ []) ss c
 unfolding statement_line nonce_line
 nonce_goes n g digits nonce ss c spelled sixteen k =
     let b = once_back any g.nonce nonce (filter_map nonce_in ss) c.session.nonce k.nonce in
@@ -53,46 +56,46 @@ nonce_goes n g digits nonce ss c spelled sixteen k =
       gathers = record { key = k.key; nonce = b.2; operation = k.operation; steps = k.steps; inputs = k.inputs; writes = k.writes; limits = k.limits; order = k.order };
     }
 
-operation_goes : (n : ℕ) (g : Given) (digits : Word) (id : ℕ) (ss : List Statement) (c : Case) → numeral_of digits ≡ Some id → Gathers g (OperationIs id ∷ ss) c → Goes n g (codes "operation") (digits ∷ []) ss c
+operation_goes : (n : ℕ) (g : Gathered) (digits : TextWord) (id : ℕ) (ss : List Statement) (c : Case) → numeral_of digits ≡ Some id → Gathers g (OperationIs id ∷ ss) c → Goes n g (codes "operation") (digits ∷ []) ss c
 unfolding statement_line operation_line
 operation_goes n g digits id ss c spelled k =
     let b = once_back operation_fits g.operation id (filter_map operation_in ss) c.session.op k.operation in
     let low : id ≤ 65535 = leb-true _ _ (and_parts (leb 1 id) (leb id 65535) b.1).1 in
     record {
       after = with_operation g id;
-      taken = one_again n (number_at n) (is_none g.operation) operation_fits (with_operation g) digits id (number_again n digits id spelled (omega arith)) b.0 b.1;
+      taken = one_again n (numeral_at n) (is_none g.operation) operation_fits (with_operation g) digits id (number_again n digits id spelled (omega arith)) b.0 b.1;
       begun = refl;
       gathers = record { key = k.key; nonce = k.nonce; operation = b.2; steps = k.steps; inputs = k.inputs; writes = k.writes; limits = k.limits; order = k.order };
     }
 
-steps_goes : (n : ℕ) (g : Given) (digits : Word) (steps : ℕ) (ss : List Statement) (c : Case) → numeral_of digits ≡ Some steps → Gathers g (StepsAre steps ∷ ss) c → Goes n g (codes "steps") (digits ∷ []) ss c
+steps_goes : (n : ℕ) (g : Gathered) (digits : TextWord) (steps : ℕ) (ss : List Statement) (c : Case) → numeral_of digits ≡ Some steps → Gathers g (StepsAre steps ∷ ss) c → Goes n g (codes "steps") (digits ∷ []) ss c
 unfolding statement_line steps_line
 steps_goes n g digits steps ss c spelled k =
     let b = once_back steps_fit g.steps steps (filter_map steps_in ss) c.steps k.steps in
     let low : steps ≤ 4194304 = leb-true _ _ (and_parts (leb 1 steps) (leb steps 4194304) b.1).1 in
     record {
       after = with_steps g steps;
-      taken = one_again n (number_at n) (is_none g.steps) steps_fit (with_steps g) digits steps (number_again n digits steps spelled (omega arith)) b.0 b.1;
+      taken = one_again n (numeral_at n) (is_none g.steps) steps_fit (with_steps g) digits steps (number_again n digits steps spelled (omega arith)) b.0 b.1;
       begun = refl;
       gathers = record { key = k.key; nonce = k.nonce; operation = k.operation; steps = b.2; inputs = k.inputs; writes = k.writes; limits = k.limits; order = k.order };
     }
 
-input_goes : (n : ℕ) (g : Given) (digits : Word) (value : ℤ) (ss : List Statement) (c : Case) → integer_of digits ≡ Some value → is_i64 value ≡ true → Gathers g (InputIs value ∷ ss) c → Goes n g (codes "input") (digits ∷ []) ss c
-unfolding statement_line input_line integer_at
+input_goes : (n : ℕ) (g : Gathered) (digits : TextWord) (value : ℤ) (ss : List Statement) (c : Case) → integer_of digits ≡ Some value → is_i64 value ≡ true → Gathers g (InputIs value ∷ ss) c → Goes n g (codes "input") (digits ∷ []) ss c
+unfolding statement_line input_line
 input_goes n g digits value ss c spelled fits k =
     record {
       after = with_input g value;
-      taken = rw (spelled, fits) refl;
+      taken = rw (integer_again digits value spelled fits) refl;
       begun = refl;
       gathers = record { key = k.key; nonce = k.nonce; operation = k.operation; steps = k.steps; inputs = append_assoc g.inputs (value ∷ []) (filter_map input_in ss) ∙ k.inputs; writes = k.writes; limits = k.limits; order = k.order };
     }
 
-write_made : (n : ℕ) (number place digits : Word) (w : Write) → numeral_of number ≡ Some w.before → address_of place ≡ Some w.address → decode_of digits ≡ Ok w.bytes → w.before < 2 ^ 64 - 1
+write_made : (n : ℕ) (number place digits : TextWord) (w : Write) → numeral_of number ≡ Some w.before → address_numeral place ≡ Some w.address → decode_of digits ≡ Ok w.bytes → w.before < 2 ^ 64 - 1
     → write_of n (number, place, digits) ≡ Ok w
 unfolding write_of
 write_made n number place digits w before address bytes low = rw (number_again n number w.before before low, address, bytes) refl
 
-write_goes : (n : ℕ) (g : Given) (number place digits : Word) (w : Write) (ss : List Statement) (c : Case) → numeral_of number ≡ Some w.before → address_of place ≡ Some w.address → decode_of digits ≡ Ok w.bytes
+write_goes : (n : ℕ) (g : Gathered) (number place digits : TextWord) (w : Write) (ss : List Statement) (c : Case) → numeral_of number ≡ Some w.before → address_numeral place ≡ Some w.address → decode_of digits ≡ Ok w.bytes
     → Gathers g (WriteIs w ∷ ss) c → Goes n g (codes "write") (number ∷ place ∷ digits ∷ []) ss c
 unfolding statement_line write_line add_write
 write_goes n g number place digits w ss c before address bytes k =
@@ -107,7 +110,7 @@ write_goes n g number place digits w ss c before address bytes k =
       gathers = record { key = k.key; nonce = k.nonce; operation = k.operation; steps = k.steps; inputs = k.inputs; writes = append_assoc g.writes (w ∷ []) (filter_map write_in ss) ∙ k.writes; limits = k.limits.1; order = k.order.1 };
     }
 
-pub statement_goes : (n : ℕ) (g : Given) (keyword : Word) (words : List Word) (s : Statement) (ss : List Statement) (c : Case) → Says (keyword ∷ words) s → Gathers g (s ∷ ss) c → Goes n g keyword words ss c
+pub statement_goes : (n : ℕ) (g : Gathered) (keyword : TextWord) (words : List TextWord) (s : Statement) (ss : List Statement) (c : Case) → SaysStatement (keyword ∷ words) s → Gathers g (s ∷ ss) c → Goes n g keyword words ss c
 statement_goes n g keyword words (KeyIs key) ss c says k = at_words n g keyword (codes "key") words (says.0 ∷ []) ss c says.1 (key_goes n g says.0 key ss c says.2 k)
 statement_goes n g keyword words (NonceIs nonce) ss c says k = at_words n g keyword (codes "nonce") words (says.0 ∷ []) ss c says.1 (nonce_goes n g says.0 nonce ss c says.2 says.3 k)
 statement_goes n g keyword words (OperationIs id) ss c says k = at_words n g keyword (codes "operation") words (says.0 ∷ []) ss c says.1 (operation_goes n g says.0 id ss c says.2 k)

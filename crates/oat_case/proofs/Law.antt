@@ -7,72 +7,76 @@ use Rattle.std.specs.Str.{bytes_eq}
 use Rattle.std.proofs.lemmas.Bool.{cases_Bool, and_parts}
 use Rattle.std.proofs.lemmas.List.{append-nil}
 use Rattle.std.proofs.lemmas.Slice.Eq.{bytes_eq-Decides}
-use Rattle.oat_lines.specs.Lines.{lines_of, words_of, is_comment, is_skipped, sole}
-use Rattle.oat_lines.specs.Reading.{◌>>=◌, guard, Gives}
-use Rattle.oat_case.specs.Limits.{key_fits, operation_fits, steps_fit, IsInLimits, RisesFrom, IsWellFormed}
-use Rattle.oat_case.specs.Grammar.{Word, Statement, Says, Say, key_in, nonce_in, operation_in, steps_in, header, IsCaseText}
-use Rattle.oat_case.specs.Reading.{Fails, Given, nothing, statement_line, header_line, line_of, session_of, whole, case_from, case_of}
+use Rattle.oat_lines.specs.declared.fault.Fault.{Fault}
+use Rattle.oat_lines.specs.declared.fault.Fault.TheVariants.{At}
+use Rattle.oat_lines.specs.Lines.{TextWord, lines_of, words_of, is_comment, is_skipped, sole}
+use Rattle.oat_lines.specs.Reading.{◌>>=◌, guard}
+use Rattle.oat_lines.specs.Faults.{Gives}
+use Rattle.oat_case.specs.Limits.{key_fits, operation_fits, steps_fit, IsInLimits, RisesFrom, IsWellFormedCase}
+use Rattle.oat_case.specs.Grammar.{Statement, SaysStatement, SayStatements, key_in, nonce_in, operation_in, steps_in, header, IsCaseText}
+use Rattle.oat_case.specs.Reading.{Gathered, nothing_yet, statement_line, header_line, line_of, session_of, whole, case_from, case_of}
 use Rattle.oat_case.specs.declared.case.Session.{Session}
 use Rattle.oat_case.specs.declared.case.Case.{Case}
-use Rattle.oat_case.specs.declared.fault.CaseFault.{CaseFault}
-use Rattle.oat_case.specs.declared.fault.CaseFault.TheVariants.{Token, Missing}
-use Rattle.oat_case.proofs.Steps.{done, ok_is, bind_ok, guard_ok, ok_or_ok, sole_is, Once, once_last}
+use Rattle.oat_case.specs.declared.fault.CaseFaultKind.{CaseFaultKind}
+use Rattle.oat_case.specs.declared.fault.CaseFaultKind.TheVariants.{Token, Missing}
+use Rattle.oat_lines.proofs.Steps.{ok_is, bind_ok, guarded_ok, or_ok}
+use Rattle.oat_case.proofs.OneLine.{done, sole_is, Once, once_last}
 use Rattle.oat_case.proofs.Statements.{Gathers, Adds, any, statement_adds}
 use Rattle.oat_case.proofs.Completion.{Goes, statement_goes}
 
-abbrev counts : List Word → Bool
+abbrev counts : List TextWord → Bool
 counts words = not (is_skipped words)
 
 -- the header, where it is still to come
-abbrev heading : Bool → List (List Word) → List (List Word)
+abbrev heading : Bool → List (List TextWord) → List (List TextWord)
 heading true lines = lines
 heading false lines = header ∷ lines
 
 -- what was given and what these lines say is the case
-record Completes (g : Given) (all : List (List Word)) (c : Case) : Type 0 where
-  lines : List (List Word)
+record Completes (g : Gathered) (all : List (List TextWord)) (c : Case) : Type 0 where
+  lines : List (List TextWord)
   statements : List Statement
   counted : filter counts all ≡ heading g.begun lines
-  each : Say lines statements
+  each : SayStatements lines statements
   gathers : Gathers g statements c
 
-abbrev started : Given → Given
+abbrev started : Gathered → Gathered
 started g = record g { begun = true }
 
 -- ---- what is read stands in the text
 
-skipped_sound : (g : Given) (words : List Word) (all : List (List Word)) (c : Case) → counts words ≡ false → Completes g all c → Completes g (words ∷ all) c
+skipped_sound : (g : Gathered) (words : List TextWord) (all : List (List TextWord)) (c : Case) → counts words ≡ false → Completes g all c → Completes g (words ∷ all) c
 skipped_sound g words all c skip k = record { lines = k.lines; statements = k.statements; counted = rw skip k.counted; each = k.each; gathers = k.gathers }
 
-statement_sound : (g : Given) (words : List Word) (h : Given) (all : List (List Word)) (c : Case) → counts words ≡ true → g.begun ≡ true → Adds g words h → Completes h all c → Completes g (words ∷ all) c
+statement_sound : (g : Gathered) (words : List TextWord) (h : Gathered) (all : List (List TextWord)) (c : Case) → counts words ≡ true → g.begun ≡ true → Adds g words h → Completes h all c → Completes g (words ∷ all) c
 statement_sound g words h all c count begun a k =
     let after : h.begun ≡ true = a.begun ∙ begun in
     let rest : filter counts all ≡ k.lines = rw after at k.counted in
     record {
       lines = words ∷ k.lines;
       statements = a.statement ∷ k.statements;
-      counted = rw (count, begun) (ap (λ (ls : List (List Word)). words ∷ ls) rest);
+      counted = rw (count, begun) (ap (λ (ls : List (List TextWord)). words ∷ ls) rest);
       each = (a.says, k.each);
       gathers = a.gathers k.statements c k.gathers;
     }
 
-header_sound : (n : ℕ) (g : Given) (first : Word) (words : List Word) (h : Given) (all : List (List Word)) (c : Case) → counts (first ∷ words) ≡ true → g.begun ≡ false
+header_sound : (n : ℕ) (g : Gathered) (first : TextWord) (words : List TextWord) (h : Gathered) (all : List (List TextWord)) (c : Case) → counts (first ∷ words) ≡ true → g.begun ≡ false
     → header_line n g first words ≡ Ok h → Completes h all c → Completes g ((first ∷ words) ∷ all) c
 unfolding header_line
 header_sound n g first words h all c count fresh e k0 =
-    let a = bind_ok (ok_or (sole words) (Token n)) (λ version. guard (bytes_eq first (codes "oat-case") && bytes_eq version (codes "1")) (Token n) >>= λ _. Ok (started g)) h e in
-    let d = guard_ok (bytes_eq first (codes "oat-case") && bytes_eq a.0 (codes "1")) (Token n) (λ _. Ok (started g)) h a.2 in
+    let a = bind_ok (ok_or (sole words) (At n Token)) (λ version. guard (bytes_eq first (codes "oat-case") && bytes_eq version (codes "1")) (At n Token) >>= λ _. Ok (started g)) h e in
+    let d = guarded_ok (bytes_eq first (codes "oat-case") && bytes_eq a.0 (codes "1")) (At n Token) (λ _. Ok (started g)) h a.2 in
     let both = and_parts (bytes_eq first (codes "oat-case")) (bytes_eq a.0 (codes "1")) d.0 in
     let name : first ≡ codes "oat-case" = (bytes_eq-Decides first (codes "oat-case")).0 both.0 in
     let version : a.0 ≡ codes "1" = (bytes_eq-Decides a.0 (codes "1")).0 both.1 in
-    let others : words ≡ a.0 ∷ [] = sole_is words a.0 (ok_or_ok (sole words) (Token n) a.0 a.1) in
+    let others : words ≡ a.0 ∷ [] = sole_is words a.0 (or_ok (sole words) (At n Token) a.0 a.1) in
     let same : first ∷ words ≡ header = cc in
-    let k : Completes (started g) all c = subst (λ (z : Given). Completes z all c) (sym (ok_is (started g) h d.1)) k0 in
+    let k : Completes (started g) all c = subst (λ (z : Gathered). Completes z all c) (sym (ok_is (started g) h d.1)) k0 in
     let rest : filter counts all ≡ k.lines = k.counted in
     record {
       lines = k.lines;
       statements = k.statements;
-      counted = rw (count, fresh) (ap (λ (ws : List Word). ws ∷ filter counts all) same ∙ ap (λ (ls : List (List Word)). header ∷ ls) rest);
+      counted = rw (count, fresh) (ap (λ (ws : List TextWord). ws ∷ filter counts all) same ∙ ap (λ (ls : List (List TextWord)). header ∷ ls) rest);
       each = k.each;
       gathers = record { key = k.gathers.key; nonce = k.gathers.nonce; operation = k.gathers.operation; steps = k.gathers.steps; inputs = k.gathers.inputs; writes = k.gathers.writes; limits = k.gathers.limits; order = k.gathers.order };
     }
@@ -85,22 +89,22 @@ if_false : {X : Type 0} (b : Bool) (x y : X) → b ≡ false → cond b x y ≡ 
 if_false true x y e = absurd cc
 if_false false x y e = refl
 
-begun_line : (n : ℕ) (g : Given) (first : Word) (words : List Word) → is_comment first ≡ false → g.begun ≡ true → line_of n g (first ∷ words) ≡ statement_line n g first words
+begun_line : (n : ℕ) (g : Gathered) (first : TextWord) (words : List TextWord) → is_comment first ≡ false → g.begun ≡ true → line_of n g (first ∷ words) ≡ statement_line n g first words
 unfolding line_of
 begun_line n g first words plain begun =
     if_false (is_comment first) (done g) (cond g.begun (statement_line n g first words) (header_line n g first words)) plain ∙ if_true g.begun (statement_line n g first words) (header_line n g first words) begun
 
-fresh_line : (n : ℕ) (g : Given) (first : Word) (words : List Word) → is_comment first ≡ false → g.begun ≡ false → line_of n g (first ∷ words) ≡ header_line n g first words
+fresh_line : (n : ℕ) (g : Gathered) (first : TextWord) (words : List TextWord) → is_comment first ≡ false → g.begun ≡ false → line_of n g (first ∷ words) ≡ header_line n g first words
 unfolding line_of
 fresh_line n g first words plain fresh =
     if_false (is_comment first) (done g) (cond g.begun (statement_line n g first words) (header_line n g first words)) plain ∙ if_false g.begun (statement_line n g first words) (header_line n g first words) fresh
 
-line_sound : (n : ℕ) (g : Given) (words : List Word) (h : Given) (all : List (List Word)) (c : Case) → line_of n g words ≡ Ok h → Completes h all c → Completes g (words ∷ all) c
+line_sound : (n : ℕ) (g : Gathered) (words : List TextWord) (h : Gathered) (all : List (List TextWord)) (c : Case) → line_of n g words ≡ Ok h → Completes h all c → Completes g (words ∷ all) c
 unfolding line_of
-line_sound n g [] h all c e k = skipped_sound g [] all c refl (subst (λ (z : Given). Completes z all c) (sym (ok_is g h e)) k)
+line_sound n g [] h all c e k = skipped_sound g [] all c refl (subst (λ (z : Gathered). Completes z all c) (sym (ok_is g h e)) k)
 line_sound n g (first ∷ words) h all c e k =
     elim (cases_Bool (is_comment first)) [
-      | inl comment ↦ skipped_sound g (first ∷ words) all c (ap not comment) (subst (λ (z : Given). Completes z all c) (sym (ok_is g h (rw comment at e))) k)
+      | inl comment ↦ skipped_sound g (first ∷ words) all c (ap not comment) (subst (λ (z : Gathered). Completes z all c) (sym (ok_is g h (rw comment at e))) k)
       | inr plain ↦ elim (cases_Bool g.begun) [
         | inl begun ↦ statement_sound g (first ∷ words) h all c (ap not plain) begun (statement_adds n g first words h (sym (begun_line n g first words plain begun) ∙ e)) k
         | inr fresh ↦ header_sound n g first words h all c (ap not plain) fresh (sym (fresh_line n g first words plain fresh) ∙ e) k
@@ -121,15 +125,15 @@ session_parts n (Some k) (Some x) (Some o) s e =
 given_once : {X : Type 0} (fits : X → Bool) (given : Option X) (value : X) → given ≡ Some value → Once fits given [] value
 given_once fits given value e = record { one = rw e refl; fit = tt }
 
-abbrev made : Given → Session → ℕ → Case
+abbrev made : Gathered → Session → ℕ → Case
 made g session steps = record { session = session; steps = steps; inputs = g.inputs; writes = g.writes }
 
-whole_sound : (n : ℕ) (g : Given) (c : Case) → whole n g ≡ Ok c → Completes g [] c
+whole_sound : (n : ℕ) (g : Gathered) (c : Case) → whole n g ≡ Ok c → Completes g [] c
 unfolding whole
 whole_sound n g c e =
-    let a = guard_ok g.begun (Missing n) (λ _. session_of n g.key g.nonce g.operation >>= λ s. ok_or g.steps (Missing n) >>= λ t. Ok (made g s t)) c e in
-    let b = bind_ok (session_of n g.key g.nonce g.operation) (λ s. ok_or g.steps (Missing n) >>= λ t. Ok (made g s t)) c a.1 in
-    let d = bind_ok (ok_or g.steps (Missing n)) (λ t. Ok (made g b.0 t)) c b.2 in
+    let a = guarded_ok g.begun (At n Missing) (λ _. session_of n g.key g.nonce g.operation >>= λ s. ok_or g.steps (At n Missing) >>= λ t. Ok (made g s t)) c e in
+    let b = bind_ok (session_of n g.key g.nonce g.operation) (λ s. ok_or g.steps (At n Missing) >>= λ t. Ok (made g s t)) c a.1 in
+    let d = bind_ok (ok_or g.steps (At n Missing)) (λ t. Ok (made g b.0 t)) c b.2 in
     let p = session_parts n g.key g.nonce g.operation b.0 b.1 in
     subst (λ (z : Case). Completes g [] z) (ok_is (made g b.0 d.0) c d.2) (record {
       lines = [];
@@ -140,7 +144,7 @@ whole_sound n g c e =
         key = given_once key_fits g.key b.0.key p.0;
         nonce = given_once any g.nonce b.0.nonce p.1;
         operation = given_once operation_fits g.operation b.0.op p.2;
-        steps = given_once steps_fit g.steps d.0 (ok_or_ok g.steps (Missing n) d.0 d.1);
+        steps = given_once steps_fit g.steps d.0 (or_ok g.steps (At n Missing) d.0 d.1);
         inputs = append-nil g.inputs;
         writes = append-nil g.writes;
         limits = tt;
@@ -148,7 +152,7 @@ whole_sound n g c e =
       };
     })
 
-sound : (lines : List Word) (n : ℕ) (g : Given) (c : Case) → case_from n g lines ≡ Ok c → Completes g (map words_of lines) c
+sound : (lines : List TextWord) (n : ℕ) (g : Gathered) (c : Case) → case_from n g lines ≡ Ok c → Completes g (map words_of lines) c
 unfolding case_from
 sound [] n g c e = whole_sound n g c e
 sound (line ∷ lines) n g c e =
@@ -157,45 +161,45 @@ sound (line ∷ lines) n g c e =
 
 -- ---- what stands in the text is read
 
-skipped_back : (g : Given) (words : List Word) (all : List (List Word)) (c : Case) → counts words ≡ false → Completes g (words ∷ all) c → Completes g all c
+skipped_back : (g : Gathered) (words : List TextWord) (all : List (List TextWord)) (c : Case) → counts words ≡ false → Completes g (words ∷ all) c → Completes g all c
 skipped_back g words all c skip k = record { lines = k.lines; statements = k.statements; counted = rw skip at k.counted; each = k.each; gathers = k.gathers }
 
 -- the first line's statement, and the others
-record Said (words : List Word) (rest : List (List Word)) (statements : List Statement) : Type 0 where
+record Said (words : List TextWord) (rest : List (List TextWord)) (statements : List Statement) : Type 0 where
   first : Statement
   others : List Statement
   both : statements ≡ first ∷ others
-  says : Says words first
-  each : Say rest others
+  says : SaysStatement words first
+  each : SayStatements rest others
 
-said : (words : List Word) (rest : List (List Word)) (statements : List Statement) → Say (words ∷ rest) statements → Said words rest statements
+said : (words : List TextWord) (rest : List (List TextWord)) (statements : List Statement) → SayStatements (words ∷ rest) statements → Said words rest statements
 said words rest [] each = absurd each
 said words rest (s ∷ ss) each = record { first = s; others = ss; both = refl; says = each.0; each = each.1 }
 
-record Reaches (n : ℕ) (g : Given) (words : List Word) (all : List (List Word)) (c : Case) : Type 0 where
-  after : Given
+record Reaches (n : ℕ) (g : Gathered) (words : List TextWord) (all : List (List TextWord)) (c : Case) : Type 0 where
+  after : Gathered
   taken : line_of n g words ≡ Ok after
   completes : Completes after all c
 
-header_again : (n : ℕ) (g : Given) (first : Word) (words : List Word) → first ∷ words ≡ header → header_line n g first words ≡ Ok (started g)
+header_again : (n : ℕ) (g : Gathered) (first : TextWord) (words : List TextWord) → first ∷ words ≡ header → header_line n g first words ≡ Ok (started g)
 unfolding header_line
 header_again n g first words same =
     let name : first ≡ codes "oat-case" = cc in
     let version : words ≡ codes "1" ∷ [] = cc in
     rw (name, version) refl
 
-kept : (words : List Word) (all : List (List Word)) → counts words ≡ true → filter counts (words ∷ all) ≡ words ∷ filter counts all
+kept : (words : List TextWord) (all : List (List TextWord)) → counts words ≡ true → filter counts (words ∷ all) ≡ words ∷ filter counts all
 kept words all count = if_true (counts words) (words ∷ filter counts all) (filter counts all) count
 
-heading_true : (b : Bool) (lines : List (List Word)) → b ≡ true → heading b lines ≡ lines
+heading_true : (b : Bool) (lines : List (List TextWord)) → b ≡ true → heading b lines ≡ lines
 heading_true true lines e = refl
 heading_true false lines e = absurd cc
 
-heading_false : (b : Bool) (lines : List (List Word)) → b ≡ false → heading b lines ≡ header ∷ lines
+heading_false : (b : Bool) (lines : List (List TextWord)) → b ≡ false → heading b lines ≡ header ∷ lines
 heading_false true lines e = absurd cc
 heading_false false lines e = refl
 
-statement_back : (n : ℕ) (g : Given) (first : Word) (words : List Word) (all : List (List Word)) (c : Case) → is_comment first ≡ false → g.begun ≡ true → Completes g ((first ∷ words) ∷ all) c
+statement_back : (n : ℕ) (g : Gathered) (first : TextWord) (words : List TextWord) (all : List (List TextWord)) (c : Case) → is_comment first ≡ false → g.begun ≡ true → Completes g ((first ∷ words) ∷ all) c
     → Reaches n g (first ∷ words) all c
 statement_back n g first words all c plain begun k =
     let counted : (first ∷ words) ∷ filter counts all ≡ k.lines = sym (kept (first ∷ words) all (ap not plain)) ∙ k.counted ∙ heading_true g.begun k.lines begun in
@@ -208,7 +212,7 @@ statement_back n g first words all c plain begun k =
       completes = record { lines = filter counts all; statements = s.others; counted = rw after refl; each = s.each; gathers = goes.gathers };
     }
 
-header_back : (n : ℕ) (g : Given) (first : Word) (words : List Word) (all : List (List Word)) (c : Case) → is_comment first ≡ false → g.begun ≡ false → Completes g ((first ∷ words) ∷ all) c
+header_back : (n : ℕ) (g : Gathered) (first : TextWord) (words : List TextWord) (all : List (List TextWord)) (c : Case) → is_comment first ≡ false → g.begun ≡ false → Completes g ((first ∷ words) ∷ all) c
     → Reaches n g (first ∷ words) all c
 header_back n g first words all c plain fresh k =
     let counted : (first ∷ words) ∷ filter counts all ≡ header ∷ k.lines = sym (kept (first ∷ words) all (ap not plain)) ∙ k.counted ∙ heading_false g.begun k.lines fresh in
@@ -226,7 +230,7 @@ header_back n g first words all c plain fresh k =
       };
     }
 
-line_back : (n : ℕ) (g : Given) (words : List Word) (all : List (List Word)) (c : Case) → Completes g (words ∷ all) c → Reaches n g words all c
+line_back : (n : ℕ) (g : Gathered) (words : List TextWord) (all : List (List TextWord)) (c : Case) → Completes g (words ∷ all) c → Reaches n g words all c
 unfolding line_of
 line_back n g [] all c k = record { after = g; taken = refl; completes = skipped_back g [] all c refl k }
 line_back n g (first ∷ words) all c k =
@@ -238,17 +242,17 @@ line_back n g (first ∷ words) all c k =
       ]
     ]
 
-none_said : (lines : List (List Word)) (statements : List Statement) → lines ≡ [] → Say lines statements → statements ≡ []
+none_said : (lines : List (List TextWord)) (statements : List Statement) → lines ≡ [] → SayStatements lines statements → statements ≡ []
 none_said [] [] e each = refl
 none_said [] (s ∷ ss) e each = absurd each
 none_said (l ∷ ls) ss e each = absurd cc
 
 -- no line is left: the header came, and no statement follows
-record Ended (g : Given) (c : Case) : Type 0 where
+record Ended (g : Gathered) (c : Case) : Type 0 where
   begun : g.begun ≡ true
   gathers : Gathers g [] c
 
-ended : (g : Given) (c : Case) → Completes g [] c → Ended g c
+ended : (g : Gathered) (c : Case) → Completes g [] c → Ended g c
 ended g c k =
     elim (cases_Bool g.begun) [
       | inl begun ↦
@@ -257,10 +261,10 @@ ended g c k =
       | inr fresh ↦ absurd (no_header k.lines (rw fresh at k.counted))
     ]
   where
-    no_header : (lines : List (List Word)) → [] ≡ header ∷ lines → ⊥
+    no_header : (lines : List (List TextWord)) → [] ≡ header ∷ lines → ⊥
     no_header lines e = cc
 
-whole_back : (n : ℕ) (g : Given) (c : Case) → Ended g c → whole n g ≡ Ok c
+whole_back : (n : ℕ) (g : Gathered) (c : Case) → Ended g c → whole n g ≡ Ok c
 unfolding whole
 whole_back n g c k =
     let key : g.key ≡ Some c.session.key = once_last key_fits g.key c.session.key k.gathers.key in
@@ -271,7 +275,7 @@ whole_back n g c k =
     let writes : g.writes ≡ c.writes = sym (append-nil g.writes) ∙ k.gathers.writes in
     rw (k.begun, key, nonce, operation, steps, inputs, writes) refl
 
-complete : (lines : List Word) (n : ℕ) (g : Given) (c : Case) → Completes g (map words_of lines) c → case_from n g lines ≡ Ok c
+complete : (lines : List TextWord) (n : ℕ) (g : Gathered) (c : Case) → Completes g (map words_of lines) c → case_from n g lines ≡ Ok c
 unfolding case_from
 complete [] n g c k = whole_back n g c (ended g c k)
 complete (line ∷ lines) n g c k =
@@ -290,7 +294,7 @@ once_of fits values value e fit = record { one = e; fit = subst (λ xs. AllByRec
 
 pub stands : (text : List ℕ) (c : Case) → case_of text ≡ Ok c → IsCaseText text c
 stands text c e =
-    let k = sound (lines_of text) 1 nothing c e in
+    let k = sound (lines_of text) 1 nothing_yet c e in
     let g = k.gathers in
     record {
       lines = k.lines;
@@ -314,7 +318,7 @@ stands text c e =
 
 pub is_read : (text : List ℕ) (c : Case) → IsCaseText text c → case_of text ≡ Ok c
 is_read text c t =
-    complete (lines_of text) 1 nothing c (record {
+    complete (lines_of text) 1 nothing_yet c (record {
       lines = t.lines;
       statements = t.statements;
       counted = t.says;
@@ -331,10 +335,10 @@ is_read text c t =
       };
     })
 
-pub is_found : (text : List ℕ) (r : Result Case CaseFault) → Gives Fails (λ read. read) r (case_of text) → IfOk r (IsCaseText text)
+pub is_found : (text : List ℕ) (r : Result Case (Fault CaseFaultKind)) → Gives (λ read. read) r (case_of text) → IfOk r (IsCaseText text)
 is_found text (Ok c) given = stands text c given
 is_found text (Err e) given = tt
 
-pub is_well_formed : (text : List ℕ) (r : Result Case CaseFault) → Gives Fails (λ read. read) r (case_of text) → IfOk r IsWellFormed
+pub is_well_formed : (text : List ℕ) (r : Result Case (Fault CaseFaultKind)) → Gives (λ read. read) r (case_of text) → IfOk r IsWellFormedCase
 is_well_formed text (Ok c) given = (stands text c given).limits
 is_well_formed text (Err e) given = tt

@@ -1,8 +1,8 @@
-pub mod Numbers
-pub mod Loop
-pub mod Steps
-pub mod Statements
-pub mod Completion
+mod Addresses
+mod Loop
+mod OneLine
+mod Statements
+mod Completion
 pub mod Law
-pub mod WritesInLimits
+mod WritesInLimits
 mod WritesMade

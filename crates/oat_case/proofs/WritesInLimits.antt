@@ -4,7 +4,7 @@ use Rattle.std.specs.Prelude.{IsTrue, ◌↔◌}
 use Rattle.std.specs.List.{AllByRecursion}
 use Rattle.std.proofs.lemmas.Bool.{and_parts, and_from}
 use Rattle.oat_mem.specs.DataMemory.{fits}
-use Rattle.oat_case.specs.Limits.{key_fits, operation_fits, steps_fit, write_fits, writes_fit, case_fits, IsInLimits, RisesFrom, IsWellFormed}
+use Rattle.oat_case.specs.Limits.{key_fits, operation_fits, steps_fit, write_fits, writes_fit, case_fits, IsInLimits, RisesFrom, IsWellFormedCase}
 use Rattle.oat_case.specs.declared.case.Write.{Write}
 use Rattle.oat_case.specs.declared.case.Case.{Case}
 
@@ -26,10 +26,10 @@ writes_again least (w ∷ ws) limits order =
     order.0)
     (writes_again w.before ws limits.1 order.1)
 
-pub well_formed_is : (c : Case) (b : Bool) → b ≡ case_fits c → IsTrue b ↔ IsWellFormed c
+pub well_formed_is : (c : Case) (b : Bool) → b ≡ case_fits c → IsTrue b ↔ IsWellFormedCase c
 well_formed_is c b e = (fits, λ w. e ∙ again w)
   where
-    fits : IsTrue b → IsWellFormed c
+    fits : IsTrue b → IsWellFormedCase c
     fits h =
         let p = and_parts (key_fits c.session.key && operation_fits c.session.op && steps_fit c.steps) (writes_fit 0 c.writes) (sym e ∙ h) in
         let q = and_parts (key_fits c.session.key && operation_fits c.session.op) (steps_fit c.steps) p.0 in
@@ -37,7 +37,7 @@ well_formed_is c b e = (fits, λ w. e ∙ again w)
         let w = writes_pass 0 c.writes p.1 in
         record { key = r.0; operation = r.1; steps = q.1; writes = w.0; order = w.1 }
 
-    again : IsWellFormed c → case_fits c ≡ true
+    again : IsWellFormedCase c → case_fits c ≡ true
     again w =
         and_from (key_fits c.session.key && operation_fits c.session.op && steps_fit c.steps) (writes_fit 0 c.writes)
         (and_from (key_fits c.session.key && operation_fits c.session.op) (steps_fit c.steps) (and_from (key_fits c.session.key) (operation_fits c.session.op) w.key w.operation) w.steps)

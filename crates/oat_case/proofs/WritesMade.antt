@@ -8,7 +8,7 @@ use Rattle.std.proofs.lemmas.List.Elements.{All-from_recursion}
 use Rattle.oat_mem.specs.DataMemory.{fits}
 use Rattle.oat_case.specs.declared.case.Write.{Write}
 use Rattle.oat_case.specs.declared.case.Case.{Case}
-use Rattle.oat_case.specs.Limits.{IsInLimits, RisesFrom, IsWellFormed}
+use Rattle.oat_case.specs.Limits.{IsInLimits, RisesFrom, IsWellFormedCase}
 
 abbrev IsInData : Write → Type 0
 IsInData write = IsTrue (fits write.address (length write.bytes))
@@ -32,5 +32,5 @@ never_fall least (w ∷ ws) rises zero (suc j) d le lt = none_below w.before ws 
 never_fall least (w ∷ ws) rises (suc i) zero d le lt = absurd (omega arith)
 never_fall least (w ∷ ws) rises (suc i) (suc j) d le lt = never_fall w.before ws rises.1 i j d (omega arith) (omega arith)
 
-pub can_be_made : (case : Case) → IsWellFormed case → All IsInData case.writes × IsNonDecreasing (places case.writes)
+pub can_be_made : (case : Case) → IsWellFormedCase case → All IsInData case.writes × IsNonDecreasing (places case.writes)
 can_be_made case fit = (All-from_recursion IsInData case.writes (in_data case.writes fit.writes), never_fall 0 case.writes fit.order)

@@ -4,10 +4,10 @@ use Rattle.std.specs.List.{All}
 use Rattle.std.specs.List.Sorted.{IsNonDecreasing}
 use Rattle.oat_mem.specs.DataMemory.{fits}
 use Rattle.oat_case.specs.declared.case.Case.{Case}
-use Rattle.oat_case.specs.Limits.{IsWellFormed}
+use Rattle.oat_case.specs.Limits.{IsWellFormedCase}
 
 -- the writes of a well-formed case can be made: their bytes lie in data memory, and their places never fall
 abbrev pub WritesCanBeMade : Type 0
-WritesCanBeMade = (case : Case) → IsWellFormed case
+WritesCanBeMade = (case : Case) → IsWellFormedCase case
     → All (λ write. IsTrue (fits write.address (length write.bytes))) case.writes
     × IsNonDecreasing (map (λ write. write.before) case.writes)

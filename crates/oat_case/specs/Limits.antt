@@ -1,15 +1,10 @@
 -- The limits of a case, as docs/FORMATS.md has them under "Case text": what its numbers, lengths and writes may be.
-use Rattle.std.specs.Prelude.{◌^◌, ◌&&◌, ℕ, ℤ, pos, negsuc, Bool, true, IsTrue, List, [], ◌∷◌, length, nat_le, nat_lt}
+use Rattle.std.specs.Prelude.{◌&&◌, ℕ, Bool, true, IsTrue, List, [], ◌∷◌, length, nat_le, nat_lt}
 use Rattle.std.specs.List.{AllByRecursion}
 use Rattle.oat_lines.specs.Reading.{between}
 use Rattle.oat_mem.specs.DataMemory.{fits}
 use Rattle.oat_case.specs.declared.case.Write.{Write}
 use Rattle.oat_case.specs.declared.case.Case.{Case}
-
--- a number of 64 bits in two's complement
-abbrev pub is_i64 : ℤ → Bool
-is_i64 (pos n) = nat_lt n (2 ^ 63)
-is_i64 (negsuc n) = nat_lt n (2 ^ 63)
 
 abbrev pub key_fits : List ℕ → Bool
 key_fits key = between 1 1024 (length key)
@@ -39,7 +34,7 @@ writes_fit least (write ∷ writes) =
     write_fits write && fits write.address (length write.bytes) && nat_le least write.before && writes_fit write.before writes
 
 -- what each case has that a text can stand for
-pub record IsWellFormed (case : Case) : Type 0 where
+pub record IsWellFormedCase (case : Case) : Type 0 where
   pub key : IsTrue (key_fits case.session.key)
   pub operation : IsTrue (operation_fits case.session.op)
   pub steps : IsTrue (steps_fit case.steps)

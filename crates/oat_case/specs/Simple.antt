@@ -1,15 +1,12 @@
 -- A case text that says no more than it must, and the case that it stands for: the worked case of docs/FORMATS.md.
-use Rattle.std.specs.Prelude.{ℕ, List, [], ◌∷◌, ◌++◌, codes, replicate}
+use Rattle.std.specs.Prelude.{ℕ, List, [], ◌∷◌, codes, replicate}
 use Rattle.std.specs.List.{flat_map}
+use Rattle.oat_lines.specs.Fields.{ended}
 use Rattle.oat_case.specs.declared.case.Case.{Case}
-
--- lines with their ends
-abbrev pub text_of : List (List ℕ) → List ℕ
-text_of lines = flat_map (λ line. line ++ 10 ∷ []) lines
 
 abbrev pub simple_text : List ℕ
 simple_text =
-    text_of (codes "oat-case 1" ∷ codes "key 0b0b0b0b0b0b0b0b0b0b0b0b0b0b0b0b0b0b0b0b" ∷ codes "nonce 000102030405060708090a0b0c0d0e0f" ∷ codes "operation 1" ∷ codes "steps 100000" ∷ [])
+    flat_map ended (codes "oat-case 1" ∷ codes "key 0b0b0b0b0b0b0b0b0b0b0b0b0b0b0b0b0b0b0b0b" ∷ codes "nonce 000102030405060708090a0b0c0d0e0f" ∷ codes "operation 1" ∷ codes "steps 100000" ∷ [])
 
 abbrev pub simple_case : Case
 simple_case = record {

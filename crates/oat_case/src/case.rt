@@ -39,7 +39,7 @@ pub struct Case {
 }
 
 impl Case {
-    ghost use Rattle.oat_case.specs.Limits.{IsWellFormed, case_fits};
+    ghost use Rattle.oat_case.specs.Limits.{IsWellFormedCase, case_fits};
 
     fn is_in_limits(&self) -> bool
         ensures { result ≡ case_fits self.now }
@@ -52,7 +52,7 @@ impl Case {
 
     /// Whether a text can stand for this case: its numbers, lengths and writes are within the limits.
     pub fn well_formed(&self) -> bool
-        ensures { IsTrue result ↔ IsWellFormed self.now }
+        ensures { IsTrue result ↔ IsWellFormedCase self.now }
     {
         self.is_in_limits()
     }

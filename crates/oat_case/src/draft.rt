@@ -1,11 +1,11 @@
 ghost use Rattle.std.specs.Prelude.{◌≡◌, ◌==◌, [], length, option_map, if◌then◌else◌, Some, None};
-ghost use Rattle.oat_lines.specs.Reading.{Gives};
+ghost use Rattle.oat_lines.specs.Faults.{Gives};
 ghost use Rattle.std.specs.Str.{bytes_eq};
 ghost use Rattle.oat_lines.specs.Lines.{words_of, is_comment};
-ghost use Rattle.oat_case.specs.Reading.{Fails, bytes_at, number_at, key_line, nonce_line, operation_line, steps_line, input_line, write_of, add_write, write_line, statement_line, header_line, line_of, session_of, whole, nothing};
+ghost use Rattle.oat_case.specs.Reading.{bytes_at, numeral_at, key_line, nonce_line, operation_line, steps_line, input_line, write_of, add_write, write_line, statement_line, header_line, line_of, session_of, whole, nothing_yet};
 
 use crate::case::{Case, Key, Session, Write};
-use crate::fault::CaseFault;
+use crate::fault::{CaseFault, CaseFaultKind};
 use crate::limits::{
     is_key_in_range, is_operation, is_step_limit, is_write_in_data, is_write_in_range,
 };
@@ -15,7 +15,7 @@ use oat_lines::{first_word, read_numeral, sole_word, three_words};
 use oat_list::Listed;
 use std::alloc::Global;
 
-/// What the lines so far have given.
+/// What the lines so far have gathered.
 #[derive(Drop)]
 pub struct Draft {
     pub begun: bool,
@@ -31,12 +31,12 @@ pub struct Draft {
 
 /// The bytes of a word of hexadecimal digits, two for each.
 pub fn bytes(alloc: Global, line: u32, word: &[u8]) -> Result<Vec<u8>, CaseFault>
-    ensures { Gives Fails (λ bytes. bytes.items) result (bytes_at line word.now) }
+    ensures { Gives (λ bytes. bytes.items) result (bytes_at line word.now) }
 {
     match hex::decode(alloc, word) {
         Ok(bytes) => Ok(bytes),
         Err(FromHexError::OutOfMemory) => Err(CaseFault::Memory),
-        Err(_) => Err(CaseFault::Token(line)),
+        Err(_) => Err(CaseFault::At(line, CaseFaultKind::Token)),
     }
 }
 
@@ -52,9 +52,9 @@ fn nonce_of(bytes: &[u8]) -> Option<[u8; 16]>
 
 /// A decimal number, and `u64::MAX` in place of any above it.
 fn number(line: u32, word: &[u8]) -> Result<u64, CaseFault>
-    ensures { result ≡ number_at line word.now }
+    ensures { result ≡ numeral_at line word.now }
 {
-    read_numeral(word).ok_or(CaseFault::Token(line))
+    read_numeral(word).ok_or(CaseFault::At(line, CaseFaultKind::Token))
 }
 
 fn is_word(word: &[u8], wanted: &[u8]) -> bool
@@ -77,10 +77,10 @@ fn write_from(
     place: &[u8],
     digits: &[u8],
 ) -> Result<Write, CaseFault>
-    ensures { Gives Fails (λ write. write) result (write_of line (before.now, place.now, digits.now)) }
+    ensures { Gives (λ write. write) result (write_of line (before.now, place.now, digits.now)) }
 {
     let before = number(line, before)?;
-    let address = address(place).ok_or(CaseFault::Token(line))?;
+    let address = address(place).ok_or(CaseFault::At(line, CaseFaultKind::Token))?;
     let bytes = bytes(alloc, line, digits)?;
     Ok(Write {
         before,
@@ -97,26 +97,26 @@ fn session_from(
 ) -> Result<Session, CaseFault>
     ensures { result ≡ session_of line key nonce operation }
 {
-    let key = key.ok_or(CaseFault::Missing(line))?;
-    let nonce = nonce.ok_or(CaseFault::Missing(line))?;
-    let op = operation.ok_or(CaseFault::Missing(line))?;
+    let key = key.ok_or(CaseFault::At(line, CaseFaultKind::Missing))?;
+    let nonce = nonce.ok_or(CaseFault::At(line, CaseFaultKind::Missing))?;
+    let op = operation.ok_or(CaseFault::At(line, CaseFaultKind::Missing))?;
     Ok(Session { key, nonce, op })
 }
 
 impl Draft {
-    ghost use Rattle.oat_case.specs.Draft.{given};
+    ghost use Rattle.oat_case.specs.Draft.{gathered};
 
     #[tactic(auto, unfolding(crate::specs::Reading::key_line))]
     pub fn take_key(&mut self, alloc: Global, line: u32, words: &[u8]) -> Result<(), CaseFault>
-        ensures { Gives Fails (λ _. given self.new) result (key_line line (given self.old) (words_of words.now)) }
+        ensures { Gives (λ _. gathered self.new) result (key_line line (gathered self.old) (words_of words.now)) }
     {
-        let word = sole_word(words).ok_or(CaseFault::Token(line))?;
+        let word = sole_word(words).ok_or(CaseFault::At(line, CaseFaultKind::Token))?;
         let key = bytes(alloc, line, word)?;
         if self.key.is_some() {
-            return Err(CaseFault::Twice(line));
+            return Err(CaseFault::At(line, CaseFaultKind::Twice));
         }
         if !is_key_in_range(&key) {
-            return Err(CaseFault::Range(line));
+            return Err(CaseFault::At(line, CaseFaultKind::Range));
         }
         self.key = Some(Listed::from_vec(key));
         Ok(())
@@ -124,29 +124,29 @@ impl Draft {
 
     #[tactic(auto, unfolding(crate::specs::Reading::nonce_line))]
     pub fn take_nonce(&mut self, alloc: Global, line: u32, words: &[u8]) -> Result<(), CaseFault>
-        ensures { Gives Fails (λ _. given self.new) result (nonce_line line (given self.old) (words_of words.now)) }
+        ensures { Gives (λ _. gathered self.new) result (nonce_line line (gathered self.old) (words_of words.now)) }
     {
-        let word = sole_word(words).ok_or(CaseFault::Token(line))?;
+        let word = sole_word(words).ok_or(CaseFault::At(line, CaseFaultKind::Token))?;
         let bytes = bytes(alloc, line, word)?;
         if self.nonce.is_some() {
-            return Err(CaseFault::Twice(line));
+            return Err(CaseFault::At(line, CaseFaultKind::Twice));
         }
-        let nonce = nonce_of(&bytes).ok_or(CaseFault::Range(line))?;
+        let nonce = nonce_of(&bytes).ok_or(CaseFault::At(line, CaseFaultKind::Range))?;
         self.nonce = Some(nonce);
         Ok(())
     }
 
     #[tactic(auto, unfolding(crate::specs::Reading::operation_line))]
     pub fn take_operation(&mut self, line: u32, words: &[u8]) -> Result<(), CaseFault>
-        ensures { Gives Fails (λ _. given self.new) result (operation_line line (given self.old) (words_of words.now)) }
+        ensures { Gives (λ _. gathered self.new) result (operation_line line (gathered self.old) (words_of words.now)) }
     {
-        let word = sole_word(words).ok_or(CaseFault::Token(line))?;
+        let word = sole_word(words).ok_or(CaseFault::At(line, CaseFaultKind::Token))?;
         let id = number(line, word)?;
         if self.operation.is_some() {
-            return Err(CaseFault::Twice(line));
+            return Err(CaseFault::At(line, CaseFaultKind::Twice));
         }
         if !is_operation(id) {
-            return Err(CaseFault::Range(line));
+            return Err(CaseFault::At(line, CaseFaultKind::Range));
         }
         self.operation = Some(id as u16);
         Ok(())
@@ -154,15 +154,15 @@ impl Draft {
 
     #[tactic(auto, unfolding(crate::specs::Reading::steps_line))]
     pub fn take_steps(&mut self, line: u32, words: &[u8]) -> Result<(), CaseFault>
-        ensures { Gives Fails (λ _. given self.new) result (steps_line line (given self.old) (words_of words.now)) }
+        ensures { Gives (λ _. gathered self.new) result (steps_line line (gathered self.old) (words_of words.now)) }
     {
-        let word = sole_word(words).ok_or(CaseFault::Token(line))?;
+        let word = sole_word(words).ok_or(CaseFault::At(line, CaseFaultKind::Token))?;
         let steps = number(line, word)?;
         if self.steps.is_some() {
-            return Err(CaseFault::Twice(line));
+            return Err(CaseFault::At(line, CaseFaultKind::Twice));
         }
         if !is_step_limit(steps) {
-            return Err(CaseFault::Range(line));
+            return Err(CaseFault::At(line, CaseFaultKind::Range));
         }
         self.steps = Some(steps);
         Ok(())
@@ -170,9 +170,9 @@ impl Draft {
 
     #[tactic(auto, unfolding(crate::specs::Reading::input_line))]
     pub fn take_input(&mut self, line: u32, words: &[u8]) -> Result<(), CaseFault>
-        ensures { Gives Fails (λ _. given self.new) result (input_line line (given self.old) (words_of words.now)) }
+        ensures { Gives (λ _. gathered self.new) result (input_line line (gathered self.old) (words_of words.now)) }
     {
-        let word = sole_word(words).ok_or(CaseFault::Token(line))?;
+        let word = sole_word(words).ok_or(CaseFault::At(line, CaseFaultKind::Token))?;
         let input = integer(line, word)?;
         self.inputs.push(input)?;
         Ok(())
@@ -180,16 +180,16 @@ impl Draft {
 
     #[tactic(auto, unfolding(crate::specs::Reading::add_write))]
     fn add_write(&mut self, line: u32, write: Write) -> Result<(), CaseFault>
-        ensures { Gives Fails (λ _. given self.new) result (add_write line (given self.old) write) }
+        ensures { Gives (λ _. gathered self.new) result (add_write line (gathered self.old) write) }
     {
         if !is_write_in_range(&write) {
-            return Err(CaseFault::Range(line));
+            return Err(CaseFault::At(line, CaseFaultKind::Range));
         }
         if !is_write_in_data(&write) {
-            return Err(CaseFault::OutsideData(line));
+            return Err(CaseFault::At(line, CaseFaultKind::OutsideData));
         }
         if write.before < self.least {
-            return Err(CaseFault::Order(line));
+            return Err(CaseFault::At(line, CaseFaultKind::Order));
         }
         let before = write.before;
         self.writes.push(write)?;
@@ -199,9 +199,12 @@ impl Draft {
 
     #[tactic(auto, unfolding(crate::specs::Reading::write_line))]
     fn take_write(&mut self, alloc: Global, line: u32, words: &[u8]) -> Result<(), CaseFault>
-        ensures { Gives Fails (λ _. given self.new) result (write_line line (given self.old) (words_of words.now)) }
+        ensures { Gives (λ _. gathered self.new) result (write_line line (gathered self.old) (words_of words.now)) }
     {
-        let (before, place, digits) = three_words(words).ok_or(CaseFault::Token(line))?;
+        let (before, place, digits) = three_words(words).ok_or(CaseFault::At(
+            line,
+            CaseFaultKind::Token,
+        ))?;
         let write = write_from(alloc, line, before, place, digits)?;
         self.add_write(line, write)
     }
@@ -214,7 +217,7 @@ impl Draft {
         keyword: &[u8],
         words: &[u8],
     ) -> Result<(), CaseFault>
-        ensures { Gives Fails (λ _. given self.new) result (statement_line line (given self.old) keyword.now (words_of words.now)) }
+        ensures { Gives (λ _. gathered self.new) result (statement_line line (gathered self.old) keyword.now (words_of words.now)) }
     {
         if is_word(keyword, b"key") {
             self.take_key(alloc, line, words)
@@ -229,17 +232,17 @@ impl Draft {
         } else if is_word(keyword, b"write") {
             self.take_write(alloc, line, words)
         } else {
-            Err(CaseFault::Token(line))
+            Err(CaseFault::At(line, CaseFaultKind::Token))
         }
     }
 
     #[tactic(auto, unfolding(crate::specs::Reading::header_line))]
     fn take_header(&mut self, line: u32, first: &[u8], words: &[u8]) -> Result<(), CaseFault>
-        ensures { Gives Fails (λ _. given self.new) result (header_line line (given self.old) first.now (words_of words.now)) }
+        ensures { Gives (λ _. gathered self.new) result (header_line line (gathered self.old) first.now (words_of words.now)) }
     {
-        let version = sole_word(words).ok_or(CaseFault::Token(line))?;
+        let version = sole_word(words).ok_or(CaseFault::At(line, CaseFaultKind::Token))?;
         if !is_word(first, b"oat-case") || !is_word(version, b"1") {
-            return Err(CaseFault::Token(line));
+            return Err(CaseFault::At(line, CaseFaultKind::Token));
         }
         self.begun = true;
         Ok(())
@@ -248,7 +251,7 @@ impl Draft {
     /// Takes what a line says, or skips it.
     #[tactic(auto, unfolding(crate::specs::Reading::line_of))]
     pub fn take_line(&mut self, alloc: Global, number: u32, line: &[u8]) -> Result<(), CaseFault>
-        ensures { Gives Fails (λ _. given self.new) result (line_of number (given self.old) (words_of line.now)) }
+        ensures { Gives (λ _. gathered self.new) result (line_of number (gathered self.old) (words_of line.now)) }
     {
         match first_word(line) {
             None => Ok(()),
@@ -267,13 +270,15 @@ impl Draft {
     /// The case, where nothing is wanting.
     #[tactic(auto, unfolding(crate::specs::Reading::whole))]
     pub fn finish(self, line: u32) -> Result<Case, CaseFault>
-        ensures { result ≡ whole line (given self) }
+        ensures { result ≡ whole line (gathered self) }
     {
         if !self.begun {
-            return Err(CaseFault::Missing(line));
+            return Err(CaseFault::At(line, CaseFaultKind::Missing));
         }
         let session = session_from(line, self.key, self.nonce, self.operation)?;
-        let steps = self.steps.ok_or(CaseFault::Missing(line))?;
+        let steps = self
+            .steps
+            .ok_or(CaseFault::At(line, CaseFaultKind::Missing))?;
         Ok(Case {
             session,
             steps,
@@ -283,7 +288,7 @@ impl Draft {
     }
 
     pub fn new(alloc: Global) -> Self
-        ensures { given result ≡ nothing }
+        ensures { gathered result ≡ nothing_yet }
     {
         Draft {
             begun: false,

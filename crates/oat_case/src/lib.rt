@@ -10,7 +10,7 @@ mod number;
 mod reading;
 
 pub use case::{Bytes, Case, Key, Session, Write};
-pub use fault::CaseFault;
+pub use fault::{CaseFault, CaseFaultKind};
 pub use reading::read_case;
 
 #[cfg(test)]

@@ -1,8 +1,8 @@
 ghost use Rattle.std.specs.Prelude.{◌≡◌, ◌≤◌, length, IfOk, Ok};
-ghost use Rattle.oat_lines.specs.Reading.{Gives};
-ghost use Rattle.oat_case.specs.Limits.{IsWellFormed};
+ghost use Rattle.oat_lines.specs.Faults.{Gives};
+ghost use Rattle.oat_case.specs.Limits.{IsWellFormedCase};
 ghost use Rattle.oat_case.specs.Grammar.{IsCaseText};
-ghost use Rattle.oat_case.specs.Reading.{Fails, case_of};
+ghost use Rattle.oat_case.specs.Reading.{case_of};
 
 use crate::case::Case;
 use crate::draft::Draft;
@@ -12,7 +12,7 @@ use std::alloc::Global;
 
 fn case_in(alloc: Global, text: &[u8]) -> Result<Case, CaseFault>
     requires { length text.now ≤ 4194304 }
-    ensures { Gives Fails (λ read. read) result (case_of text.now) }
+    ensures { Gives (λ read. read) result (case_of text.now) }
 {
     let mut draft = Draft::new(alloc);
     let mut number: u32 = 1;
@@ -32,10 +32,10 @@ pub fn read_case(alloc: Global, text: &[u8]) -> Result<Case, CaseFault>
     // What is read is what the text stands for.
     ensures found { IfOk result (IsCaseText text.now) }
     // What the text stands for is read, unless memory runs out.
-    ensures only { (c : Case) → IsCaseText text.now c → Gives Fails (λ read. read) result (Ok c) }
+    ensures only { (c : Case) → IsCaseText text.now c → Gives (λ read. read) result (Ok c) }
     // Which fault it is.
-    ensures exact { Gives Fails (λ read. read) result (case_of text.now) }
-    ensures well_formed { IfOk result IsWellFormed }
+    ensures exact { Gives (λ read. read) result (case_of text.now) }
+    ensures well_formed { IfOk result IsWellFormedCase }
 {
     case_in(alloc, text)
 }

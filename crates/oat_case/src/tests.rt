@@ -29,48 +29,57 @@ fn bad_texts_are_refused(rt: HostRuntime) {
     let table = [
         (
             b"oat-case 1\nnonce 000102030405060708090a0b0c0d0e0f\noperation 2\nsteps 100000\n".as_slice(),
-            CaseFault::Missing(5),
+            CaseFault::At(5, CaseFaultKind::Missing),
         ),
-        (b"".as_slice(), CaseFault::Missing(1)),
+        (b"".as_slice(), CaseFault::At(1, CaseFaultKind::Missing)),
         (
             b"oat-case 1\nnonce 000102030405060708090a0b0c0d0e0f\nnonce 000102030405060708090a0b0c0d0e0f\n".as_slice(),
-            CaseFault::Twice(3),
+            CaseFault::At(3, CaseFaultKind::Twice),
         ),
         (
             b"oat-case 1\nsteps 4194305\n".as_slice(),
-            CaseFault::Range(2),
+            CaseFault::At(2, CaseFaultKind::Range),
         ),
         (
             b"oat-case 1\nsteps 999999999999999999999999\n".as_slice(),
-            CaseFault::Range(2),
+            CaseFault::At(2, CaseFaultKind::Range),
         ),
         (
             b"oat-case 1\ninput 9223372036854775808\n".as_slice(),
-            CaseFault::Range(2),
+            CaseFault::At(2, CaseFaultKind::Range),
         ),
         (
             b"oat-case 1\nwrite 20 40000000 00\nwrite 15 40000000 00\n".as_slice(),
-            CaseFault::Order(3),
+            CaseFault::At(3, CaseFaultKind::Order),
         ),
         (
             b"oat-case 1\nwrite 0 40080000 00\n".as_slice(),
-            CaseFault::OutsideData(2),
+            CaseFault::At(2, CaseFaultKind::OutsideData),
         ),
         (
             b"oat-case 1\nwrite 0 00000000040000000 00\n".as_slice(),
-            CaseFault::Token(2),
+            CaseFault::At(2, CaseFaultKind::Token),
         ),
         (
             b"; comment\n\noat-case 1\r\n \t;\xff\nkey 0\n".as_slice(),
-            CaseFault::Token(5),
+            CaseFault::At(5, CaseFaultKind::Token),
         ),
         (
             b"oat-case 1\noperation +1\n".as_slice(),
-            CaseFault::Token(2),
+            CaseFault::At(2, CaseFaultKind::Token),
         ),
-        (b"oat-case 1\nsteps -1\n".as_slice(), CaseFault::Token(2)),
-        (b"oat-case 1\noat-case 1\n".as_slice(), CaseFault::Token(2)),
-        (b"oat-case 1\r".as_slice(), CaseFault::Token(1)),
+        (
+            b"oat-case 1\nsteps -1\n".as_slice(),
+            CaseFault::At(2, CaseFaultKind::Token),
+        ),
+        (
+            b"oat-case 1\noat-case 1\n".as_slice(),
+            CaseFault::At(2, CaseFaultKind::Token),
+        ),
+        (
+            b"oat-case 1\r".as_slice(),
+            CaseFault::At(1, CaseFaultKind::Token),
+        ),
     ];
     for (text, fault) in table {
         assert!(rt; text.len() <= 4_194_304);
@@ -119,7 +128,7 @@ fn cases_out_of_their_limits_are_not_well_formed(rt: HostRuntime) -> Result<(), 
 
 #[test]
 fn faults_are_written_as_line_and_kind(rt: HostRuntime) -> Result<(), Fail> {
-    let fault = CaseFault::OutsideData(12);
+    let fault = CaseFault::At(12, CaseFaultKind::OutsideData);
     let text = format!(in rt.alloc(); "{fault}")?;
     assert_eq!(rt; text.as_bytes(), b"12 OutsideData".as_slice());
     Ok(())

@@ -4,7 +4,7 @@ use Rattle.std.specs.Prelude.{codes}
 use Rattle.std.specs.Fmt.{digits}
 use Rattle.oat_lines.specs.Hexadecimal.{hexadecimal}
 use Rattle.oat_map.specs.Name.{IsName}
-use Rattle.oat_image.specs.Grammar.{image_text, IsWellFormed, IsImageText}
+use Rattle.oat_image.specs.Grammar.{image_text, IsWellFormedImage, IsImageText}
 use Rattle.oat_image.specs.Worked.{one_jump, one_jump_text}
 use Rattle.oat_image.proofs.Names.{name_from_test}
 
@@ -18,7 +18,7 @@ main_name = name_from_test (codes "main") refl
 b_name : IsName (codes "b")
 b_name = name_from_test (codes "b") refl
 
-well_formed : IsWellFormed one_jump
+well_formed : IsWellFormedImage one_jump
 well_formed = record {
   code = record { each = (lit< tt, (lit< tt, (lit< tt, (lit< tt, (lit< tt, (lit< tt, tt)))))); enough = lit≤ tt; limited = lit≤ tt };
   words = record { each = tt; enough = lit≤ tt; limited = lit≤ tt };

@@ -14,18 +14,19 @@ use Rattle.oat_map.specs.Name.{IsName}
 use Rattle.oat_map.specs.declared.map.Function.{Function}
 use Rattle.oat_map.specs.declared.map.Block.{Block}
 use Rattle.oat_image.specs.declared.image.InitWord.{InitWord}
-use Rattle.oat_image.specs.declared.fault.LineFault.TheVariants.{Token, Number}
+use Rattle.oat_image.specs.declared.fault.ImageFaultKind.TheVariants.{Token, Number}
 use Rattle.oat_image.specs.Grammar.{code_line, data_line, cell_line, function_line, block_line, flag_text, IsWord, IsIndex, IsInitWord, IsFunction, IsBlock}
-use Rattle.oat_image.specs.ImageReading.{address_of, number_in, value_of, flag_of, is_name, name_of, code_of, data_of, cell_of, function_with, function_of, block_of}
+use Rattle.oat_image.specs.ImageReading.{eight_digits, number_in, value_of, flag_of, is_name, name_in, code_of, data_of, cell_of, function_with, function_of, block_of}
 use Rattle.oat_image.proofs.Names.{name_from_test, test_from_name, name_field}
-use Rattle.oat_image.proofs.Sections.{IsForm, bind_ok, ok_is, or_ok, guard_ok, between_takes, between_again, decimal_field, hexadecimal_field}
+use Rattle.oat_lines.proofs.Steps.{bind_ok, ok_is, or_ok, guard_ok}
+use Rattle.oat_image.proofs.Sections.{IsForm, between_takes, between_again, decimal_field, hexadecimal_field}
 
 -- ---- words
 
-pub address_takes : (word : List ℕ) (n : ℕ) → address_of word ≡ Ok n → (word ≡ hexadecimal 8 n) × (n < 2 ^ 32)
+pub address_takes : (word : List ℕ) (n : ℕ) → eight_digits word ≡ Ok n → (word ≡ hexadecimal 8 n) × (n < 2 ^ 32)
 address_takes word n e = hexadecimal_takes 8 n word (or_ok (hexadecimal_of 8 word) Number n e)
 
-pub address_again : (n : ℕ) → n < 2 ^ 32 → address_of (hexadecimal 8 n) ≡ Ok n
+pub address_again : (n : ℕ) → n < 2 ^ 32 → eight_digits (hexadecimal 8 n) ≡ Ok n
 address_again n lt = rw (hexadecimal_again 8 n lt) refl
 
 pub address_field : (n : ℕ) → IsField (hexadecimal 8 n)
@@ -80,12 +81,12 @@ name_test : (t : Bool) (word name : List ℕ) → (if t then Ok word else Err To
 name_test true word name e = (refl, ok_is word name e)
 name_test false word name e = absurd cc
 
-name_takes : (word name : List ℕ) → name_of word ≡ Ok name → (word ≡ name) × IsName name
+name_takes : (word name : List ℕ) → name_in word ≡ Ok name → (word ≡ name) × IsName name
 name_takes word name e =
     let t = name_test (is_name word) word name e in
     (t.1, subst (λ (n : List ℕ). IsName n) t.1 (name_from_test word t.0))
 
-name_again : (name : List ℕ) → IsName name → name_of name ≡ Ok name
+name_again : (name : List ℕ) → IsName name → name_in name ≡ Ok name
 name_again name is = rw (test_from_name name is) refl
 
 -- ---- lines
@@ -93,7 +94,7 @@ name_again name is = rw (test_from_name name is) refl
 code_takes : (line : List ℕ) (x : ℕ) → code_of line ≡ Ok x → (line ≡ code_line x) × IsWord x
 unfolding code_of
 code_takes line x e =
-    let a = bind_ok (ok_or (one_field line) Token) (λ word. address_of word) x e in
+    let a = bind_ok (ok_or (one_field line) Token) (λ word. eight_digits word) x e in
     let n = address_takes a.0 x a.2 in
     (one_takes line a.0 (or_ok (one_field line) Token a.0 a.1) ∙ n.0, n.1)
 
@@ -152,7 +153,7 @@ with_takes : (name entry params flag : List ℕ) (x : Function) → function_wit
     → (entry ≡ hexadecimal 8 x.entry) × (params ≡ decimal x.params) × (flag ≡ flag_text x.referenced) × (name ≡ x.name) × (x.entry < 2 ^ 32) × (x.params ≤ 4)
 unfolding function_with
 with_takes name entry params flag x e =
-    let a = bind_ok (address_of entry) (λ m. number_in 0 4 params >>= λ p. flag_of flag >>= λ r. Ok (record { entry = m; name = name; params = p; referenced = r })) x e in
+    let a = bind_ok (eight_digits entry) (λ m. number_in 0 4 params >>= λ p. flag_of flag >>= λ r. Ok (record { entry = m; name = name; params = p; referenced = r })) x e in
     let b = bind_ok (number_in 0 4 params) (λ p. flag_of flag >>= λ r. Ok (record { entry = a.0; name = name; params = p; referenced = r })) x a.2 in
     let d = bind_ok (flag_of flag) (λ r. Ok (record { entry = a.0; name = name; params = b.0; referenced = r })) x b.2 in
     let address = address_takes entry a.0 a.1 in
@@ -168,8 +169,8 @@ with_again x fits = rw (address_again x.entry fits.entry, number_again 0 4 x.par
 function_takes : (line : List ℕ) (x : Function) → function_of line ≡ Ok x → (line ≡ function_line x) × IsFunction x
 unfolding function_of
 function_takes line x e =
-    let a = bind_ok (ok_or (four_fields line) Token) (λ words. name_of words.1 >>= λ name. function_with name words.0 words.2 words.3) x e in
-    let b = bind_ok (name_of a.0.1) (λ name. function_with name a.0.0 a.0.2 a.0.3) x a.2 in
+    let a = bind_ok (ok_or (four_fields line) Token) (λ words. name_in words.1 >>= λ name. function_with name words.0 words.2 words.3) x e in
+    let b = bind_ok (name_in a.0.1) (λ name. function_with name a.0.0 a.0.2 a.0.3) x a.2 in
     let name = name_takes a.0.1 b.0 b.1 in
     let rest = with_takes b.0 a.0.0 a.0.2 a.0.3 x b.2 in
     let parts : line ≡ spaced (a.0.0 ∷ a.0.1 ∷ a.0.2 ∷ a.0.3 ∷ []) = four_take line a.0 (or_ok (four_fields line) Token a.0 a.1) in (
@@ -201,9 +202,9 @@ function_form = record {
 block_takes : (line : List ℕ) (x : Block) → block_of line ≡ Ok x → (line ≡ block_line x) × IsBlock x
 unfolding block_of
 block_takes line x e =
-    let a = bind_ok (ok_or (two_fields line) Token) (λ words. name_of words.1 >>= λ label. address_of words.0 >>= λ start. Ok (record { start = start; label = label })) x e in
-    let b = bind_ok (name_of a.0.1) (λ label. address_of a.0.0 >>= λ start. Ok (record { start = start; label = label })) x a.2 in
-    let d = bind_ok (address_of a.0.0) (λ start. Ok (record { start = start; label = b.0 })) x b.2 in
+    let a = bind_ok (ok_or (two_fields line) Token) (λ words. name_in words.1 >>= λ label. eight_digits words.0 >>= λ start. Ok (record { start = start; label = label })) x e in
+    let b = bind_ok (name_in a.0.1) (λ label. eight_digits a.0.0 >>= λ start. Ok (record { start = start; label = label })) x a.2 in
+    let d = bind_ok (eight_digits a.0.0) (λ start. Ok (record { start = start; label = b.0 })) x b.2 in
     let label = name_takes a.0.1 b.0 b.1 in
     let start = address_takes a.0.0 d.0 d.1 in
     let parts : line ≡ spaced (hexadecimal 8 d.0 ∷ b.0 ∷ []) =

@@ -5,7 +5,9 @@ use Rattle.std.specs.List.{list_all}
 use Rattle.std.specs.List.Sorted.{IsStrictlyIncreasing}
 use Rattle.std.proofs.lemmas.Bool.{eqb-true}
 use Rattle.std.proofs.lemmas.List.{append-nil, nil_from_length}
-use Rattle.oat_lines.specs.Reading.{◌>>=◌, at, guard}
+use Rattle.oat_lines.specs.declared.fault.Fault.{Fault}
+use Rattle.oat_lines.specs.Faults.{at, Gives}
+use Rattle.oat_lines.specs.Reading.{◌>>=◌, guard}
 use Rattle.oat_lines.specs.Fields.{ended, is_visible, IsField}
 use Rattle.oat_map.specs.declared.map.Map.{Map}
 use Rattle.oat_map.specs.declared.map.Function.{Function}
@@ -13,13 +15,14 @@ use Rattle.oat_map.specs.declared.map.Block.{Block}
 use Rattle.oat_map.specs.declared.row.Row.{Row}
 use Rattle.oat_image.specs.declared.image.Image.{Image}
 use Rattle.oat_image.specs.declared.image.InitWord.{InitWord}
-use Rattle.oat_image.specs.declared.fault.ImageFault.{ImageFault}
-use Rattle.oat_image.specs.declared.fault.LineFault.TheVariants.{Token}
+use Rattle.oat_image.specs.declared.fault.ImageFaultKind.{ImageFaultKind}
+use Rattle.oat_image.specs.declared.fault.ImageFaultKind.TheVariants.{Token}
 use Rattle.oat_image.specs.Spelling.{section_text}
-use Rattle.oat_image.specs.Grammar.{code_line, data_line, cell_line, function_line, block_line, row_line, image_text, IsWord, IsInitWord, IsIndex, IsFunction, IsBlock, IsRow, IsSection, IsWellFormed, IsImageText}
-use Rattle.oat_image.specs.Reading.{Place, Answers, placed, section_at, fixed_at}
+use Rattle.oat_image.specs.Grammar.{code_line, data_line, cell_line, function_line, block_line, row_line, image_text, IsWord, IsInitWord, IsIndex, IsFunction, IsBlock, IsRow, IsSection, IsWellFormedImage, IsImageText}
+use Rattle.oat_image.specs.Reading.{Remainder, section_at, fixed_at}
 use Rattle.oat_image.specs.ImageReading.{code_of, data_of, cell_of, function_of, block_of, row_of, no_key, index_key, cell_key, entry_key, start_key, memory_at, map_at, ending_at, parts_at, image_at}
-use Rattle.oat_image.proofs.Sections.{bind_ok, ok_is, at_ok, guard_ok, section_takes, section_again, fixed_takes, fixed_again, rising_unkeyed, strict_from_rising, rising_from_strict}
+use Rattle.oat_lines.proofs.Steps.{bind_ok, ok_is, at_ok, guard_ok}
+use Rattle.oat_image.proofs.Sections.{section_takes, section_again, fixed_takes, fixed_again, rising_unkeyed, strict_from_rising, rising_from_strict}
 use Rattle.oat_image.proofs.Forms.{code_form, data_form, cell_form, function_form, block_form}
 use Rattle.oat_image.proofs.RowForms.{row_form}
 
@@ -54,7 +57,7 @@ same_cells cells h = subst (λ (xs : List ℕ). IsStrictlyIncreasing xs) (map_id
 
 -- ---- code, data and cells
 
-record IsMemory (t : Place) (code : List ℕ) (words : List InitWord) (cells : List ℕ) (p : Place) : Type 0 where
+record IsMemory (t : Remainder) (code : List ℕ) (words : List InitWord) (cells : List ℕ) (p : Remainder) : Type 0 where
   parts : t.rest ≡ code_text code ++ (data_text words ++ (cells_text cells ++ p.rest))
   code_fits : IsSection IsWord 1 131072 code
   words_fit : IsSection IsInitWord 0 65536 words
@@ -62,7 +65,7 @@ record IsMemory (t : Place) (code : List ℕ) (words : List InitWord) (cells : L
   cells_fit : IsSection IsIndex 0 65536 cells
   cells_rise : IsStrictlyIncreasing (map (λ c. c) cells)
 
-memory_takes : (t : Place) (m : List ℕ × List InitWord × List ℕ × Place) → memory_at t ≡ Ok m → IsMemory t m.0 m.1 m.2 m.3
+memory_takes : (t : Remainder) (m : List ℕ × List InitWord × List ℕ × Remainder) → memory_at t ≡ Ok m → IsMemory t m.0 m.1 m.2 m.3
 unfolding memory_at
 memory_takes t m e =
     let a = bind_ok (section_at (codes "code") 1 131072 code_of no_key t) (λ code. section_at (codes "data") 0 65536 data_of index_key code.1 >>= λ words. section_at (codes "cells") 0 65536 cell_of cell_key words.1 >>= λ cells. Ok (code.0, words.0, cells.0, cells.1)) m e in
@@ -71,8 +74,8 @@ memory_takes t m e =
     let code = section_takes code_form no_key (codes "code") 1 131072 (omega arith) t a.0 a.1 in
     let words = section_takes data_form index_key (codes "data") 0 65536 (omega arith) a.0.1 b.0 b.1 in
     let cells = section_takes cell_form cell_key (codes "cells") 0 65536 (omega arith) b.0.1 d.0 d.1 in
-    let made : List ℕ × List InitWord × List ℕ × Place = (a.0.0, b.0.0, d.0.0, d.0.1) in
-    subst (λ (q : List ℕ × List InitWord × List ℕ × Place). IsMemory t q.0 q.1 q.2 q.3) (ok_is made m d.2)
+    let made : List ℕ × List InitWord × List ℕ × Remainder = (a.0.0, b.0.0, d.0.0, d.0.1) in
+    subst (λ (q : List ℕ × List InitWord × List ℕ × Remainder). IsMemory t q.0 q.1 q.2 q.3) (ok_is made m d.2)
     (record {
       parts = code.0 ∙ ap (λ (r : List ℕ). code_text a.0.0 ++ r) words.0 ∙ ap (λ (r : List ℕ). code_text a.0.0 ++ (data_text b.0.0 ++ r)) cells.0;
       code_fits = code.1;
@@ -84,7 +87,7 @@ memory_takes t m e =
 
 -- ---- the map
 
-record IsFlow (t : Place) (flow : Map) (p : Place) : Type 0 where
+record IsFlow (t : Remainder) (flow : Map) (p : Remainder) : Type 0 where
   parts : t.rest ≡ functions_text flow.functions ++ (blocks_text flow.blocks ++ (rows_text flow.rows ++ p.rest))
   functions_fit : IsSection IsFunction 0 131072 flow.functions
   functions_rise : IsStrictlyIncreasing (map (λ f. f.entry) flow.functions)
@@ -92,7 +95,7 @@ record IsFlow (t : Place) (flow : Map) (p : Place) : Type 0 where
   blocks_rise : IsStrictlyIncreasing (map (λ b. b.start) flow.blocks)
   rows_fit : IsSection IsRow 0 131072 flow.rows
 
-map_takes : (t : Place) (m : Map × Place) → map_at t ≡ Ok m → IsFlow t m.0 m.1
+map_takes : (t : Remainder) (m : Map × Remainder) → map_at t ≡ Ok m → IsFlow t m.0 m.1
 unfolding map_at
 map_takes t m e =
     let a = bind_ok (section_at (codes "functions") 0 131072 function_of entry_key t) (λ functions. section_at (codes "blocks") 0 131072 block_of start_key functions.1 >>= λ blocks. section_at (codes "rows") 0 131072 row_of no_key blocks.1 >>= λ rows. Ok (record { functions = functions.0; blocks = blocks.0; rows = rows.0 }, rows.1)) m e in
@@ -101,8 +104,8 @@ map_takes t m e =
     let functions = section_takes function_form entry_key (codes "functions") 0 131072 (omega arith) t a.0 a.1 in
     let blocks = section_takes block_form start_key (codes "blocks") 0 131072 (omega arith) a.0.1 b.0 b.1 in
     let rows = section_takes row_form no_key (codes "rows") 0 131072 (omega arith) b.0.1 d.0 d.1 in
-    let made : Map × Place = (record { functions = a.0.0; blocks = b.0.0; rows = d.0.0 }, d.0.1) in
-    subst (λ (q : Map × Place). IsFlow t q.0 q.1) (ok_is made m d.2)
+    let made : Map × Remainder = (record { functions = a.0.0; blocks = b.0.0; rows = d.0.0 }, d.0.1) in
+    subst (λ (q : Map × Remainder). IsFlow t q.0 q.1) (ok_is made m d.2)
     (record {
       parts = functions.0 ∙ ap (λ (r : List ℕ). functions_text a.0.0 ++ r) blocks.0 ∙ ap (λ (r : List ℕ). functions_text a.0.0 ++ (blocks_text b.0.0 ++ r)) rows.0;
       functions_fit = functions.1;
@@ -112,10 +115,10 @@ map_takes t m e =
       rows_fit = rows.1;
     })
 
-ending_takes : (t : Place) (u : Unit {0}) → ending_at t ≡ Ok u → t.rest ≡ ended (codes "end")
+ending_takes : (t : Remainder) (u : Unit {0}) → ending_at t ≡ Ok u → t.rest ≡ ended (codes "end")
 unfolding ending_at
 ending_takes t u e =
-    let a = bind_ok (fixed_at (codes "end") t) (λ last. at (placed last.line) (guard (length last.rest == 0) Token)) u e in
+    let a = bind_ok (fixed_at (codes "end") t) (λ last. at last.line (guard (length last.rest == 0) Token)) u e in
     let none : a.0.rest ≡ [] = nil_from_length a.0.rest (eqb-true (length a.0.rest) 0 (guard_ok (length a.0.rest == 0) Token u (at_ok a.0.line (guard (length a.0.rest == 0) Token) u a.2))) in
     fixed_takes (codes "end") t a.0 a.1 ∙ ap (λ (r : List ℕ). ended (codes "end") ++ r) none ∙ append-nil (ended (codes "end"))
 
@@ -124,11 +127,11 @@ ending_takes t u e =
 regroup : (h c d x f b r e : List ℕ) → h ++ (c ++ (d ++ (x ++ (f ++ (b ++ (r ++ e)))))) ≡ h ++ c ++ d ++ x ++ f ++ b ++ r ++ e
 regroup h c d x f b r e = simp append_assoc
 
-record IsParts (t : Place) (image : Image) : Type 0 where
+record IsParts (t : Remainder) (image : Image) : Type 0 where
   parts : t.rest ≡ code_text image.code ++ (data_text image.words ++ (cells_text image.cells ++ (functions_text image.map.functions ++ (blocks_text image.map.blocks ++ (rows_text image.map.rows ++ ended (codes "end"))))))
-  fits : IsWellFormed image
+  fits : IsWellFormedImage image
 
-parts_takes : (t : Place) (image : Image) → parts_at t ≡ Ok image → IsParts t image
+parts_takes : (t : Remainder) (image : Image) → parts_at t ≡ Ok image → IsParts t image
 unfolding parts_at
 parts_takes t image e =
     let a = bind_ok (memory_at t) (λ memory. map_at memory.3 >>= λ flow. ending_at flow.1 >>= λ ended. Ok (record { code = memory.0; words = memory.1; cells = memory.2; map = flow.0 })) image e in
@@ -160,7 +163,7 @@ parts_takes t image e =
 pub image_takes : (text : List ℕ) (image : Image) → image_at text ≡ Ok image → IsImageText text image
 unfolding image_at
 image_takes text image e =
-    let start : Place = record { rest = text; line = 1 } in
+    let start : Remainder = record { rest = text; line = 1 } in
     let a = bind_ok (fixed_at (codes "oat-image 1") start) (λ begun. parts_at begun) image e in
     let rest = parts_takes a.0 image a.2 in
     let whole : text ≡ image_text image =
@@ -173,7 +176,7 @@ image_takes text image e =
 keyword : (word : List ℕ) → list_all is_visible word ≡ true → 0 < length word → IsField word
 keyword word visible some = record { visible = visible; nonempty = some }
 
-memory_again : (image : Image) (rest : List ℕ) (n : ℕ) → IsWellFormed image
+memory_again : (image : Image) (rest : List ℕ) (n : ℕ) → IsWellFormedImage image
     → (m : ℕ) × (memory_at (record { rest = code_text image.code ++ (data_text image.words ++ (cells_text image.cells ++ rest)); line = n }) ≡ Ok (image.code, image.words, image.cells, record { rest = rest; line = m }))
 unfolding memory_at
 memory_again image rest n fits =
@@ -195,9 +198,9 @@ map_again flow rest n functions_fit functions_rise blocks_fit blocks_rise rows_f
 ending_again : (n : ℕ) → ending_at (record { rest = ended (codes "end"); line = n }) ≡ Ok tt
 unfolding ending_at
 ending_again n =
-    ap (λ (r : Result Place ImageFault). r >>= λ last. at (placed last.line) (guard (length last.rest == 0) Token)) (fixed_again (codes "end") [] n refl)
+    ap (λ (r : Result Remainder (Fault ImageFaultKind)). r >>= λ last. at last.line (guard (length last.rest == 0) Token)) (fixed_again (codes "end") [] n refl)
 
-pub image_again : (image : Image) → IsWellFormed image → image_at (image_text image) ≡ Ok image
+pub image_again : (image : Image) → IsWellFormedImage image → image_at (image_text image) ≡ Ok image
 unfolding image_at parts_at
 image_again image fits =
     let flow = image.map in
@@ -211,13 +214,13 @@ image_again image fits =
     sym (regroup (ended (codes "oat-image 1")) (code_text image.code) (data_text image.words) (cells_text image.cells) (functions_text flow.functions) (blocks_text flow.blocks) (rows_text flow.rows) last) in
     ap image_at spelled ∙ rw (begun, memory.1, mapped.1, ending_again mapped.0) refl
 
-pub is_found : (text : List ℕ) (r : Result Image ImageFault) → Answers (λ i. i) r (image_at text) → IfOk r (λ image. IsImageText text image)
+pub is_found : (text : List ℕ) (r : Result Image (Fault ImageFaultKind)) → Gives (λ i. i) r (image_at text) → IfOk r (λ image. IsImageText text image)
 is_found text (Ok image) given = image_takes text image given
 is_found text (Err e) given = tt
 
-pub is_only : (text : List ℕ) (r : Result Image ImageFault) → Answers (λ i. i) r (image_at text) → (image : Image) → IsImageText text image → Answers (λ i. i) r (Ok image)
+pub is_only : (text : List ℕ) (r : Result Image (Fault ImageFaultKind)) → Gives (λ i. i) r (image_at text) → (image : Image) → IsImageText text image → Gives (λ i. i) r (Ok image)
 is_only text r given image is =
-    subst (λ (read : Result Image ImageFault). Answers (λ i. i) r read) (ap image_at is.spelled ∙ image_again image is.well_formed) given
+    subst (λ (read : Result Image (Fault ImageFaultKind)). Gives (λ i. i) r read) (ap image_at is.spelled ∙ image_again image is.well_formed) given
 
 pub one_of_text : (text : List ℕ) (image other : Image) → IsImageText text image → IsImageText text other → image ≡ other
 one_of_text text image other is also =

@@ -5,13 +5,12 @@ use Rattle.std.specs.Bool.{Decides}
 use Rattle.std.specs.List.{list_all}
 use Rattle.std.specs.Char.{is_ascii_digit}
 use Rattle.std.specs.Int.{is_in_range, IsInRange}
-use Rattle.std.proofs.lemmas.Bool.{leb-true, le-leb, ltb-true, lt-ltb}
+use Rattle.std.proofs.lemmas.Bool.{and_parts, leb-true, le-leb, ltb-true, lt-ltb}
 use Rattle.std.proofs.lemmas.Bool.Decides.{Decides-by_and, Decides-and, Decides-or, Decides-eqb, nat_tests}
 use Rattle.oat_lines.specs.Fields.{is_visible, IsField}
-use Rattle.oat_lines.proofs.Hexadecimals.{both}
 use Rattle.oat_map.specs.Name.{IsName, IsNameByte}
-use Rattle.oat_image.specs.declared.fault.LineFault.TheVariants.{Token}
-use Rattle.oat_image.specs.ImageReading.{is_name_byte, is_name, name_of}
+use Rattle.oat_image.specs.declared.fault.ImageFaultKind.TheVariants.{Token}
+use Rattle.oat_image.specs.ImageReading.{is_name_byte, is_name, name_in}
 
 in_range : (low high c : ℕ) → Decides (is_in_range low high c) (IsInRange low high c)
 in_range low high c = Decides-and (leb low c) (leb c high) (leb-true low c, le-leb low c) (leb-true c high, le-leb c high)
@@ -29,9 +28,9 @@ not_true false e = refl
 
 pub name_from_test : (text : List ℕ) → is_name text ≡ true → IsName text
 name_from_test text e =
-    let a = both (ltb 0 (length text) && ltb (length text) 33 && list_all is_name_byte text) (not (is_ascii_digit (get_or text 0 0))) e in
-    let b = both (ltb 0 (length text) && ltb (length text) 33) (list_all is_name_byte text) a.0 in
-    let d = both (ltb 0 (length text)) (ltb (length text) 33) b.0 in
+    let a = and_parts (ltb 0 (length text) && ltb (length text) 33 && list_all is_name_byte text) (not (is_ascii_digit (get_or text 0 0))) e in
+    let b = and_parts (ltb 0 (length text) && ltb (length text) 33) (list_all is_name_byte text) a.0 in
+    let d = and_parts (ltb 0 (length text)) (ltb (length text) 33) b.0 in
     let some : 0 < length text = ltb-true 0 (length text) d.0 in
     let short : length text < 33 = ltb-true (length text) 33 d.1 in
     record {
@@ -52,10 +51,10 @@ test_from_name text name =
     let short : length text < 33 = omega (arith, name.short) in
     rw (lt-ltb 0 (length text) some, lt-ltb (length text) 33 short, (bytes_decide text).1 name.word, digit) refl
 
-pub is_named : (text name : List ℕ) → IsName text → name ≡ text → Ok name ≡ name_of text
+pub is_named : (text name : List ℕ) → IsName text → name ≡ text → Ok name ≡ name_in text
 is_named text name is same = rw (test_from_name text is, same) refl
 
-pub is_unnamed : (text : List ℕ) → (IsName text → ⊥) → Err Token ≡ name_of text
+pub is_unnamed : (text : List ℕ) → (IsName text → ⊥) → Err Token ≡ name_in text
 is_unnamed text none = rw (false_unless (is_name text) (λ e. none (name_from_test text e))) refl
 
 byte_visible : (c : ℕ) → is_name_byte c ≡ true → is_visible c ≡ true
@@ -64,7 +63,7 @@ byte_visible c e = grind (arith, nat_tests)
 bytes_visible : (text : List ℕ) → list_all is_name_byte text ≡ true → list_all is_visible text ≡ true
 bytes_visible [] e = refl
 bytes_visible (c ∷ cs) e =
-    let p = both (is_name_byte c) (list_all is_name_byte cs) e in
+    let p = and_parts (is_name_byte c) (list_all is_name_byte cs) e in
     rw (byte_visible c p.0, bytes_visible cs p.1) refl
 
 pub name_field : (text : List ℕ) → IsName text → IsField text

@@ -5,15 +5,16 @@ use Rattle.std.specs.List.{list_all}
 use Rattle.oat_lines.specs.Reading.{◌>>=◌}
 use Rattle.oat_lines.specs.Hexadecimal.{hexadecimal}
 use Rattle.oat_lines.specs.Fields.{one_field, field_and_rest, two_fields, three_fields, spaced, IsField}
-use Rattle.oat_lines.proofs.Cutting.{some_is, one_takes, field_takes, two_take, three_take, one_again, field_again, two_again, three_again, within_field, within_spaced, two_within, three_within, is_within_line}
+use Rattle.oat_lines.proofs.Cutting.{one_takes, field_takes, two_take, three_take, one_again, field_again, two_again, three_again, within_field, within_spaced, two_within, three_within, is_within_line}
 use Rattle.oat_map.specs.declared.row.Row.{Row}
 use Rattle.oat_map.specs.declared.row.Row.TheVariants.{Jump, Branch, Call, ICall, Ret, Begin, End, UseCell, DefCell, Check}
 use Rattle.oat_image.specs.declared.row.RowKind.{RowKind}
 use Rattle.oat_image.specs.declared.row.RowKind.TheVariants as kinds
-use Rattle.oat_image.specs.declared.fault.LineFault.TheVariants.{Token}
+use Rattle.oat_image.specs.declared.fault.ImageFaultKind.TheVariants.{Token}
 use Rattle.oat_image.specs.Grammar.{row_line, IsRow}
-use Rattle.oat_image.specs.ImageReading.{kind_of, sole_address, two_addresses, addresses_of, three_addresses, address_and_number, number_in, address_of, row_with, row_of}
-use Rattle.oat_image.proofs.Sections.{IsForm, bind_ok, ok_is, or_ok, bytes_take, decimal_field}
+use Rattle.oat_image.specs.ImageReading.{kind_of, sole_address, two_addresses, addresses_of, three_addresses, address_and_number, number_in, eight_digits, row_with, row_of}
+use Rattle.oat_lines.proofs.Steps.{bind_ok, ok_is, or_ok, some_is}
+use Rattle.oat_image.proofs.Sections.{IsForm, bytes_take, decimal_field}
 use Rattle.oat_image.proofs.Forms.{address_takes, address_again, address_field, number_takes, number_again}
 
 -- ---- keywords
@@ -81,7 +82,7 @@ keyword_field kinds.Check = record { visible = refl; nonempty = omega arith }
 sole_takes : (fields : List ℕ) (a : ℕ) → sole_address fields ≡ Ok a → (fields ≡ hexadecimal 8 a) × (a < 2 ^ 32)
 unfolding sole_address
 sole_takes fields a e =
-    let w = bind_ok (ok_or (one_field fields) Token) (λ word. address_of word) a e in
+    let w = bind_ok (ok_or (one_field fields) Token) (λ word. eight_digits word) a e in
     let n = address_takes w.0 a w.2 in
     (one_takes fields w.0 (or_ok (one_field fields) Token w.0 w.1) ∙ n.0, n.1)
 
@@ -92,9 +93,9 @@ sole_again a lt = rw (one_again (hexadecimal 8 a) (address_field a), address_aga
 pair_takes : (fields : List ℕ) (p : ℕ × ℕ) → two_addresses fields ≡ Ok p → (fields ≡ spaced (hexadecimal 8 p.0 ∷ hexadecimal 8 p.1 ∷ [])) × (p.0 < 2 ^ 32) × (p.1 < 2 ^ 32)
 unfolding two_addresses
 pair_takes fields p e =
-    let w = bind_ok (ok_or (two_fields fields) Token) (λ words. address_of words.0 >>= λ first. address_of words.1 >>= λ second. Ok (first, second)) p e in
-    let a = bind_ok (address_of w.0.0) (λ first. address_of w.0.1 >>= λ second. Ok (first, second)) p w.2 in
-    let b = bind_ok (address_of w.0.1) (λ second. Ok (a.0, second)) p a.2 in
+    let w = bind_ok (ok_or (two_fields fields) Token) (λ words. eight_digits words.0 >>= λ first. eight_digits words.1 >>= λ second. Ok (first, second)) p e in
+    let a = bind_ok (eight_digits w.0.0) (λ first. eight_digits w.0.1 >>= λ second. Ok (first, second)) p w.2 in
+    let b = bind_ok (eight_digits w.0.1) (λ second. Ok (a.0, second)) p a.2 in
     let first = address_takes w.0.0 a.0 a.1 in
     let second = address_takes w.0.1 b.0 b.1 in
     let parts : fields ≡ spaced (hexadecimal 8 a.0 ∷ hexadecimal 8 b.0 ∷ []) =
@@ -109,9 +110,9 @@ addresses_take : (one two three : List ℕ) (p : ℕ × ℕ × ℕ) → addresse
     → (one ≡ hexadecimal 8 p.0) × (two ≡ hexadecimal 8 p.1) × (three ≡ hexadecimal 8 p.2) × (p.0 < 2 ^ 32) × (p.1 < 2 ^ 32) × (p.2 < 2 ^ 32)
 unfolding addresses_of
 addresses_take one two three p e =
-    let a = bind_ok (address_of one) (λ first. address_of two >>= λ second. address_of three >>= λ third. Ok (first, second, third)) p e in
-    let b = bind_ok (address_of two) (λ second. address_of three >>= λ third. Ok (a.0, second, third)) p a.2 in
-    let d = bind_ok (address_of three) (λ third. Ok (a.0, b.0, third)) p b.2 in
+    let a = bind_ok (eight_digits one) (λ first. eight_digits two >>= λ second. eight_digits three >>= λ third. Ok (first, second, third)) p e in
+    let b = bind_ok (eight_digits two) (λ second. eight_digits three >>= λ third. Ok (a.0, second, third)) p a.2 in
+    let d = bind_ok (eight_digits three) (λ third. Ok (a.0, b.0, third)) p b.2 in
     let first = address_takes one a.0 a.1 in
     let second = address_takes two b.0 b.1 in
     let third = address_takes three d.0 d.1 in
@@ -145,8 +146,8 @@ numbered_takes : (least most : ℕ) (fields : List ℕ) (p : ℕ × ℕ) → mos
     → (fields ≡ spaced (hexadecimal 8 p.0 ∷ decimal p.1 ∷ [])) × (p.0 < 2 ^ 32) × (least ≤ p.1) × (p.1 ≤ most)
 unfolding address_and_number
 numbered_takes least most fields p small e =
-    let w = bind_ok (ok_or (two_fields fields) Token) (λ words. address_of words.0 >>= λ address. number_in least most words.1 >>= λ n. Ok (address, n)) p e in
-    let a = bind_ok (address_of w.0.0) (λ address. number_in least most w.0.1 >>= λ n. Ok (address, n)) p w.2 in
+    let w = bind_ok (ok_or (two_fields fields) Token) (λ words. eight_digits words.0 >>= λ address. number_in least most words.1 >>= λ n. Ok (address, n)) p e in
+    let a = bind_ok (eight_digits w.0.0) (λ address. number_in least most w.0.1 >>= λ n. Ok (address, n)) p w.2 in
     let b = bind_ok (number_in least most w.0.1) (λ n. Ok (a.0, n)) p a.2 in
     let first = address_takes w.0.0 a.0 a.1 in
     let second = number_takes least most w.0.1 b.0 small b.1 in

@@ -3,48 +3,26 @@ use Rattle.std.proofs.Common.{◌≡◌, ℕ, zero, suc, ◌+◌, ◌≤◌, ◌
 use Rattle.std.specs.Prelude.{ok_or, bytes_eq, decimal, map}
 use Rattle.std.specs.List.{flat_map, list_all, AllByRecursion}
 use Rattle.std.specs.List.Sorted.{IsStrictlyIncreasing}
-use Rattle.std.proofs.lemmas.Bool.{leb-true, le-leb, ltb-true, lt-ltb}
+use Rattle.std.proofs.lemmas.Bool.{and_parts, leb-true, le-leb, ltb-true, lt-ltb}
 use Rattle.std.proofs.lemmas.List.Concat.{flat_map-cons}
 use Rattle.std.proofs.lemmas.Slice.Eq.{bytes_eq-Decides}
-use Rattle.oat_lines.specs.Reading.{◌>>=◌, at, guard, between}
+use Rattle.oat_lines.specs.Faults.{at}
+use Rattle.oat_lines.specs.Reading.{◌>>=◌, guard, between}
 use Rattle.oat_lines.specs.Decimal.{decimal_of, is_decimal_digit}
 use Rattle.oat_lines.specs.Hexadecimal.{hexadecimal, is_hexadecimal_digit}
 use Rattle.oat_lines.specs.Fields.{cut, two_fields, spaced, ended, is_visible, IsField}
-use Rattle.oat_lines.proofs.Hexadecimals.{both, hexadecimal_digits, hexadecimal_length}
+use Rattle.oat_lines.proofs.Steps.{ok_is, bind_ok, or_ok, guard_ok, at_ok}
+use Rattle.oat_lines.proofs.Hexadecimals.{hexadecimal_digits, hexadecimal_length}
 use Rattle.oat_lines.proofs.Decimals.{decimal_takes, decimal_again, decimal_digits}
 use Rattle.oat_lines.proofs.Cutting.{cut_takes, cut_again, two_take, two_again, two_within, is_within_line}
 use Rattle.std.proofs.lemmas.Fmt.{decimal_nonempty}
 use Rattle.std.proofs.lemmas.Bool.Decides.{nat_tests}
-use Rattle.oat_image.specs.declared.fault.LineFault.{LineFault}
-use Rattle.oat_image.specs.declared.fault.LineFault.TheVariants.{Token, Number, Order, Limit}
+use Rattle.oat_image.specs.declared.fault.ImageFaultKind.{ImageFaultKind}
+use Rattle.oat_image.specs.declared.fault.ImageFaultKind.TheVariants.{Token, Number, Order, Limit}
 use Rattle.oat_image.specs.Spelling.{section_text}
 use Rattle.oat_image.specs.Grammar.{IsSection}
 use Rattle.oat_image.specs.Rising.{Rising}
-use Rattle.oat_image.specs.Reading.{Place, placed, line_from, line_at, next_number, rises, item_at, items_at, number_within, count_of, section_at, fixed_at}
-
--- ---- steps that did not fail
-
-pub bind_ok : {A B E : Type 0} (r : Result A E) (f : A → Result B E) (y : B) → (r >>= f) ≡ Ok y → (x : A) × (r ≡ Ok x) × (f x ≡ Ok y)
-bind_ok (Ok x) f y e = (x, refl, e)
-bind_ok (Err d) f y e = absurd cc
-
-abbrev done : {A E : Type 0} → A → Result A E
-done x = Ok x
-
-pub ok_is : {A E : Type 0} (x y : A) → done {E = E} x ≡ done y → x ≡ y
-ok_is x y e = cc
-
-pub or_ok : {A E : Type 0} (o : Option A) (d : E) (x : A) → ok_or o d ≡ Ok x → o ≡ Some x
-or_ok None d x e = absurd cc
-or_ok (Some y) d x e = ap Some (ok_is y x e)
-
-pub guard_ok : {E : Type 0} (b : Bool) (d : E) (u : Unit {0}) → guard b d ≡ Ok u → b ≡ true
-guard_ok true d u e = refl
-guard_ok false d u e = absurd cc
-
-pub at_ok : {A : Type 0} (line : ℕ) (r : Result A LineFault) (x : A) → at (placed line) r ≡ Ok x → r ≡ Ok x
-at_ok line (Ok y) x e = ap Ok (ok_is y x e)
-at_ok line (Err d) x e = absurd cc
+use Rattle.oat_image.specs.Reading.{Remainder, line_from, line_at, next_number, rises, item_at, items_at, number_within, count_of, section_at, fixed_at}
 
 -- ---- words
 
@@ -56,7 +34,7 @@ hexadecimal_visible c e = grind (arith, nat_tests)
 
 all_visible : (p : ℕ → Bool) → ((c : ℕ) → p c ≡ true → is_visible c ≡ true) → (word : List ℕ) → list_all p word ≡ true → list_all is_visible word ≡ true
 all_visible p each [] e = refl
-all_visible p each (c ∷ cs) e = let b = both (p c) (list_all p cs) e in rw (each c b.0, all_visible p each cs b.1) refl
+all_visible p each (c ∷ cs) e = let b = and_parts (p c) (list_all p cs) e in rw (each c b.0, all_visible p each cs b.1) refl
 
 pub decimal_field : (n : ℕ) → n < 2 ^ 64 → IsField (decimal n)
 decimal_field n lt = record { visible = all_visible is_decimal_digit decimal_visible (decimal n) (decimal_digits n lt); nonempty = decimal_nonempty n lt }
@@ -65,7 +43,7 @@ pub hexadecimal_field : (k n : ℕ) → 0 < k → IsField (hexadecimal k n)
 hexadecimal_field k n some = record { visible = all_visible is_hexadecimal_digit hexadecimal_visible (hexadecimal k n) (hexadecimal_digits k n); nonempty = omega (arith, hexadecimal_length k n) }
 
 pub between_takes : (low high n : ℕ) → between low high n ≡ true → (low ≤ n) × (n ≤ high)
-between_takes low high n e = let p = both (leb low n) (leb n high) e in (leb-true low n p.0, leb-true n high p.1)
+between_takes low high n e = let p = and_parts (leb low n) (leb n high) e in (leb-true low n p.0, leb-true n high p.1)
 
 pub between_again : (low high n : ℕ) → low ≤ n → n ≤ high → between low high n ≡ true
 between_again low high n a b = rw (le-leb low n a, le-leb n high b) refl
@@ -78,15 +56,15 @@ bytes_again xs = (bytes_eq-Decides xs xs).1 refl
 
 -- ---- a line
 
-from_takes : (n : ℕ) (o : Option (List ℕ × List ℕ)) (p : List ℕ × Place) → line_from n o ≡ Ok p → (q : List ℕ × List ℕ) × (o ≡ Some q) × ((q.0, record { rest = q.1; line = next_number n }) ≡ p)
+from_takes : (n : ℕ) (o : Option (List ℕ × List ℕ)) (p : List ℕ × Remainder) → line_from n o ≡ Ok p → (q : List ℕ × List ℕ) × (o ≡ Some q) × ((q.0, record { rest = q.1; line = next_number n }) ≡ p)
 from_takes n None p e = absurd cc
 from_takes n (Some q) p e = (q, refl, ok_is (q.0, record { rest = q.1; line = next_number n }) p e)
 
-pub line_takes : (t : Place) (p : List ℕ × Place) → line_at t ≡ Ok p → t.rest ≡ ended p.0 ++ p.1.rest
+pub line_takes : (t : Remainder) (p : List ℕ × Remainder) → line_at t ≡ Ok p → t.rest ≡ ended p.0 ++ p.1.rest
 unfolding line_at
 line_takes t p e =
     let a = from_takes t.line (cut 10 t.rest) p e in
-    subst (λ (x : List ℕ × Place). t.rest ≡ ended x.0 ++ x.1.rest) a.2 (cut_takes 10 t.rest a.0 a.1 ∙ sym (append_assoc a.0.0 (10 ∷ []) a.0.1))
+    subst (λ (x : List ℕ × Remainder). t.rest ≡ ended x.0 ++ x.1.rest) a.2 (cut_takes 10 t.rest a.0 a.1 ∙ sym (append_assoc a.0.0 (10 ∷ []) a.0.1))
 
 pub line_again : (line rest : List ℕ) (n : ℕ) → list_all is_within_line line ≡ true → line_at (record { rest = ended line ++ rest; line = n }) ≡ Ok (line, record { rest = rest; line = next_number n })
 unfolding line_at
@@ -95,32 +73,32 @@ line_again line rest n whole =
 
 -- ---- kinds of lines
 
-pub record IsForm {X : Type 0} (reads : List ℕ → Result X LineFault) (text : X → List ℕ) (Fits : X → Type 0) : Type 0 where
+pub record IsForm {X : Type 0} (reads : List ℕ → Result X ImageFaultKind) (text : X → List ℕ) (Fits : X → Type 0) : Type 0 where
   pub takes : (line : List ℕ) (x : X) → reads line ≡ Ok x → (line ≡ text x) × Fits x
   pub again : (x : X) → Fits x → reads (text x) ≡ Ok x
   pub whole : (x : X) → Fits x → list_all is_within_line (text x) ≡ true
 
-module _ {X : Type 0} {reads : List ℕ → Result X LineFault} {text : X → List ℕ} {Fits : X → Type 0} (form : IsForm reads text Fits) (key : X → Option ℕ) where
-  item_takes : (last : Option ℕ) (t : Place) (p : X × Place) → item_at reads key last t ≡ Ok p → (t.rest ≡ ended (text p.0) ++ p.1.rest) × Fits p.0 × (rises last (key p.0) ≡ true)
+module _ {X : Type 0} {reads : List ℕ → Result X ImageFaultKind} {text : X → List ℕ} {Fits : X → Type 0} (form : IsForm reads text Fits) (key : X → Option ℕ) where
+  item_takes : (last : Option ℕ) (t : Remainder) (p : X × Remainder) → item_at reads key last t ≡ Ok p → (t.rest ≡ ended (text p.0) ++ p.1.rest) × Fits p.0 × (rises last (key p.0) ≡ true)
   unfolding item_at
   item_takes last t p e =
-      let a = bind_ok (line_at t) (λ line. at (placed t.line) (reads line.0) >>= λ item. at (placed t.line) (guard (rises last (key item)) Order) >>= λ risen. Ok (item, line.1)) p e in
-      let b = bind_ok (at (placed t.line) (reads a.0.0)) (λ item. at (placed t.line) (guard (rises last (key item)) Order) >>= λ risen. Ok (item, a.0.1)) p a.2 in
-      let d = bind_ok (at (placed t.line) (guard (rises last (key b.0)) Order)) (λ risen. Ok (b.0, a.0.1)) p b.2 in
+      let a = bind_ok (line_at t) (λ line. at t.line (reads line.0) >>= λ item. at t.line (guard (rises last (key item)) Order) >>= λ risen. Ok (item, line.1)) p e in
+      let b = bind_ok (at t.line (reads a.0.0)) (λ item. at t.line (guard (rises last (key item)) Order) >>= λ risen. Ok (item, a.0.1)) p a.2 in
+      let d = bind_ok (at t.line (guard (rises last (key b.0)) Order)) (λ risen. Ok (b.0, a.0.1)) p b.2 in
       let line = form.takes a.0.0 b.0 (at_ok t.line (reads a.0.0) b.0 b.1) in
       let risen = guard_ok (rises last (key b.0)) Order d.0 (at_ok t.line (guard (rises last (key b.0)) Order) d.0 d.1) in
       let parts : t.rest ≡ ended (text b.0) ++ a.0.1.rest = line_takes t a.0 a.1 ∙ ap (λ (l : List ℕ). ended l ++ a.0.1.rest) line.0 in
-      subst (λ (q : X × Place). (t.rest ≡ ended (text q.0) ++ q.1.rest) × Fits q.0 × (rises last (key q.0) ≡ true)) (ok_is (b.0, a.0.1) p d.2) (parts, line.1, risen)
+      subst (λ (q : X × Remainder). (t.rest ≡ ended (text q.0) ++ q.1.rest) × Fits q.0 × (rises last (key q.0) ≡ true)) (ok_is (b.0, a.0.1) p d.2) (parts, line.1, risen)
 
   item_again : (last : Option ℕ) (x : X) (rest : List ℕ) (n : ℕ) → Fits x → rises last (key x) ≡ true → item_at reads key last (record { rest = ended (text x) ++ rest; line = n }) ≡ Ok (x, record { rest = rest; line = next_number n })
   unfolding item_at
   item_again last x rest n fits risen = rw (line_again (text x) rest n (form.whole x fits), form.again x fits, risen) refl
 
-  items_take : (n : ℕ) (last : Option ℕ) (t : Place) (p : List X × Place) → items_at reads key n last t ≡ Ok p
+  items_take : (n : ℕ) (last : Option ℕ) (t : Remainder) (p : List X × Remainder) → items_at reads key n last t ≡ Ok p
       → (t.rest ≡ flat_map (λ x. ended (text x)) p.0 ++ p.1.rest) × (length p.0 ≡ n) × AllByRecursion Fits p.0 × Rising key last p.0
   unfolding items_at
   items_take zero last t p e =
-      subst (λ (q : List X × Place). (t.rest ≡ flat_map (λ x. ended (text x)) q.0 ++ q.1.rest) × (length q.0 ≡ 0) × AllByRecursion Fits q.0 × Rising key last q.0) (ok_is ([], t) p e) (refl, refl, tt, tt)
+      subst (λ (q : List X × Remainder). (t.rest ≡ flat_map (λ x. ended (text x)) q.0 ++ q.1.rest) × (length q.0 ≡ 0) × AllByRecursion Fits q.0 × Rising key last q.0) (ok_is ([], t) p e) (refl, refl, tt, tt)
   items_take (suc n) last t p e =
       let a = bind_ok (item_at reads key last t) (λ one. items_at reads key n (key one.0) one.1 >>= λ others. Ok (one.0 ∷ others.0, others.1)) p e in
       let b = bind_ok (items_at reads key n (key a.0.0) a.0.1) (λ others. Ok (a.0.0 ∷ others.0, others.1)) p a.2 in
@@ -129,7 +107,7 @@ module _ {X : Type 0} {reads : List ℕ → Result X LineFault} {text : X → Li
       let parts : t.rest ≡ flat_map (λ x. ended (text x)) (a.0.0 ∷ b.0.0) ++ b.0.1.rest =
       one.0 ∙ ap (λ (r : List ℕ). ended (text a.0.0) ++ r) more.0 ∙ sym (append_assoc (ended (text a.0.0)) (flat_map (λ x. ended (text x)) b.0.0) b.0.1.rest)
       ∙ ap (λ (r : List ℕ). r ++ b.0.1.rest) (sym (flat_map-cons (λ x. ended (text x)) a.0.0 b.0.0)) in
-      subst (λ (q : List X × Place). (t.rest ≡ flat_map (λ x. ended (text x)) q.0 ++ q.1.rest) × (length q.0 ≡ suc n) × AllByRecursion Fits q.0 × Rising key last q.0) (ok_is (a.0.0 ∷ b.0.0, b.0.1) p b.2)
+      subst (λ (q : List X × Remainder). (t.rest ≡ flat_map (λ x. ended (text x)) q.0 ++ q.1.rest) × (length q.0 ≡ suc n) × AllByRecursion Fits q.0 × Rising key last q.0) (ok_is (a.0.0 ∷ b.0.0, b.0.1) p b.2)
       (parts, ap suc more.1, (one.1, more.2), (one.2, more.3))
 
   items_again : (xs : List X) (last : Option ℕ) (rest : List ℕ) (n : ℕ) → AllByRecursion Fits xs → Rising key last xs
@@ -173,13 +151,13 @@ count_again keyword least most n field low high small =
     let fits : n < 2 ^ 64 = omega arith in
     rw (two_again keyword (decimal n) field (decimal_field n fits), bytes_again keyword, decimal_again n fits, between_again least most n low high) refl
 
-module _ {X : Type 0} {reads : List ℕ → Result X LineFault} {text : X → List ℕ} {Fits : X → Type 0} (form : IsForm reads text Fits) (key : X → Option ℕ) where
-  pub section_takes : (keyword : List ℕ) (least most : ℕ) → most < 2 ^ 64 → (t : Place) (p : List X × Place) → section_at keyword least most reads key t ≡ Ok p
+module _ {X : Type 0} {reads : List ℕ → Result X ImageFaultKind} {text : X → List ℕ} {Fits : X → Type 0} (form : IsForm reads text Fits) (key : X → Option ℕ) where
+  pub section_takes : (keyword : List ℕ) (least most : ℕ) → most < 2 ^ 64 → (t : Remainder) (p : List X × Remainder) → section_at keyword least most reads key t ≡ Ok p
       → (t.rest ≡ section_text keyword text p.0 ++ p.1.rest) × IsSection Fits least most p.0 × Rising key None p.0
   unfolding section_at
   section_takes keyword least most small t p e =
-      let a = bind_ok (line_at t) (λ line. at (placed t.line) (count_of keyword least most line.0) >>= λ count. items_at reads key count None line.1) p e in
-      let b = bind_ok (at (placed t.line) (count_of keyword least most a.0.0)) (λ count. items_at reads key count None a.0.1) p a.2 in
+      let a = bind_ok (line_at t) (λ line. at t.line (count_of keyword least most line.0) >>= λ count. items_at reads key count None line.1) p e in
+      let b = bind_ok (at t.line (count_of keyword least most a.0.0)) (λ count. items_at reads key count None a.0.1) p a.2 in
       let count = count_takes keyword least most b.0 a.0.0 small (at_ok t.line (count_of keyword least most a.0.0) b.0 b.1) in
       let items = items_take form key b.0 None a.0.1 p b.2 in
       let head : t.rest ≡ ended (spaced (keyword ∷ decimal b.0 ∷ [])) ++ a.0.1.rest = line_takes t a.0 a.1 ∙ ap (λ (l : List ℕ). ended l ++ a.0.1.rest) count.0 in
@@ -206,13 +184,13 @@ module _ {X : Type 0} {reads : List ℕ → Result X LineFault} {text : X → Li
 
 -- ---- lines that are always the same
 
-pub fixed_takes : (line : List ℕ) (t p : Place) → fixed_at line t ≡ Ok p → t.rest ≡ ended line ++ p.rest
+pub fixed_takes : (line : List ℕ) (t p : Remainder) → fixed_at line t ≡ Ok p → t.rest ≡ ended line ++ p.rest
 unfolding fixed_at
 fixed_takes line t p e =
-    let a = bind_ok (line_at t) (λ l. at (placed t.line) (guard (bytes_eq l.0 line) Token) >>= λ same. Ok l.1) p e in
-    let b = bind_ok (at (placed t.line) (guard (bytes_eq a.0.0 line) Token)) (λ same. Ok a.0.1) p a.2 in
+    let a = bind_ok (line_at t) (λ l. at t.line (guard (bytes_eq l.0 line) Token) >>= λ same. Ok l.1) p e in
+    let b = bind_ok (at t.line (guard (bytes_eq a.0.0 line) Token)) (λ same. Ok a.0.1) p a.2 in
     let same : a.0.0 ≡ line = bytes_take a.0.0 line (guard_ok (bytes_eq a.0.0 line) Token b.0 (at_ok t.line (guard (bytes_eq a.0.0 line) Token) b.0 b.1)) in
-    subst (λ (q : Place). t.rest ≡ ended line ++ q.rest) (ok_is a.0.1 p b.2) (line_takes t a.0 a.1 ∙ ap (λ (l : List ℕ). ended l ++ a.0.1.rest) same)
+    subst (λ (q : Remainder). t.rest ≡ ended line ++ q.rest) (ok_is a.0.1 p b.2) (line_takes t a.0 a.1 ∙ ap (λ (l : List ℕ). ended l ++ a.0.1.rest) same)
 
 pub fixed_again : (line rest : List ℕ) (n : ℕ) → list_all is_within_line line ≡ true → fixed_at line (record { rest = ended line ++ rest; line = n }) ≡ Ok (record { rest = rest; line = next_number n })
 unfolding fixed_at

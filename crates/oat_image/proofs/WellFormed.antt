@@ -1,12 +1,12 @@
 -- An image is well formed where its two halves are in order.
 use Rattle.std.proofs.Common.{◌↔◌, None}
 use Rattle.oat_image.specs.declared.image.Image.{Image}
-use Rattle.oat_image.specs.Grammar.{IsWellFormed}
+use Rattle.oat_image.specs.Grammar.{IsWellFormedImage}
 use Rattle.oat_image.specs.WellFormed.{IsMemory, IsFlow}
 use Rattle.oat_image.proofs.Sections.{rising_unkeyed, strict_from_rising, rising_from_strict}
 use Rattle.oat_image.proofs.Images.{cells_same, same_cells}
 
-joined : (image : Image) → IsMemory image → IsFlow image → IsWellFormed image
+joined : (image : Image) → IsMemory image → IsFlow image → IsWellFormedImage image
 joined image memory flow = record {
   code = memory.0.0;
   words = memory.1.0;
@@ -20,19 +20,19 @@ joined image memory flow = record {
   rows = flow.2.0;
 }
 
-memory_of : (image : Image) → IsWellFormed image → IsMemory image
+memory_of : (image : Image) → IsWellFormedImage image → IsMemory image
 memory_of image fits = (
   (fits.code, rising_unkeyed None image.code),
   (fits.words, rising_from_strict (λ w. w.index) image.words fits.words_rise),
   (fits.cells, rising_from_strict (λ c. c) image.cells (cells_same image.cells fits.cells_rise)),
 )
 
-flow_of : (image : Image) → IsWellFormed image → IsFlow image
+flow_of : (image : Image) → IsWellFormedImage image → IsFlow image
 flow_of image fits = (
   (fits.functions, rising_from_strict (λ f. f.entry) image.map.functions fits.functions_rise),
   (fits.blocks, rising_from_strict (λ b. b.start) image.map.blocks fits.blocks_rise),
   (fits.rows, rising_unkeyed None image.map.rows),
 )
 
-pub halves : (image : Image) → (IsMemory image × IsFlow image) ↔ IsWellFormed image
+pub halves : (image : Image) → (IsMemory image × IsFlow image) ↔ IsWellFormedImage image
 halves image = (λ h. joined image h.0 h.1, λ fits. (memory_of image fits, flow_of image fits))

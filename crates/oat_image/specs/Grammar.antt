@@ -17,9 +17,6 @@ use Rattle.oat_image.specs.Spelling.{section_text}
 
 -- ---- the lines of the sections
 
-abbrev pub address_text : ℕ → List ℕ
-address_text address = hexadecimal 8 address
-
 abbrev pub code_line : ℕ → List ℕ
 code_line word = hexadecimal 8 word
 
@@ -34,22 +31,22 @@ flag_text true = codes "1"
 flag_text false = codes "0"
 
 abbrev pub function_line : Function → List ℕ
-function_line f = spaced (address_text f.entry ∷ f.name ∷ decimal f.params ∷ flag_text f.referenced ∷ [])
+function_line f = spaced (hexadecimal 8 f.entry ∷ f.name ∷ decimal f.params ∷ flag_text f.referenced ∷ [])
 
 abbrev pub block_line : Block → List ℕ
-block_line b = spaced (address_text b.start ∷ b.label ∷ [])
+block_line b = spaced (hexadecimal 8 b.start ∷ b.label ∷ [])
 
 abbrev pub row_line : Row → List ℕ
-row_line (Jump at to) = spaced (codes "jump" ∷ address_text at ∷ address_text to ∷ [])
-row_line (Branch at taken other) = spaced (codes "branch" ∷ address_text at ∷ address_text taken ∷ address_text other ∷ [])
-row_line (Call at to) = spaced (codes "call" ∷ address_text at ∷ address_text to ∷ [])
-row_line (ICall at params) = spaced (codes "icall" ∷ address_text at ∷ decimal params ∷ [])
-row_line (Ret at) = spaced (codes "ret" ∷ address_text at ∷ [])
-row_line (Begin at op) = spaced (codes "begin" ∷ address_text at ∷ decimal op ∷ [])
-row_line (End at op) = spaced (codes "end" ∷ address_text at ∷ decimal op ∷ [])
-row_line (UseCell at cell) = spaced (codes "use" ∷ address_text at ∷ decimal cell ∷ [])
-row_line (DefCell at cell) = spaced (codes "def" ∷ address_text at ∷ decimal cell ∷ [])
-row_line (Check at) = spaced (codes "check" ∷ address_text at ∷ [])
+row_line (Jump at to) = spaced (codes "jump" ∷ hexadecimal 8 at ∷ hexadecimal 8 to ∷ [])
+row_line (Branch at taken other) = spaced (codes "branch" ∷ hexadecimal 8 at ∷ hexadecimal 8 taken ∷ hexadecimal 8 other ∷ [])
+row_line (Call at to) = spaced (codes "call" ∷ hexadecimal 8 at ∷ hexadecimal 8 to ∷ [])
+row_line (ICall at params) = spaced (codes "icall" ∷ hexadecimal 8 at ∷ decimal params ∷ [])
+row_line (Ret at) = spaced (codes "ret" ∷ hexadecimal 8 at ∷ [])
+row_line (Begin at op) = spaced (codes "begin" ∷ hexadecimal 8 at ∷ decimal op ∷ [])
+row_line (End at op) = spaced (codes "end" ∷ hexadecimal 8 at ∷ decimal op ∷ [])
+row_line (UseCell at cell) = spaced (codes "use" ∷ hexadecimal 8 at ∷ decimal cell ∷ [])
+row_line (DefCell at cell) = spaced (codes "def" ∷ hexadecimal 8 at ∷ decimal cell ∷ [])
+row_line (Check at) = spaced (codes "check" ∷ hexadecimal 8 at ∷ [])
 
 -- ---- the text
 
@@ -76,8 +73,8 @@ IsWord word = word < 2 ^ 32
 abbrev pub IsIndex : ℕ → Type 0
 IsIndex index = index ≤ 65535
 
-abbrev pub IsOperation : ℕ → Type 0
-IsOperation op = (1 ≤ op) × (op ≤ 65535)
+abbrev pub IsOperationNumber : ℕ → Type 0
+IsOperationNumber op = (1 ≤ op) × (op ≤ 65535)
 
 pub record IsInitWord (word : InitWord) : Type 0 where
   pub index : IsIndex word.index
@@ -99,8 +96,8 @@ IsRow (Branch at taken other) = IsAddress at × IsAddress taken × IsAddress oth
 IsRow (Call at to) = IsAddress at × IsAddress to
 IsRow (ICall at params) = IsAddress at × (params ≤ 4)
 IsRow (Ret at) = IsAddress at
-IsRow (Begin at op) = IsAddress at × IsOperation op
-IsRow (End at op) = IsAddress at × IsOperation op
+IsRow (Begin at op) = IsAddress at × IsOperationNumber op
+IsRow (End at op) = IsAddress at × IsOperationNumber op
 IsRow (UseCell at cell) = IsAddress at × IsIndex cell
 IsRow (DefCell at cell) = IsAddress at × IsIndex cell
 IsRow (Check at) = IsAddress at
@@ -112,7 +109,7 @@ pub record IsSection {X : Type 0} (Fits : X → Type 0) (least most : ℕ) (item
   pub limited : length items ≤ most
 
 -- the ranges and the order of an image
-pub record IsWellFormed (image : Image) : Type 0 where
+pub record IsWellFormedImage (image : Image) : Type 0 where
   pub code : IsSection IsWord 1 131072 image.code
   pub words : IsSection IsInitWord 0 65536 image.words
   pub words_rise : IsStrictlyIncreasing (map (λ w. w.index) image.words)
@@ -126,5 +123,5 @@ pub record IsWellFormed (image : Image) : Type 0 where
 
 -- the image grammar: the text is the one of this image
 pub record IsImageText (text : List ℕ) (image : Image) : Type 0 where
-  pub well_formed : IsWellFormed image
+  pub well_formed : IsWellFormedImage image
   pub spelled : text ≡ image_text image

@@ -4,7 +4,9 @@
 use Rattle.std.specs.Prelude.{ℕ, Bool, List, length, codes, Option, Some, None, ok_or, Result, Ok, Err, nat_lt, ◌==◌, ◌&&◌, ◌||◌, not, bytes_eq, slice_index, if◌then◌else◌}
 use Rattle.std.specs.List.{list_all}
 use Rattle.std.specs.Char.{is_ascii_digit, is_ascii_alphanumeric}
-use Rattle.oat_lines.specs.Reading.{◌>>=◌, at, guard, between}
+use Rattle.oat_lines.specs.declared.fault.Fault.{Fault}
+use Rattle.oat_lines.specs.Faults.{at}
+use Rattle.oat_lines.specs.Reading.{◌>>=◌, guard, between}
 use Rattle.oat_lines.specs.Decimal.{decimal_of}
 use Rattle.oat_lines.specs.Hexadecimal.{hexadecimal_of}
 use Rattle.oat_lines.specs.Fields.{one_field, field_and_rest, two_fields, three_fields, four_fields}
@@ -15,34 +17,33 @@ use Rattle.oat_map.specs.declared.row.Row.{Row}
 use Rattle.oat_map.specs.declared.row.Row.TheVariants.{Jump, Branch, Call, ICall, Ret, Begin, End, UseCell, DefCell, Check}
 use Rattle.oat_image.specs.declared.image.Image.{Image}
 use Rattle.oat_image.specs.declared.image.InitWord.{InitWord}
-use Rattle.oat_image.specs.declared.fault.ImageFault.{ImageFault}
-use Rattle.oat_image.specs.declared.fault.LineFault.{LineFault}
-use Rattle.oat_image.specs.declared.fault.LineFault.TheVariants.{Token, Number}
+use Rattle.oat_image.specs.declared.fault.ImageFaultKind.{ImageFaultKind}
+use Rattle.oat_image.specs.declared.fault.ImageFaultKind.TheVariants.{Token, Number}
 use Rattle.oat_image.specs.declared.row.RowKind.{RowKind}
 use Rattle.oat_image.specs.declared.row.RowKind.TheVariants as kinds
-use Rattle.oat_image.specs.Reading.{Place, placed, section_at, fixed_at}
+use Rattle.oat_image.specs.Reading.{Remainder, section_at, fixed_at}
 
 -- ---- words
 
 -- the address or word of code that eight digits spell
-abbrev pub address_of : List ℕ → Result ℕ LineFault
-address_of word = ok_or (hexadecimal_of 8 word) Number
+abbrev pub eight_digits : List ℕ → Result ℕ ImageFaultKind
+eight_digits word = ok_or (hexadecimal_of 8 word) Number
 
 -- a decimal number within bounds
-abbrev pub number_in : ℕ → ℕ → List ℕ → Result ℕ LineFault
+abbrev pub number_in : ℕ → ℕ → List ℕ → Result ℕ ImageFaultKind
 number_in least most word = do
   n ← ok_or (decimal_of word) Number
   within ← guard (between least most n) Number
   Ok n
 
 -- the value of a word of data, which isn't zero
-abbrev pub value_of : List ℕ → Result ℕ LineFault
+abbrev pub value_of : List ℕ → Result ℕ ImageFaultKind
 value_of word = do
   value ← ok_or (hexadecimal_of 16 word) Number
   set ← guard (nat_lt 0 value) Number
   Ok value
 
-abbrev pub flag_of : List ℕ → Result Bool LineFault
+abbrev pub flag_of : List ℕ → Result Bool ImageFaultKind
 flag_of word = do
   n ← number_in 0 1 word
   Ok (n == 1)
@@ -55,8 +56,8 @@ is_name_byte c = is_ascii_alphanumeric c || (c == 95)
 abbrev pub is_name : List ℕ → Bool
 is_name text = nat_lt 0 (length text) && nat_lt (length text) 33 && list_all is_name_byte text && not (is_ascii_digit (slice_index text 0))
 
-abbrev pub name_of : List ℕ → Result (List ℕ) LineFault
-name_of word = if is_name word then Ok word else Err Token
+abbrev pub name_in : List ℕ → Result (List ℕ) ImageFaultKind
+name_in word = if is_name word then Ok word else Err Token
 
 -- ---- lines
 
@@ -64,41 +65,41 @@ name_of word = if is_name word then Ok word else Err Token
 abbrev pub no_key : {X : Type 0} → X → Option ℕ
 no_key item = None
 
-unfoldable pub code_of : List ℕ → Result ℕ LineFault
+unfoldable pub code_of : List ℕ → Result ℕ ImageFaultKind
 code_of line = do
   word ← ok_or (one_field line) Token
-  address_of word
+  eight_digits word
 
-unfoldable pub data_of : List ℕ → Result InitWord LineFault
+unfoldable pub data_of : List ℕ → Result InitWord ImageFaultKind
 data_of line = do
   words ← ok_or (two_fields line) Token
   index ← number_in 0 65535 words.0
   value ← value_of words.1
   Ok (record { index = index; value = value })
 
-unfoldable pub cell_of : List ℕ → Result ℕ LineFault
+unfoldable pub cell_of : List ℕ → Result ℕ ImageFaultKind
 cell_of line = do
   word ← ok_or (one_field line) Token
   number_in 0 65535 word
 
-unfoldable pub function_with : List ℕ → List ℕ → List ℕ → List ℕ → Result Function LineFault
+unfoldable pub function_with : List ℕ → List ℕ → List ℕ → List ℕ → Result Function ImageFaultKind
 function_with name entry params flag = do
-  e ← address_of entry
+  e ← eight_digits entry
   p ← number_in 0 4 params
   r ← flag_of flag
   Ok (record { entry = e; name = name; params = p; referenced = r })
 
-unfoldable pub function_of : List ℕ → Result Function LineFault
+unfoldable pub function_of : List ℕ → Result Function ImageFaultKind
 function_of line = do
   words ← ok_or (four_fields line) Token
-  name ← name_of words.1
+  name ← name_in words.1
   function_with name words.0 words.2 words.3
 
-unfoldable pub block_of : List ℕ → Result Block LineFault
+unfoldable pub block_of : List ℕ → Result Block ImageFaultKind
 block_of line = do
   words ← ok_or (two_fields line) Token
-  label ← name_of words.1
-  start ← address_of words.0
+  label ← name_in words.1
+  start ← eight_digits words.0
   Ok (record { start = start; label = label })
 
 -- ---- rows
@@ -116,38 +117,38 @@ kind_of word =
     if bytes_eq word (codes "def") then Some kinds.DefCell else
     if bytes_eq word (codes "check") then Some kinds.Check else None
 
-unfoldable pub sole_address : List ℕ → Result ℕ LineFault
+unfoldable pub sole_address : List ℕ → Result ℕ ImageFaultKind
 sole_address fields = do
   word ← ok_or (one_field fields) Token
-  address_of word
+  eight_digits word
 
-unfoldable pub two_addresses : List ℕ → Result (ℕ × ℕ) LineFault
+unfoldable pub two_addresses : List ℕ → Result (ℕ × ℕ) ImageFaultKind
 two_addresses fields = do
   words ← ok_or (two_fields fields) Token
-  first ← address_of words.0
-  second ← address_of words.1
+  first ← eight_digits words.0
+  second ← eight_digits words.1
   Ok (first, second)
 
-unfoldable pub addresses_of : List ℕ → List ℕ → List ℕ → Result (ℕ × ℕ × ℕ) LineFault
+unfoldable pub addresses_of : List ℕ → List ℕ → List ℕ → Result (ℕ × ℕ × ℕ) ImageFaultKind
 addresses_of one two three = do
-  first ← address_of one
-  second ← address_of two
-  third ← address_of three
+  first ← eight_digits one
+  second ← eight_digits two
+  third ← eight_digits three
   Ok (first, second, third)
 
-unfoldable pub three_addresses : List ℕ → Result (ℕ × ℕ × ℕ) LineFault
+unfoldable pub three_addresses : List ℕ → Result (ℕ × ℕ × ℕ) ImageFaultKind
 three_addresses fields = do
   words ← ok_or (three_fields fields) Token
   addresses_of words.0 words.1 words.2
 
-unfoldable pub address_and_number : ℕ → ℕ → List ℕ → Result (ℕ × ℕ) LineFault
+unfoldable pub address_and_number : ℕ → ℕ → List ℕ → Result (ℕ × ℕ) ImageFaultKind
 address_and_number least most fields = do
   words ← ok_or (two_fields fields) Token
-  address ← address_of words.0
+  address ← eight_digits words.0
   n ← number_in least most words.1
   Ok (address, n)
 
-unfoldable pub row_with : RowKind → List ℕ → Result Row LineFault
+unfoldable pub row_with : RowKind → List ℕ → Result Row ImageFaultKind
 row_with kinds.Jump fields = two_addresses fields >>= λ p. Ok (Jump p.0 p.1)
 row_with kinds.Branch fields = three_addresses fields >>= λ p. Ok (Branch p.0 p.1 p.2)
 row_with kinds.Call fields = two_addresses fields >>= λ p. Ok (Call p.0 p.1)
@@ -159,7 +160,7 @@ row_with kinds.UseCell fields = address_and_number 0 65535 fields >>= λ p. Ok (
 row_with kinds.DefCell fields = address_and_number 0 65535 fields >>= λ p. Ok (DefCell p.0 p.1)
 row_with kinds.Check fields = sole_address fields >>= λ a. Ok (Check a)
 
-unfoldable pub row_of : List ℕ → Result Row LineFault
+unfoldable pub row_of : List ℕ → Result Row ImageFaultKind
 row_of line = do
   parts ← ok_or (field_and_rest line) Token
   kind ← ok_or (kind_of parts.0) Token
@@ -180,7 +181,7 @@ abbrev pub start_key : Block → Option ℕ
 start_key b = Some b.start
 
 -- code, data and cells
-unfoldable pub memory_at : Place → Result (List ℕ × List InitWord × List ℕ × Place) ImageFault
+unfoldable pub memory_at : Remainder → Result (List ℕ × List InitWord × List ℕ × Remainder) (Fault ImageFaultKind)
 memory_at t = do
   code ← section_at (codes "code") 1 131072 code_of no_key t
   words ← section_at (codes "data") 0 65536 data_of index_key code.1
@@ -188,7 +189,7 @@ memory_at t = do
   Ok (code.0, words.0, cells.0, cells.1)
 
 -- functions, blocks and rows
-unfoldable pub map_at : Place → Result (Map × Place) ImageFault
+unfoldable pub map_at : Remainder → Result (Map × Remainder) (Fault ImageFaultKind)
 map_at t = do
   functions ← section_at (codes "functions") 0 131072 function_of entry_key t
   blocks ← section_at (codes "blocks") 0 131072 block_of start_key functions.1
@@ -196,12 +197,12 @@ map_at t = do
   Ok (record { functions = functions.0; blocks = blocks.0; rows = rows.0 }, rows.1)
 
 -- nothing stands behind the last line
-unfoldable pub ending_at : Place → Result (Unit {0}) ImageFault
+unfoldable pub ending_at : Remainder → Result (Unit {0}) (Fault ImageFaultKind)
 ending_at t = do
   last ← fixed_at (codes "end") t
-  at (placed last.line) (guard (length last.rest == 0) Token)
+  at last.line (guard (length last.rest == 0) Token)
 
-unfoldable pub parts_at : Place → Result Image ImageFault
+unfoldable pub parts_at : Remainder → Result Image (Fault ImageFaultKind)
 parts_at t = do
   memory ← memory_at t
   flow ← map_at memory.3
@@ -209,7 +210,7 @@ parts_at t = do
   Ok (record { code = memory.0; words = memory.1; cells = memory.2; map = flow.0 })
 
 -- the image of a whole text, or its first fault
-unfoldable pub image_at : List ℕ → Result Image ImageFault
+unfoldable pub image_at : List ℕ → Result Image (Fault ImageFaultKind)
 image_at text = do
   begun ← fixed_at (codes "oat-image 1") (record { rest = text; line = 1 })
   parts_at begun

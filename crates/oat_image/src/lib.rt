@@ -13,7 +13,7 @@ mod text;
 mod well_formed;
 mod words;
 
-pub use fault::ImageFault;
+pub use fault::{ImageFault, ImageFaultKind};
 pub use image::{Image, InitWord};
 pub use printing::{image_digest, print_image};
 pub use reading::read_image;

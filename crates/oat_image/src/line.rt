@@ -1,8 +1,8 @@
 ghost use Rattle.std.specs.Prelude.{◌≡◌, ◌↔◌, ◌<◌, ◌≤◌, ◌^◌, IsTrue, IfOk, Some};
 ghost use Rattle.oat_image.specs.Grammar.{code_line, data_line, cell_line, flag_text, function_line, block_line, IsAddress, IsWord, IsIndex, IsInitWord, IsFunction, IsBlock};
-ghost use Rattle.oat_image.specs.ImageReading.{address_of, number_in, value_of, flag_of, name_of, code_of, data_of, cell_of, function_with, function_of, block_of, no_key, index_key, cell_key, entry_key, start_key};
+ghost use Rattle.oat_image.specs.ImageReading.{eight_digits, number_in, value_of, flag_of, name_in, code_of, data_of, cell_of, function_with, function_of, block_of, no_key, index_key, cell_key, entry_key, start_key};
 
-use crate::fault::LineFault;
+use crate::fault::ImageFaultKind;
 use crate::image::InitWord;
 use crate::receiver::Receiver;
 use crate::text::Form;
@@ -27,55 +27,55 @@ pub(crate) struct FunctionLine;
 
 pub(crate) struct BlockLine;
 
-pub(crate) fn read_address(word: &[u8]) -> Result<u64, LineFault>
-    ensures value { result ≡ address_of word.now }
+pub(crate) fn read_address(word: &[u8]) -> Result<u64, ImageFaultKind>
+    ensures value { result ≡ eight_digits word.now }
     ensures bound { IfOk result (λ n. n < 2 ^ 32) }
 {
     let Some(number) = read_hexadecimal(8, word) else {
-        return Err(LineFault::Number);
+        return Err(ImageFaultKind::Number);
     };
     Ok(number)
 }
 
-pub(crate) fn read_number(least: u64, most: u64, word: &[u8]) -> Result<u64, LineFault>
+pub(crate) fn read_number(least: u64, most: u64, word: &[u8]) -> Result<u64, ImageFaultKind>
     requires { most ≤ 65535 }
     ensures value { result ≡ number_in least most word.now }
     ensures bound { IfOk result (λ n. n ≤ most) }
 {
     let Some(number) = read_decimal(word) else {
-        return Err(LineFault::Number);
+        return Err(ImageFaultKind::Number);
     };
     if number < least || number > most {
-        return Err(LineFault::Number);
+        return Err(ImageFaultKind::Number);
     }
     Ok(number)
 }
 
-fn read_value(word: &[u8]) -> Result<u64, LineFault>
+fn read_value(word: &[u8]) -> Result<u64, ImageFaultKind>
     ensures { result ≡ value_of word.now }
 {
     let Some(value) = read_hexadecimal(16, word) else {
-        return Err(LineFault::Number);
+        return Err(ImageFaultKind::Number);
     };
     if value == 0 {
-        return Err(LineFault::Number);
+        return Err(ImageFaultKind::Number);
     }
     Ok(value)
 }
 
-fn read_flag(word: &[u8]) -> Result<bool, LineFault>
+fn read_flag(word: &[u8]) -> Result<bool, ImageFaultKind>
     ensures { result ≡ flag_of word.now }
 {
     let number = read_number(0, 1, word)?;
     Ok(number == 1)
 }
 
-fn read_name(word: &[u8]) -> Result<Name, LineFault>
-    ensures { result ≡ name_of word.now }
+fn read_name(word: &[u8]) -> Result<Name, ImageFaultKind>
+    ensures { result ≡ name_in word.now }
 {
     match Name::new(word) {
         Some(name) => Ok(name),
-        None => Err(LineFault::Token),
+        None => Err(ImageFaultKind::Token),
     }
 }
 
@@ -103,9 +103,9 @@ impl Form for CodeLine {
     ghost fits = { IsWord };
 
     #[tactic(auto, unfolding(crate::specs::ImageReading::code_of))]
-    fn read(line: &[u8]) -> Result<u32, LineFault> {
+    fn read(line: &[u8]) -> Result<u32, ImageFaultKind> {
         let Some(word) = read_one_field(line) else {
-            return Err(LineFault::Token);
+            return Err(ImageFaultKind::Token);
         };
         let number = read_address(word)?;
         Ok(number as u32)
@@ -138,9 +138,9 @@ impl Form for DataLine {
     ghost fits = { IsInitWord };
 
     #[tactic(auto, unfolding(crate::specs::ImageReading::data_of))]
-    fn read(line: &[u8]) -> Result<InitWord, LineFault> {
+    fn read(line: &[u8]) -> Result<InitWord, ImageFaultKind> {
         let Some((first, second)) = read_two_fields(line) else {
-            return Err(LineFault::Token);
+            return Err(ImageFaultKind::Token);
         };
         let index = read_number(0, 65535, first)? as u32;
         let value = read_value(second)?;
@@ -177,9 +177,9 @@ impl Form for CellLine {
     ghost fits = { IsIndex };
 
     #[tactic(auto, unfolding(crate::specs::ImageReading::cell_of))]
-    fn read(line: &[u8]) -> Result<u32, LineFault> {
+    fn read(line: &[u8]) -> Result<u32, ImageFaultKind> {
         let Some(word) = read_one_field(line) else {
-            return Err(LineFault::Token);
+            return Err(ImageFaultKind::Token);
         };
         let number = read_number(0, 65535, word)?;
         Ok(number as u32)
@@ -205,7 +205,7 @@ fn read_function(
     entry: &[u8],
     params: &[u8],
     flag: &[u8],
-) -> Result<Function, LineFault>
+) -> Result<Function, ImageFaultKind>
     ensures { result ≡ function_with name entry.now params.now flag.now }
 {
     let entry = read_address(entry)?;
@@ -237,9 +237,9 @@ impl Form for FunctionLine {
     ghost fits = { IsFunction };
 
     #[tactic(auto, unfolding(crate::specs::ImageReading::function_of))]
-    fn read(line: &[u8]) -> Result<Function, LineFault> {
+    fn read(line: &[u8]) -> Result<Function, ImageFaultKind> {
         let Some((entry, name, params, flag)) = read_four_fields(line) else {
-            return Err(LineFault::Token);
+            return Err(ImageFaultKind::Token);
         };
         let name = read_name(name)?;
         read_function(name, entry, params, flag)
@@ -279,9 +279,9 @@ impl Form for BlockLine {
     ghost fits = { IsBlock };
 
     #[tactic(auto, unfolding(crate::specs::ImageReading::block_of))]
-    fn read(line: &[u8]) -> Result<Block, LineFault> {
+    fn read(line: &[u8]) -> Result<Block, ImageFaultKind> {
         let Some((start, label)) = read_two_fields(line) else {
-            return Err(LineFault::Token);
+            return Err(ImageFaultKind::Token);
         };
         let label = read_name(label)?;
         let start = read_address(start)?;

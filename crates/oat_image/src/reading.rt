@@ -1,10 +1,10 @@
 ghost use Rattle.std.specs.Prelude.{◌≡◌, ◌≤◌, length, IfOk, Ok};
 ghost use Rattle.oat_image.specs.Grammar.{IsImageText};
-ghost use Rattle.oat_image.specs.Reading.{Answers, Place};
+ghost use Rattle.oat_lines.specs.Faults.{Gives};
 ghost use Rattle.oat_image.specs.ImageReading.{memory_at, map_at, ending_at, parts_at, image_at};
 ghost use Rattle.oat_image.specs.Seen.{seen};
 
-use crate::fault::ImageFault;
+use crate::fault::{ImageFault, ImageFaultKind};
 use crate::image::{Image, InitWord};
 use crate::line::{BlockLine, CellLine, CodeLine, DataLine, FunctionLine};
 use crate::row::RowLine;
@@ -29,7 +29,7 @@ struct Memory {
 
 #[tactic(auto, unfolding(crate::specs::ImageReading::memory_at))]
 fn read_memory(alloc: Global, text: &mut Text<'_>) -> Result<Memory, ImageFault>
-    ensures { Answers (λ m. (m.code.items, m.words.items, m.cells.items, seen text.new)) result
+    ensures { Gives (λ m. (m.code.items, m.words.items, m.cells.items, seen text.new)) result
         (memory_at (seen text.old)) }
 {
     let code = read_section::<CodeLine>(alloc, b"code", 1, MOST_CODE_WORDS, text)?;
@@ -40,7 +40,7 @@ fn read_memory(alloc: Global, text: &mut Text<'_>) -> Result<Memory, ImageFault>
 
 #[tactic(auto, unfolding(crate::specs::ImageReading::map_at))]
 fn read_map(alloc: Global, text: &mut Text<'_>) -> Result<Map, ImageFault>
-    ensures { Answers (λ m. (m, seen text.new)) result (map_at (seen text.old)) }
+    ensures { Gives (λ m. (m, seen text.new)) result (map_at (seen text.old)) }
 {
     let functions = read_section::<FunctionLine>(alloc, b"functions", 0, MOST_CODE_WORDS, text)?;
     let blocks = read_section::<BlockLine>(alloc, b"blocks", 0, MOST_CODE_WORDS, text)?;
@@ -54,18 +54,18 @@ fn read_map(alloc: Global, text: &mut Text<'_>) -> Result<Map, ImageFault>
 
 #[tactic(auto, unfolding(crate::specs::ImageReading::ending_at))]
 fn read_ending(text: &mut Text<'_>) -> Result<(), ImageFault>
-    ensures { Answers (λ _. tt) result (ending_at (seen text.old)) }
+    ensures { Gives (λ _. tt) result (ending_at (seen text.old)) }
 {
     read_fixed(text, b"end")?;
     if !text.rest.is_empty() {
-        return Err(ImageFault::Token(text.line));
+        return Err(ImageFault::At(text.line, ImageFaultKind::Token));
     }
     Ok(())
 }
 
 #[tactic(auto, unfolding(crate::specs::ImageReading::parts_at))]
 fn read_parts(alloc: Global, text: &mut Text<'_>) -> Result<Image, ImageFault>
-    ensures { Answers (λ image. image) result (parts_at (seen text.old)) }
+    ensures { Gives (λ image. image) result (parts_at (seen text.old)) }
 {
     let memory = read_memory(alloc, text)?;
     let map = read_map(alloc, text)?;
@@ -80,7 +80,7 @@ fn read_parts(alloc: Global, text: &mut Text<'_>) -> Result<Image, ImageFault>
 
 #[tactic(auto, unfolding(crate::specs::ImageReading::image_at))]
 fn read_whole(alloc: Global, text: &[u8]) -> Result<Image, ImageFault>
-    ensures { Answers (λ image. image) result (image_at text.now) }
+    ensures { Gives (λ image. image) result (image_at text.now) }
 {
     let mut text = Text {
         rest: text,
@@ -96,9 +96,9 @@ pub fn read_image(alloc: Global, text: &[u8]) -> Result<Image, ImageFault>
     // What is read is an image of this text.
     ensures found { IfOk result (λ image. IsImageText text.now image) }
     // The image of a text is read, unless memory runs out.
-    ensures only { (image : Image) → IsImageText text.now image → Answers (λ i. i) result (Ok image) }
+    ensures only { (image : Image) → IsImageText text.now image → Gives (λ i. i) result (Ok image) }
     // Which fault it is, and of which line.
-    ensures exact { Answers (λ i. i) result (image_at text.now) }
+    ensures exact { Gives (λ i. i) result (image_at text.now) }
 {
     read_whole(alloc, text)
 }

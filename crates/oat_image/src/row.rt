@@ -2,7 +2,7 @@ ghost use Rattle.std.specs.Prelude.{◌≡◌, ◌<◌, ◌≤◌, IfOk};
 ghost use Rattle.oat_image.specs.Grammar.{row_line, IsRow};
 ghost use Rattle.oat_image.specs.ImageReading.{kind_of, sole_address, two_addresses, addresses_of, three_addresses, address_and_number, row_with, row_of, no_key};
 
-use crate::fault::LineFault;
+use crate::fault::ImageFaultKind;
 use crate::line::{is_address, read_address, read_number};
 use crate::receiver::Receiver;
 use crate::text::Form;
@@ -57,21 +57,21 @@ fn read_kind(word: &[u8]) -> Option<RowKind>
 }
 
 #[tactic(auto, unfolding(crate::specs::ImageReading::sole_address))]
-fn read_sole_address(fields: &[u8]) -> Result<u64, LineFault>
+fn read_sole_address(fields: &[u8]) -> Result<u64, ImageFaultKind>
     ensures { result ≡ sole_address fields.now }
 {
     let Some(word) = read_one_field(fields) else {
-        return Err(LineFault::Token);
+        return Err(ImageFaultKind::Token);
     };
     read_address(word)
 }
 
 #[tactic(auto, unfolding(crate::specs::ImageReading::two_addresses))]
-fn read_two_addresses(fields: &[u8]) -> Result<(u64, u64), LineFault>
+fn read_two_addresses(fields: &[u8]) -> Result<(u64, u64), ImageFaultKind>
     ensures { result ≡ two_addresses fields.now }
 {
     let Some((first, second)) = read_two_fields(fields) else {
-        return Err(LineFault::Token);
+        return Err(ImageFaultKind::Token);
     };
     let first = read_address(first)?;
     let second = read_address(second)?;
@@ -79,7 +79,11 @@ fn read_two_addresses(fields: &[u8]) -> Result<(u64, u64), LineFault>
 }
 
 #[tactic(auto, unfolding(crate::specs::ImageReading::addresses_of))]
-fn read_addresses(first: &[u8], second: &[u8], third: &[u8]) -> Result<(u64, u64, u64), LineFault>
+fn read_addresses(
+    first: &[u8],
+    second: &[u8],
+    third: &[u8],
+) -> Result<(u64, u64, u64), ImageFaultKind>
     ensures { result ≡ addresses_of first.now second.now third.now }
 {
     let first = read_address(first)?;
@@ -89,23 +93,27 @@ fn read_addresses(first: &[u8], second: &[u8], third: &[u8]) -> Result<(u64, u64
 }
 
 #[tactic(auto, unfolding(crate::specs::ImageReading::three_addresses))]
-fn read_three_addresses(fields: &[u8]) -> Result<(u64, u64, u64), LineFault>
+fn read_three_addresses(fields: &[u8]) -> Result<(u64, u64, u64), ImageFaultKind>
     ensures { result ≡ three_addresses fields.now }
 {
     let Some((first, second, third)) = read_three_fields(fields) else {
-        return Err(LineFault::Token);
+        return Err(ImageFaultKind::Token);
     };
     read_addresses(first, second, third)
 }
 
 #[tactic(auto, unfolding(crate::specs::ImageReading::address_and_number))]
-fn read_address_and_number(least: u64, most: u64, fields: &[u8]) -> Result<(u64, u64), LineFault>
+fn read_address_and_number(
+    least: u64,
+    most: u64,
+    fields: &[u8],
+) -> Result<(u64, u64), ImageFaultKind>
     requires { most ≤ 65535 }
     ensures value { result ≡ address_and_number least most fields.now }
     ensures bound { IfOk result (λ p. p.1 ≤ most) }
 {
     let Some((first, second)) = read_two_fields(fields) else {
-        return Err(LineFault::Token);
+        return Err(ImageFaultKind::Token);
     };
     let address = read_address(first)?;
     let number = read_number(least, most, second)?;
@@ -114,7 +122,7 @@ fn read_address_and_number(least: u64, most: u64, fields: &[u8]) -> Result<(u64,
 
 /// A row of an operation.
 #[tactic(auto, unfolding(crate::specs::ImageReading::row_with))]
-fn read_row(kind: RowKind, fields: &[u8]) -> Result<Row, LineFault>
+fn read_row(kind: RowKind, fields: &[u8]) -> Result<Row, ImageFaultKind>
     ensures { result ≡ row_with kind fields.now }
 {
     match kind {
@@ -182,12 +190,12 @@ impl Form for RowLine {
     ghost fits = { IsRow };
 
     #[tactic(auto, unfolding(crate::specs::ImageReading::row_of))]
-    fn read(line: &[u8]) -> Result<Row, LineFault> {
+    fn read(line: &[u8]) -> Result<Row, ImageFaultKind> {
         let Some((keyword, fields)) = read_field(line) else {
-            return Err(LineFault::Token);
+            return Err(ImageFaultKind::Token);
         };
         let Some(kind) = read_kind(keyword) else {
-            return Err(LineFault::Token);
+            return Err(ImageFaultKind::Token);
         };
         read_row(kind, fields)
     }

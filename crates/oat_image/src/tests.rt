@@ -203,32 +203,50 @@ fn images_of_all_sections_are_read(rt: HostRuntime) -> Result<(), Fail> {
 #[test]
 fn first_fault_is_named_with_its_line(rt: HostRuntime) {
     let faults: [(&[u8], ImageFault); 14] = [
-        (b"oat-image 3\n", ImageFault::Token(1)),
-        (b"oat-image1\n", ImageFault::Token(1)),
-        (b"oat-image 1\n", ImageFault::Token(2)),
-        (b"oat-image 1\ncode 06\n", ImageFault::Number(2)),
-        (b"oat-image 1\ncode -1\n", ImageFault::Number(2)),
-        (b"oat-image 1\ncode 0\n", ImageFault::Limit(2)),
-        (b"oat-image 1\ncode 131073\n", ImageFault::Limit(2)),
-        (b"oat-image 1\ncode 6\nd2800029\n", ImageFault::Number(3)),
-        (b"oat-image 1\ncode 1\n\n", ImageFault::Token(3)),
+        (b"oat-image 3\n", ImageFault::At(1, ImageFaultKind::Token)),
+        (b"oat-image1\n", ImageFault::At(1, ImageFaultKind::Token)),
+        (b"oat-image 1\n", ImageFault::At(2, ImageFaultKind::Token)),
+        (
+            b"oat-image 1\ncode 06\n",
+            ImageFault::At(2, ImageFaultKind::Number),
+        ),
+        (
+            b"oat-image 1\ncode -1\n",
+            ImageFault::At(2, ImageFaultKind::Number),
+        ),
+        (
+            b"oat-image 1\ncode 0\n",
+            ImageFault::At(2, ImageFaultKind::Limit),
+        ),
+        (
+            b"oat-image 1\ncode 131073\n",
+            ImageFault::At(2, ImageFaultKind::Limit),
+        ),
+        (
+            b"oat-image 1\ncode 6\nd2800029\n",
+            ImageFault::At(3, ImageFaultKind::Number),
+        ),
+        (
+            b"oat-image 1\ncode 1\n\n",
+            ImageFault::At(3, ImageFaultKind::Token),
+        ),
         (
             b"oat-image 1\ncode 1\nD2800029\ndata 1\n0 0000000000000000\n",
-            ImageFault::Number(5),
+            ImageFault::At(5, ImageFaultKind::Number),
         ),
         (
             b"oat-image 1\ncode 1\nD2800029\ndata 2\n1 0000000000000001\n1 0000000000000001\n",
-            ImageFault::Order(6),
+            ImageFault::At(6, ImageFaultKind::Order),
         ),
         (
             b"oat-image 1\ncode 1\nD2800029\ndata 2\n65536 0000000000000001\n",
-            ImageFault::Number(5),
+            ImageFault::At(5, ImageFaultKind::Number),
         ),
         (
             ONE_JUMP_AND_MORE.get(..203).unwrap_or(&[]),
-            ImageFault::Token(19),
+            ImageFault::At(19, ImageFaultKind::Token),
         ),
-        (ONE_JUMP_AND_MORE, ImageFault::Token(20)),
+        (ONE_JUMP_AND_MORE, ImageFault::At(20, ImageFaultKind::Token)),
     ];
     for (text, fault) in faults {
         assert_eq!(rt; read(rt.alloc(), text).err(), Some(fault));
@@ -294,7 +312,7 @@ fn images_out_of_range_or_order_are_not_well_formed(rt: HostRuntime) -> Result<(
 
 #[test]
 fn faults_are_written_as_line_and_kind(rt: HostRuntime) -> Result<(), Fail> {
-    let fault = ImageFault::Order(6);
+    let fault = ImageFault::At(6, ImageFaultKind::Order);
     let text = format!(in rt.alloc(); "{fault}")?;
     assert_eq!(rt; text.as_bytes(), b"6 Order".as_slice());
     Ok(())

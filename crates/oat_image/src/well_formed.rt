@@ -1,6 +1,6 @@
 ghost use Rattle.std.specs.Prelude.{◌≡◌, ◌↔◌, IsTrue, None};
 ghost use Rattle.std.specs.List.{AllByRecursion};
-ghost use Rattle.oat_image.specs.Grammar.{IsWellFormed};
+ghost use Rattle.oat_image.specs.Grammar.{IsWellFormedImage};
 ghost use Rattle.oat_image.specs.Rising.{Rising};
 ghost use Rattle.oat_image.specs.WellFormed.{IsInOrder, IsMemory, IsFlow};
 
@@ -58,7 +58,7 @@ impl Image {
     /// Whether the image is in the ranges and the order of the image text.
     #[tactic(auto, using(crate::proofs::WellFormed::halves))]
     pub fn well_formed(&self) -> bool
-        ensures { IsTrue result ↔ IsWellFormed self.now }
+        ensures { IsTrue result ↔ IsWellFormedImage self.now }
     {
         is_memory(self) && is_map(self)
     }

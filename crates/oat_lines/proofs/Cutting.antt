@@ -4,15 +4,9 @@ use Rattle.std.proofs.lemmas.List.{take_all, length-drop}
 use Rattle.std.specs.Prelude.{if◌then◌else◌, option_map, option_and_then, is_none}
 use Rattle.std.specs.List.{list_all}
 use Rattle.std.proofs.lemmas.List.Folds.{list_all-append}
-use Rattle.std.proofs.lemmas.Bool.{eqb-true, eq-eqb, ne_eqb, ltb-true, lt-ltb}
+use Rattle.std.proofs.lemmas.Bool.{and_parts, eqb-true, eq-eqb, ne_eqb, ltb-true, lt-ltb}
 use Rattle.oat_lines.specs.Fields.{cut, one_field, field_and_rest, two_fields, three_fields, four_fields, spaced, is_visible, IsField}
-use Rattle.oat_lines.proofs.Hexadecimals.{both, chosen}
-
-abbrev some : {A : Type 0} → A → Option A
-some x = Some x
-
-pub some_is : {A : Type 0} (x y : A) → some x ≡ some y → x ≡ y
-some_is x y e = cc
+use Rattle.oat_lines.proofs.Steps.{chosen, some_is}
 
 -- the value of a step that gave one
 pub then_some : {A B : Type 0} (o : Option A) (f : A → Option B) (y : B) → option_and_then f o ≡ Some y → (x : A) × (o ≡ Some x) × (f x ≡ Some y)
@@ -66,7 +60,7 @@ pub cut_again : (byte : ℕ) (front rest : List ℕ) → list_all (λ b. ltb byt
 unfolding cut
 cut_again byte [] rest all = rw (eq-eqb byte byte refl) refl
 cut_again byte (b ∷ bs) rest all =
-    let p = both (ltb byte b) (list_all (λ b. ltb byte b) bs) all in
+    let p = and_parts (ltb byte b) (list_all (λ b. ltb byte b) bs) all in
     let above : byte < b = ltb-true byte b p.0 in
     rw (ne_eqb b byte (λ e. omega arith), cut_again byte bs rest p.1) refl
 
@@ -74,7 +68,7 @@ pub cut_lacks : (byte : ℕ) (text : List ℕ) → list_all (λ b. ltb byte b) t
 unfolding cut
 cut_lacks byte [] all = refl
 cut_lacks byte (b ∷ bs) all =
-    let p = both (ltb byte b) (list_all (λ b. ltb byte b) bs) all in
+    let p = and_parts (ltb byte b) (list_all (λ b. ltb byte b) bs) all in
     let above : byte < b = ltb-true byte b p.0 in
     rw (ne_eqb b byte (λ e. omega arith), cut_lacks byte bs p.1) refl
 
@@ -134,7 +128,7 @@ is_within_line b = ltb 10 b
 visible_within : (word : List ℕ) → list_all is_visible word ≡ true → list_all is_within_line word ≡ true
 visible_within [] all = refl
 visible_within (b ∷ bs) all =
-    let p = both (is_visible b) (list_all is_visible bs) all in
+    let p = and_parts (is_visible b) (list_all is_visible bs) all in
     let above : 32 < b = ltb-true 32 b p.0 in
     rw (lt-ltb 10 b (omega arith), visible_within bs p.1) refl
 

@@ -4,12 +4,12 @@ use Rattle.std.specs.Prelude.{if◌then◌else◌, decimal}
 use Rattle.std.specs.List.{list_all}
 use Rattle.std.specs.Char.{digit_value}
 use Rattle.std.specs.Str.Parse.{digits_value, AllDigits}
-use Rattle.std.proofs.lemmas.Bool.{eq-eqb, ne_eqb, ltb-true, lt-ltb}
+use Rattle.std.proofs.lemmas.Bool.{and_parts, eq-eqb, ne_eqb, ltb-true, lt-ltb}
 use Rattle.std.proofs.lemmas.Bool.Decides.{nat_tests}
 use Rattle.std.proofs.lemmas.Str.Parse.{IsNumeralModel, numerals_by_value, tells_digits, digit_from_value}
 use Rattle.std.proofs.lemmas.Fmt.{digits_decimal, digits_value-decimal, decimal-digits_value, decimal_nonempty, first_decimal, decimal_digit}
 use Rattle.oat_lines.specs.Decimal.{is_decimal_digit, numeral_of, decimal_of, leads_with_zero}
-use Rattle.oat_lines.proofs.Hexadecimals.{both, chosen}
+use Rattle.oat_lines.proofs.Steps.{chosen}
 
 own : IsNumeralModel (AllDigits 10) (digits_value 10)
 own = numerals_by_value (AllDigits 10) tells_digits
@@ -19,7 +19,7 @@ decimal_digit_value c e = grind (arith, nat_tests)
 
 all_digits : (word : List ℕ) → list_all is_decimal_digit word ≡ true → AllDigits 10 word
 all_digits [] e = tt
-all_digits (c ∷ cs) e = let p = both (is_decimal_digit c) (list_all is_decimal_digit cs) e in (decimal_digit_value c p.0, all_digits cs p.1)
+all_digits (c ∷ cs) e = let p = and_parts (is_decimal_digit c) (list_all is_decimal_digit cs) e in (decimal_digit_value c p.0, all_digits cs p.1)
 
 digit_is_decimal : (c : ℕ) → digit_value c < 10 → is_decimal_digit c ≡ true
 digit_is_decimal c lt = let r = digit_from_value c lt in grind (arith, nat_tests)
@@ -55,7 +55,7 @@ pub decimal_takes : (n : ℕ) (word : List ℕ) → n < 2 ^ 64 → decimal_of wo
 decimal_takes n word lt e =
     let plain = kept (leads_with_zero word) (numeral_of word) n e in
     let chose = chosen (ltb 0 (length word) && list_all is_decimal_digit word) (digits_value 10 word) n plain.1 in
-    let tests = both (ltb 0 (length word)) (list_all is_decimal_digit word) chose.0 in
+    let tests = and_parts (ltb 0 (length word)) (list_all is_decimal_digit word) chose.0 in
     let some : 0 < length word = ltb-true 0 (length word) tests.0 in
     let small : digits_value 10 word < 2 ^ 64 = omega (arith, chose.1) in
     sym (decimal-digits_value own word (all_digits word tests.1) some (no_leading_zero word some plain.0) small) ∙ ap decimal chose.1

@@ -4,7 +4,7 @@ use Rattle.std.specs.Prelude.{if◌then◌else◌}
 use Rattle.std.specs.List.{list_all}
 use Rattle.std.specs.Char.{digit_value}
 use Rattle.std.specs.Str.Parse.{digits_value, AllDigits}
-use Rattle.std.proofs.lemmas.Bool.{eqb-true, eq-eqb}
+use Rattle.std.proofs.lemmas.Bool.{and_parts, eqb-true, eq-eqb}
 use Rattle.std.proofs.lemmas.Bool.Decides.{nat_tests}
 use Rattle.std.proofs.lemmas.List.{take_more, take_all, length-append, length-take-le}
 use Rattle.std.proofs.lemmas.List.Folds.{list_all-append}
@@ -13,16 +13,7 @@ use Rattle.std.proofs.lemmas.Nat.{div-mul-add, mod-mul-add}
 use Rattle.std.proofs.Math.Nat.{pow-le-pow_right, pow-succ'}
 use Rattle.oat_lines.specs.Decimal.{capped}
 use Rattle.oat_lines.specs.Hexadecimal.{is_hexadecimal_digit, hexadecimal_of, hexadecimal_digit, hexadecimal}
-
--- what two tests that hold together say
-pub both : (a b : Bool) → (a && b) ≡ true → (a ≡ true) × (b ≡ true)
-both true b e = (refl, e)
-both false b e = absurd cc
-
--- a value that a test let through
-pub chosen : {A : Type 0} (b : Bool) (x y : A) → (if b then Some x else None) ≡ Some y → (b ≡ true) × (x ≡ y)
-chosen true x y e = (refl, cc)
-chosen false x y e = absurd cc
+use Rattle.oat_lines.proofs.Steps.{chosen}
 
 hexadecimal_value : (c : ℕ) → is_hexadecimal_digit c ≡ true → (digit_value c < 16) × (hexadecimal_digit (digit_value c) ≡ c)
 hexadecimal_value c e = (grind (arith, nat_tests), grind (arith, nat_tests))
@@ -32,7 +23,7 @@ value_hexadecimal d lt = (grind (arith, nat_tests), grind (arith, nat_tests))
 
 all_digits : (word : List ℕ) → list_all is_hexadecimal_digit word ≡ true → AllDigits 16 word
 all_digits [] e = tt
-all_digits (c ∷ cs) e = let p = both (is_hexadecimal_digit c) (list_all is_hexadecimal_digit cs) e in ((hexadecimal_value c p.0).0, all_digits cs p.1)
+all_digits (c ∷ cs) e = let p = and_parts (is_hexadecimal_digit c) (list_all is_hexadecimal_digit cs) e in ((hexadecimal_value c p.0).0, all_digits cs p.1)
 
 pub value_fits : (word : List ℕ) → list_all is_hexadecimal_digit word ≡ true → length word ≤ 16 → capped (digits_value 16 word) ≡ digits_value 16 word
 value_fits word e le =
@@ -89,8 +80,8 @@ value_is_spelled zero (c ∷ cs) len all = absurd (omega arith)
 value_is_spelled (suc k) word len all =
     let lt : k < length word = omega arith in
     let parts : word ≡ take k word ++ get_or word k 0 ∷ [] = sym (take_all (k + 1) word (omega arith)) ∙ take_more word k 0 lt in
-    let tests = both (list_all is_hexadecimal_digit (take k word)) (list_all is_hexadecimal_digit (get_or word k 0 ∷ [])) (sym (list_all-append is_hexadecimal_digit (take k word) (get_or word k 0 ∷ [])) ∙ ap (list_all is_hexadecimal_digit) (sym parts) ∙ all) in
-    let one = both (is_hexadecimal_digit (get_or word k 0)) true tests.1 in
+    let tests = and_parts (list_all is_hexadecimal_digit (take k word)) (list_all is_hexadecimal_digit (get_or word k 0 ∷ [])) (sym (list_all-append is_hexadecimal_digit (take k word) (get_or word k 0 ∷ [])) ∙ ap (list_all is_hexadecimal_digit) (sym parts) ∙ all) in
+    let one = and_parts (is_hexadecimal_digit (get_or word k 0)) true tests.1 in
     ap (λ (w : List ℕ). hexadecimal (suc k) (digits_value 16 w)) parts
     ∙ pushed k (take k word) (get_or word k 0) one.0 (value_is_spelled k (take k word) (length-take-le k word (omega arith)) tests.0)
     ∙ sym parts
@@ -99,7 +90,7 @@ value_is_spelled (suc k) word len all =
 pub hexadecimal_takes : (k n : ℕ) (word : List ℕ) → hexadecimal_of k word ≡ Some n → (word ≡ hexadecimal k n) × (n < 16 ^ k)
 hexadecimal_takes k n word e =
     let chose = chosen (eqb (length word) k && list_all is_hexadecimal_digit word) (digits_value 16 word) n e in
-    let tests = both (eqb (length word) k) (list_all is_hexadecimal_digit word) chose.0 in
+    let tests = and_parts (eqb (length word) k) (list_all is_hexadecimal_digit word) chose.0 in
     let len : length word ≡ k = eqb-true (length word) k tests.0 in
     let lt : digits_value 16 word < 16 ^ length word = digits_value-lt 16 word (all_digits word tests.1) in
     subst (λ m. (word ≡ hexadecimal k m) × (m < 16 ^ k)) chose.1 (sym (value_is_spelled k word len tests.1), subst (λ j. digits_value 16 word < 16 ^ j) len lt)

@@ -1,13 +1,18 @@
 -- Integers that are read with a largest one in place of those above it.
-use Rattle.std.proofs.Common.{◌≡◌, ℕ, zero, suc, ◌^◌, ◌<◌, true, false, List, drop, Option, Some, None, ℤ, pos, neg_ℤ, refl, inl, inr, arith}
+use Rattle.std.proofs.Common.{◌≡◌, ℕ, zero, suc, ◌^◌, ◌<◌, true, false, List, drop, Option, Some, None, Result, Ok, ℤ, pos, neg_ℤ, refl, sym, ap, ◌∙◌, inl, inr, arith}
 use Rattle.std.specs.Prelude.{option_map, Err}
 use Rattle.std.specs.Option.{ok_or}
 use Rattle.std.specs.Str.Parse.{starts_with_minus}
-use Rattle.std.proofs.lemmas.Bool.{cases_lt, le-ltb}
+use Rattle.std.proofs.lemmas.Bool.{cases_Bool, cases_lt, le-ltb}
 use Rattle.oat_lines.specs.Decimal.{numeral_of, capped}
 use Rattle.oat_lines.specs.Reading.{◌>>=◌}
-use Rattle.oat_lines.specs.Integer.{is_i64, within_i64, read_as_integer}
-use Rattle.oat_lines.specs.declared.integer.IntegerFault.TheVariants.{Misspelled}
+use Rattle.oat_lines.specs.Integer.{integer_of, is_i64, within_i64, read_as_integer}
+use Rattle.oat_lines.specs.declared.integer.IntegerFault.{IntegerFault}
+use Rattle.oat_lines.specs.declared.integer.IntegerFault.TheVariants.{Misspelled, OutOfRange}
+use Rattle.oat_lines.proofs.Steps.{ok_is, bind_ok, or_ok}
+
+abbrev done : ℤ → Result ℤ IntegerFault
+done x = Ok x
 
 below_all : (z : ℕ) → 2 ^ 63 < z → is_i64 (neg_ℤ (pos z)) ≡ false
 below_all zero far = absurd (omega arith)
@@ -54,3 +59,23 @@ negative_none word minus e = rw minus (no_value (λ m. neg_ℤ (pos m)) (numeral
 pub positive_none : (word : List ℕ) → starts_with_minus word ≡ false → None ≡ option_map capped (numeral_of word) → Err Misspelled ≡ read_as_integer word
 unfolding read_as_integer
 positive_none word minus e = rw minus (no_value (λ m. pos m) (numeral_of word) e)
+
+-- ---- what is read is spelled so and fits, and what is spelled so and fits is read
+
+fitting : (z x : ℤ) → within_i64 z ≡ Ok x → (z ≡ x) × (is_i64 x ≡ true)
+fitting z x e =
+    elim (cases_Bool (is_i64 z)) [
+      | inl fits ↦ let same : z ≡ x = ok_is z x (rw fits at e) in (same, sym (ap is_i64 same) ∙ fits)
+      | inr not ↦ absurd (let bad : Err OutOfRange ≡ done x = rw not at e in cc)
+    ]
+
+pub integer_takes : (word : List ℕ) (x : ℤ) → read_as_integer word ≡ Ok x → (integer_of word ≡ Some x) × (is_i64 x ≡ true)
+unfolding read_as_integer
+integer_takes word x e =
+    let a = bind_ok (ok_or (integer_of word) Misspelled) (λ z. within_i64 z) x e in
+    let r = fitting a.0 x a.2 in
+    (or_ok (integer_of word) Misspelled a.0 a.1 ∙ ap (λ z. Some z) r.0, r.1)
+
+pub integer_again : (word : List ℕ) (x : ℤ) → integer_of word ≡ Some x → is_i64 x ≡ true → read_as_integer word ≡ Ok x
+unfolding read_as_integer
+integer_again word x spelled fits = rw (spelled, fits) refl

@@ -4,6 +4,6 @@ pub mod Decimals
 pub mod Hexadecimals
 pub mod Cutting
 pub mod Steps
-mod Integers
+pub mod Integers
 mod DigitsFilled
 pub mod LowerDigits

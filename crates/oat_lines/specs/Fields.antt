@@ -1,6 +1,14 @@
 -- Texts with one spelling: each line ends with LF, and one space stands between two words of a line (docs/FORMATS.md).
-use Rattle.std.specs.Prelude.{◌≡◌, ℕ, ◌<◌, Bool, true, List, [], ◌∷◌, ◌++◌, ◌==◌, ◌&&◌, length, nat_lt, Option, Some, None, is_none, option_map, option_and_then, if◌then◌else◌}
+use Rattle.std.specs.Prelude.{◌≡◌, ◌≢◌, ℕ, ◌<◌, Bool, true, List, [], ◌∷◌, ◌++◌, ◌==◌, ◌&&◌, length, slice_index, nat_lt, Option, Some, None, is_none, option_map, option_and_then, if◌then◌else◌}
 use Rattle.std.specs.List.{list_all}
+
+-- no such byte stands before this place
+abbrev pub IsFree : ℕ → ℕ → List ℕ → Type 0
+IsFree byte place text = (k : ℕ) → k < place → slice_index text k ≢ byte
+
+-- the place of the first such byte
+abbrev pub IsFirst : ℕ → List ℕ → ℕ → Type 0
+IsFirst byte text place = (place < length text) × (slice_index text place ≡ byte) × IsFree byte place text
 
 -- what stands before the first such byte, and what stands after it
 unfoldable pub cut : ℕ → List ℕ → Option (List ℕ × List ℕ)

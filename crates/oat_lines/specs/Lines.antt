@@ -7,6 +7,10 @@ use Rattle.std.specs.Str.Lines.{lines}
 unfoldable pub lines_of : List ℕ → List (List ℕ)
 lines_of text = lines text
 
+-- a word of a line, by its bytes
+abbrev pub TextWord : Type 0
+TextWord = List ℕ
+
 abbrev pub is_line_feed : ℕ → Bool
 is_line_feed b = b == 10
 

@@ -1,5 +1,5 @@
 -- Reading step by step: the value of each step, or the first fault (docs/DEFINITIONS.md). These are words of this project's own.
-use Rattle.std.specs.Prelude.{◌≡◌, ℕ, Bool, true, false, Result, Ok, Err, nat_le, ◌&&◌}
+use Rattle.std.specs.Prelude.{ℕ, Bool, true, false, Result, Ok, Err, nat_le, ◌&&◌}
 
 -- the next step, where the one before gave a value
 infixl 10 ◌>>=◌
@@ -12,17 +12,6 @@ abbrev pub guard : {E : Type 0} → Bool → E → Result (Unit {0}) E
 guard true e = Ok tt
 guard false e = Err e
 
--- a kind of fault, made a fault by where it is
-abbrev pub at : {A K E : Type 0} → (K → E) → Result A K → Result A E
-at place (Ok x) = Ok x
-at place (Err kind) = Err (place kind)
-
 -- both ends belong to it
 abbrev pub between : ℕ → ℕ → ℕ → Bool
 between low high n = nat_le low n && nat_le n high
-
--- What a call answered, seen by view, is what reading gives. Where it is an Err, fails says what then holds of
--- reading: that it gives this fault, or nothing where memory ran out.
-abbrev pub Gives : {X Y E F : Type 0} → (E → Result Y F → Type 0) → (X → Y) → Result X E → Result Y F → Type 0
-Gives fails view (Ok x) read = read ≡ Ok (view x)
-Gives fails view (Err e) read = fails e read

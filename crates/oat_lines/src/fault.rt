@@ -6,7 +6,7 @@ use std::alloc::{AllocError, AllocFailed};
 use std::fmt;
 
 /// What can be wrong with a line of some form of text.
-pub trait FaultKind: Copy {
+pub trait LineFault: Copy {
     ghost word: { Self → List ℕ };
 
     /// The word for it in a refusal.
@@ -17,19 +17,19 @@ pub trait FaultKind: Copy {
 /// Why a text isn't of its form.
 #[derive(Clone, Copy, Debug, PartialEq, Eq)]
 pub enum Fault<K> {
-    /// Its first bad line, by its number from 1, and what is wrong there.
-    At { line: u32, kind: K },
+    /// The number of its first bad line, from 1, and what is wrong there.
+    At(u32, K),
     /// There was no memory.
     Memory,
 }
 
 /// The outcome of reading the line with this number.
-pub fn at_line<T, K: FaultKind>(line: u32, outcome: Result<T, K>) -> Result<T, Fault<K>>
+pub fn at_line<T, K: LineFault>(line: u32, outcome: Result<T, K>) -> Result<T, Fault<K>>
     ensures { result ≡ at line outcome }
 {
     match outcome {
         Ok(value) => Ok(value),
-        Err(kind) => Err(Fault::At { line, kind }),
+        Err(kind) => Err(Fault::At(line, kind)),
     }
 }
 
@@ -50,7 +50,7 @@ impl<K, T: Drop> From<AllocFailed<T>> for Fault<K> {
 }
 
 /// The line and the word of the kind, as a refusal says them; `Memory` where there was none.
-impl<K: FaultKind> fmt::Display for Fault<K> {
+impl<K: LineFault> fmt::Display for Fault<K> {
     ghost use Rattle.std.specs.Prelude.{Some};
     ghost use Rattle.oat_lines.specs.FaultText.{fault_text};
 
@@ -58,7 +58,7 @@ impl<K: FaultKind> fmt::Display for Fault<K> {
 
     fn fmt<W: fmt::Write>(&self, f: &mut fmt::Formatter<W>) -> fmt::Result {
         match *self {
-            Fault::At { line, kind } => write!(f, "{line} {}", kind.word()),
+            Fault::At(line, kind) => write!(f, "{line} {}", kind.word()),
             Fault::Memory => write!(f, "Memory"),
         }
     }

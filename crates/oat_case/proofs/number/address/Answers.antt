@@ -1,5 +1,5 @@
 use Rattle.std.proofs.Common.{sym, ◌∙◌}
-use Rattle.oat_case.proofs.Numbers.{address_read}
+use Rattle.oat_case.proofs.Addresses.{address_read}
 use Rattle.oat_case.proofs.number.address.Goals as goal
 
 pub returns-then-are_hex_digits : goal.returns-then-are_hex_digits

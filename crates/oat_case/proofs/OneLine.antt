@@ -1,65 +1,56 @@
 -- What a step that gave a value says, and the shape of the lines that stand just once.
-use Rattle.std.proofs.Common.{◌≡◌, ℕ, ◌-◌, ◌^◌, ◌<◌, Bool, true, false, List, [], ◌∷◌, ◌++◌, Option, Some, None, Result, Ok, Err, refl, ap, arith}
+use Rattle.std.proofs.Common.{◌≡◌, ℕ, ◌-◌, ◌^◌, ◌<◌, Bool, true, false, List, [], ◌∷◌, ◌++◌, Option, Some, None, Result, Ok, Err, ℤ, refl, ap, arith}
 use Rattle.std.specs.Prelude.{is_none, option_map}
 use Rattle.std.specs.List.{AllByRecursion}
 use Rattle.std.specs.Option.{ok_or, option_to_list}
 use Rattle.hex.specs.declared.error.FromHexError.{FromHexError}
-use Rattle.oat_lines.specs.Lines.{sole, triple}
+use Rattle.oat_lines.specs.declared.fault.Fault.{Fault}
+use Rattle.oat_lines.specs.declared.fault.Fault.TheVariants.{At}
+use Rattle.oat_lines.specs.declared.integer.IntegerFault.{IntegerFault}
+use Rattle.oat_lines.specs.declared.integer.IntegerFault.TheVariants.{Misspelled, OutOfRange}
+use Rattle.oat_lines.specs.Lines.{TextWord, sole, triple}
 use Rattle.oat_lines.specs.Decimal.{numeral_of, capped}
 use Rattle.oat_lines.specs.Reading.{◌>>=◌, guard}
-use Rattle.oat_case.specs.Grammar.{Word}
-use Rattle.oat_case.specs.Reading.{or_token, number_at}
-use Rattle.oat_case.specs.declared.fault.CaseFault.{CaseFault}
-use Rattle.oat_case.specs.declared.fault.CaseFault.TheVariants.{Token, Twice, Range}
+use Rattle.oat_lines.proofs.Steps.{ok_is, some_is, bind_ok, guarded_ok, or_ok}
+use Rattle.oat_case.specs.Reading.{or_token, numeral_at, integer_or_fault}
+use Rattle.oat_case.specs.declared.fault.CaseFaultKind.{CaseFaultKind}
+use Rattle.oat_case.specs.declared.fault.CaseFaultKind.TheVariants.{Token, Twice, Range}
 
 abbrev pub Step : Type 0 → Type 0
-Step X = Result X CaseFault
+Step X = Result X (Fault CaseFaultKind)
 
 abbrev pub done : {X : Type 0} → X → Step X
 done x = Ok x
-
-pub ok_is : {X : Type 0} (x y : X) → done x ≡ done y → x ≡ y
-ok_is x y e = cc
-
-pub some_is : {X : Type 0} (x y : X) → Some x ≡ Some y → x ≡ y
-some_is x y e = cc
-
-pub bind_ok : {X Y : Type 0} (r : Step X) (f : X → Step Y) (y : Y) → (r >>= f) ≡ Ok y → (x : X) × (r ≡ Ok x) × (f x ≡ Ok y)
-bind_ok (Ok x) f y e = (x, refl, e)
-bind_ok (Err d) f y e = absurd cc
-
-pub guard_ok : {Y : Type 0} (b : Bool) (d : CaseFault) (f : Unit {0} → Step Y) (y : Y) → (guard b d >>= f) ≡ Ok y → (b ≡ true) × (f tt ≡ Ok y)
-guard_ok true d f y e = (refl, e)
-guard_ok false d f y e = absurd cc
-
-pub ok_or_ok : {X : Type 0} (o : Option X) (d : CaseFault) (x : X) → ok_or o d ≡ Ok x → o ≡ Some x
-ok_or_ok None d x e = absurd cc
-ok_or_ok (Some z) d x e = ap (λ w. Some w) (ok_is z x e)
 
 pub or_token_ok : {X : Type 0} (n : ℕ) (r : Result X FromHexError) (x : X) → or_token n r ≡ Ok x → r ≡ Ok x
 or_token_ok n (Ok z) x e = ap (λ w. Ok w) (ok_is z x e)
 or_token_ok n (Err d) x e = absurd cc
 
-pub sole_is : (words : List Word) (word : Word) → sole words ≡ Some word → words ≡ word ∷ []
+pub integer_ok : (n : ℕ) (r : Result ℤ IntegerFault) (x : ℤ) → integer_or_fault n r ≡ Ok x → r ≡ Ok x
+integer_ok n (Ok z) x e = ap (λ w. Ok w) (ok_is z x e)
+integer_ok n (Err Misspelled) x e = absurd cc
+integer_ok n (Err OutOfRange) x e = absurd cc
+
+pub sole_is : (words : List TextWord) (word : TextWord) → sole words ≡ Some word → words ≡ word ∷ []
 sole_is [] word e = absurd cc
-sole_is (first ∷ []) word e = ap (λ (w : Word). w ∷ []) (some_is first word e)
+sole_is (first ∷ []) word e = ap (λ (w : TextWord). w ∷ []) (some_is first word e)
 sole_is (first ∷ second ∷ more) word e = absurd cc
 
-pub triple_is : (words : List Word) (three : Word × Word × Word) → triple words ≡ Some three → words ≡ three.0 ∷ three.1 ∷ three.2 ∷ []
+pub triple_is : (words : List TextWord) (three : TextWord × TextWord × TextWord) → triple words ≡ Some three → words ≡ three.0 ∷ three.1 ∷ three.2 ∷ []
 triple_is [] three e = absurd cc
 triple_is (a ∷ []) three e = absurd cc
 triple_is (a ∷ b ∷ []) three e = absurd cc
-triple_is (a ∷ b ∷ c ∷ []) three e = ap (λ (w : Word × Word × Word). w.0 ∷ w.1 ∷ w.2 ∷ []) (some_is (a, b, c) three e)
+triple_is (a ∷ b ∷ c ∷ []) three e = ap (λ (w : TextWord × TextWord × TextWord). w.0 ∷ w.1 ∷ w.2 ∷ []) (some_is (a, b, c) three e)
 triple_is (a ∷ b ∷ c ∷ d ∷ more) three e = absurd cc
 
-number_takes' : (n : ℕ) (o : Option ℕ) (x : ℕ) → ok_or (option_map capped o) (Token n) ≡ done x → x < 2 ^ 64 - 1 → o ≡ Some x
+number_takes' : (n : ℕ) (o : Option ℕ) (x : ℕ) → ok_or (option_map capped o) (At n Token) ≡ done x → x < 2 ^ 64 - 1 → o ≡ Some x
 number_takes' n None x e low = absurd cc
 number_takes' n (Some m) x e low = let same : capped m ≡ x = ok_is (capped m) x e in ap (λ w. Some w) (omega arith)
 
-pub number_takes : (n : ℕ) (word : Word) (x : ℕ) → number_at n word ≡ Ok x → x < 2 ^ 64 - 1 → numeral_of word ≡ Some x
+pub number_takes : (n : ℕ) (word : TextWord) (x : ℕ) → numeral_at n word ≡ Ok x → x < 2 ^ 64 - 1 → numeral_of word ≡ Some x
 number_takes n word x e low = number_takes' n (numeral_of word) x e low
 
-pub number_again : (n : ℕ) (word : Word) (x : ℕ) → numeral_of word ≡ Some x → x < 2 ^ 64 - 1 → number_at n word ≡ Ok x
+pub number_again : (n : ℕ) (word : TextWord) (x : ℕ) → numeral_of word ≡ Some x → x < 2 ^ 64 - 1 → numeral_at n word ≡ Ok x
 number_again n word x e low = let same : capped x ≡ x = omega arith in rw e (ap done same)
 
 pub none_of : {X : Type 0} (o : Option X) → is_none o ≡ true → o ≡ None
@@ -67,16 +58,16 @@ none_of None e = refl
 none_of (Some x) e = absurd cc
 
 -- a line of one word that may stand once
-abbrev pub one_line : {X G : Type 0} → ℕ → (Word → Step X) → Bool → (X → Bool) → (X → G) → List Word → Step G
+abbrev pub one_line : {X G : Type 0} → ℕ → (TextWord → Step X) → Bool → (X → Bool) → (X → G) → List TextWord → Step G
 one_line n parse free fits make words = do
-  word ← ok_or (sole words) (Token n)
+  word ← ok_or (sole words) (At n Token)
   x ← parse word
-  once ← guard free (Twice n)
-  fit ← guard (fits x) (Range n)
+  once ← guard free (At n Twice)
+  fit ← guard (fits x) (At n Range)
   Ok (make x)
 
-pub record Takes {X : Type 0} {G : Type 0} (parse : Word → Step X) (is_free : Bool) (test : X → Bool) (make : X → G) (line : List Word) (h : G) : Type 0 where
-  pub word : Word
+pub record Takes {X : Type 0} {G : Type 0} (parse : TextWord → Step X) (is_free : Bool) (test : X → Bool) (make : X → G) (line : List TextWord) (h : G) : Type 0 where
+  pub word : TextWord
   pub value : X
   pub words : line ≡ word ∷ []
   pub parses : parse word ≡ Ok value
@@ -84,24 +75,24 @@ pub record Takes {X : Type 0} {G : Type 0} (parse : Word → Step X) (is_free : 
   pub fits : test value ≡ true
   pub made : make value ≡ h
 
-pub one_takes : {X G : Type 0} (n : ℕ) (parse : Word → Step X) (free : Bool) (fits : X → Bool) (make : X → G) (words : List Word) (h : G)
+pub one_takes : {X G : Type 0} (n : ℕ) (parse : TextWord → Step X) (free : Bool) (fits : X → Bool) (make : X → G) (words : List TextWord) (h : G)
     → one_line n parse free fits make words ≡ Ok h → Takes parse free fits make words h
 one_takes n parse free fits make words h e =
-    let a = bind_ok (ok_or (sole words) (Token n)) (λ word. parse word >>= λ x. guard free (Twice n) >>= λ _. guard (fits x) (Range n) >>= λ _. Ok (make x)) h e in
-    let b = bind_ok (parse a.0) (λ x. guard free (Twice n) >>= λ _. guard (fits x) (Range n) >>= λ _. Ok (make x)) h a.2 in
-    let c = guard_ok free (Twice n) (λ _. guard (fits b.0) (Range n) >>= λ _. Ok (make b.0)) h b.2 in
-    let d = guard_ok (fits b.0) (Range n) (λ _. Ok (make b.0)) h c.1 in
+    let a = bind_ok (ok_or (sole words) (At n Token)) (λ word. parse word >>= λ x. guard free (At n Twice) >>= λ _. guard (fits x) (At n Range) >>= λ _. Ok (make x)) h e in
+    let b = bind_ok (parse a.0) (λ x. guard free (At n Twice) >>= λ _. guard (fits x) (At n Range) >>= λ _. Ok (make x)) h a.2 in
+    let c = guarded_ok free (At n Twice) (λ _. guard (fits b.0) (At n Range) >>= λ _. Ok (make b.0)) h b.2 in
+    let d = guarded_ok (fits b.0) (At n Range) (λ _. Ok (make b.0)) h c.1 in
     record {
       word = a.0;
       value = b.0;
-      words = sole_is words a.0 (ok_or_ok (sole words) (Token n) a.0 a.1);
+      words = sole_is words a.0 (or_ok (sole words) (At n Token) a.0 a.1);
       parses = b.1;
       free = c.0;
       fits = d.0;
       made = ok_is (make b.0) h d.1;
     }
 
-pub one_again : {X G : Type 0} (n : ℕ) (parse : Word → Step X) (free : Bool) (fits : X → Bool) (make : X → G) (word : Word) (x : X)
+pub one_again : {X G : Type 0} (n : ℕ) (parse : TextWord → Step X) (free : Bool) (fits : X → Bool) (make : X → G) (word : TextWord) (x : X)
     → parse word ≡ Ok x → free ≡ true → fits x ≡ true → one_line n parse free fits make (word ∷ []) ≡ Ok (make x)
 one_again n parse free fits make word x parses is_free fit = rw (parses, is_free, fit) refl
 
