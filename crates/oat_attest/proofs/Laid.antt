@@ -13,7 +13,7 @@ use Rattle.oat_map.specs.declared.row.Row.TheVariants.{Jump, Branch, Call, ICall
 use Rattle.oat_map.specs.Rows.{address_of, word_count, after, next, start, begins, IsOrdered, entries_of, starts_of, row_over, is_over}
 use Rattle.oat_map.proofs.RowLemmas.{next_lowest}
 use Rattle.oat_image.specs.declared.image.Image.{Image}
-use Rattle.oat_image.specs.Grammar.{IsWellFormed, IsRow, IsIndex}
+use Rattle.oat_image.specs.Grammar.{IsWellFormedImage, IsRow, IsIndex}
 use Rattle.oat_shape.specs.Groups.{Stands, IsGroup}
 use Rattle.oat_shape.specs.MapRules.{LeadsToPlaces}
 use Rattle.oat_shape.specs.Shape.{IsShaped, Covers, IsPlaceOrSite}
@@ -247,7 +247,7 @@ begun-at rows once at op has =
 
 -- ---- all of it
 
-pub laid : (image : Image) → IsWellFormed image → IsShaped image → IsLaid image
+pub laid : (image : Image) → IsWellFormedImage image → IsShaped image → IsLaid image
 laid image formed shaped =
     let rows = image.map.rows in
     let low : AreLow rows = λ r has. each IsRow rows r formed.rows.each has in

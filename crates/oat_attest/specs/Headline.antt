@@ -7,7 +7,7 @@ use Rattle.oat_chain.specs.Chain.{messages, DiffersAt}
 use Rattle.oat_case.specs.declared.case.Session.{Session}
 use Rattle.oat_case.specs.declared.case.Write.{Write}
 use Rattle.oat_image.specs.declared.image.Image.{Image}
-use Rattle.oat_image.specs.Grammar.{IsWellFormed, image_text}
+use Rattle.oat_image.specs.Grammar.{IsWellFormedImage, image_text}
 use Rattle.oat_map.specs.declared.edge.Edge.{Edge}
 use Rattle.oat_map.specs.Walk.{returns_of}
 use Rattle.oat_map.specs.declared.row.Row.{Row}
@@ -29,7 +29,7 @@ use Rattle.oat_verify.specs.Verdict.{Accepts, subject_of, head_of}
 
 -- an image with the shape, and a session for one of its operations, whose window opens at begin_at
 pub record IsSetting (image : Image) (session : Session) (begin_at : ℕ) : Type 0 where
-  pub well_formed : IsWellFormed image
+  pub well_formed : IsWellFormedImage image
   pub shaped : IsShaped image
   pub begins : BeginsAt image.map session.op begin_at
 

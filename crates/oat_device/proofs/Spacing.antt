@@ -13,7 +13,7 @@ use Rattle.oat_map.specs.declared.row.Row.{Row}
 use Rattle.oat_map.specs.declared.row.Row.TheVariants.{Jump, Branch, Call, ICall, Ret, Begin, End, UseCell, DefCell, Check}
 use Rattle.oat_map.specs.Rows.{address_of, word_count}
 use Rattle.oat_image.specs.declared.image.Image.{Image}
-use Rattle.oat_image.specs.Grammar.{IsWellFormed}
+use Rattle.oat_image.specs.Grammar.{IsWellFormedImage}
 use Rattle.oat_shape.specs.Groups.{Stands, IsGroup}
 use Rattle.oat_shape.specs.Shape.{IsShaped, Covers}
 use Rattle.oat_device.specs.Standing.{IsSpaced}
@@ -182,7 +182,7 @@ apart-from code cells (Check at) pc number a g c t =
       | inr e ↦ let same = own code pc (at + 4) (Svc number) _ t.here e g.1.1 in cc
     ]
 
-spaced : (image : Image) (number : ℕ) → IsWellFormed image → IsShaped image → 3 ≤ number → number ≤ 4
+spaced : (image : Image) (number : ℕ) → IsWellFormedImage image → IsShaped image → 3 ≤ number → number ≤ 4
     → IsTrue (leb 1 number && leb number 7) → IsSpaced image.code number
 spaced image number fit shaped least most seen pc here next =
     let place = coded image.code pc (Svc number) fit.code.limited here in
@@ -191,8 +191,8 @@ spaced image number fit shaped least most seen pc here next =
     apart-from image.code image.cells row.0 pc number (at-first image.code image.cells row.0 fit.code.limited group) group row.2
     (record { here = here; next = next; least = least; most = most; aligned = place.0; low = place.1 })
 
-pub bits_spaced : (image : Image) → IsWellFormed image → IsShaped image → IsSpaced image.code 3
+pub bits_spaced : (image : Image) → IsWellFormedImage image → IsShaped image → IsSpaced image.code 3
 bits_spaced image fit shaped = spaced image 3 fit shaped (omega arith) (omega arith) refl
 
-pub targets_spaced : (image : Image) → IsWellFormed image → IsShaped image → IsSpaced image.code 4
+pub targets_spaced : (image : Image) → IsWellFormedImage image → IsShaped image → IsSpaced image.code 4
 targets_spaced image fit shaped = spaced image 4 fit shaped (omega arith) (omega arith) refl

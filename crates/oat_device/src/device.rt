@@ -1,6 +1,6 @@
 ghost use Rattle.std.specs.Prelude.{◌≡◌, ℕ, IfOk, MatchOption, Some};
 ghost use Rattle.oat_case.specs.declared.case.Case.{Case as CaseGiven};
-ghost use Rattle.oat_case.specs.Limits.{IsWellFormed};
+ghost use Rattle.oat_case.specs.Limits.{IsWellFormedCase};
 ghost use Rattle.oat_image.specs.declared.image.Image.{Image as ImageGiven};
 ghost use Rattle.oat_measure.specs.declared.engine.Engine.TheVariants as EngineState;
 ghost use Rattle.oat_measure.specs.Measurement.{sealed};
@@ -48,7 +48,7 @@ impl<'a> Model for Device<'a> {
 impl<'a> Device<'a> {
     /// Takes all memory of the run: its outputs could be one for each step, its branch bits and its indirect targets one for each second step.
     pub fn boot(alloc: Global, shaped: &'a Shaped, case: &'a Case) -> Result<Device<'a>, AllocError>
-        requires well_formed { IsWellFormed case.now }
+        requires well_formed { IsWellFormedCase case.now }
         requires operation { IsOperation shaped.now.map case.now.session.op }
         ensures { IfOk result (λ device. Stands device shaped.now case.now 0) }
     {

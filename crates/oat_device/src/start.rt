@@ -1,6 +1,6 @@
 //! What an image gives a device at its start.
 ghost use Rattle.std.specs.Prelude.{◌≡◌, ◌≤◌, IfOk, length};
-ghost use Rattle.oat_image.specs.Grammar.{IsWellFormed};
+ghost use Rattle.oat_image.specs.Grammar.{IsWellFormedImage};
 ghost use Rattle.oat_measure.specs.Monitored.{cells_of};
 ghost use Rattle.oat_mem.specs.DataMemory.{byte_at};
 ghost use Rattle.oat_journal.specs.Run.{start_memory};
@@ -18,7 +18,7 @@ const GLOBAL_BASE: u64 = 0x4000_0000;
 
 /// Zeros, but for the words that the image gives.
 pub fn start_memory(alloc: Global, image: &Image) -> Result<Memory, AllocError>
-    requires { IsWellFormed image.now }
+    requires { IsWellFormedImage image.now }
     ensures { IfOk result (λ memory. byte_at memory ≡ start_memory image.now.words) }
 {
     let mut memory = Memory::zeroed(alloc)?;
@@ -30,7 +30,7 @@ pub fn start_memory(alloc: Global, image: &Image) -> Result<Memory, AllocError>
 
 /// The first words of the critical cells.
 pub fn start_cells(alloc: Global, image: &Image, memory: &Memory) -> Result<Vec<u64>, AllocError>
-    requires fit { IsWellFormed image.now }
+    requires fit { IsWellFormedImage image.now }
     requires loaded { byte_at memory.now ≡ start_memory image.now.words }
     ensures words { IfOk result (λ cells. cells_of cells.items ≡ start_cells image.now) }
     ensures few { IfOk result (λ cells. length cells.items ≤ 65536) }

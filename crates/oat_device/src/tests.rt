@@ -1,5 +1,5 @@
 ghost use Rattle.std.specs.Prelude.{IfOk, IsTrue};
-ghost use Rattle.oat_case.specs.Limits.{IsWellFormed};
+ghost use Rattle.oat_case.specs.Limits.{IsWellFormedCase};
 ghost use Rattle.oat_map.specs.Rows.{IsOperation};
 
 use crate::Device;
@@ -145,7 +145,7 @@ fn shaped(rt: &impl Abort, alloc: Global, text: &[u8]) -> Result<Shaped, AllocEr
 
 // The case of the session with these lines besides.
 fn case_of(rt: &impl Abort, alloc: Global, lines: &[u8]) -> Result<Case, AllocError>
-    ensures { IfOk result (λ case. IsWellFormed case) }
+    ensures { IfOk result (λ case. IsWellFormedCase case) }
 {
     let mut text = Vec::from_slice(alloc, SESSION)?;
     text.extend_from_slice(lines)?;
@@ -192,7 +192,7 @@ fn assert_run(
     case: &Case,
     want: &Shown<'_>,
 ) -> Result<(), AllocError>
-    requires { IsWellFormed case.now }
+    requires { IsWellFormedCase case.now }
 {
     assert!(rt; has_operation(shaped, case.session.op));
     let mut device = Device::boot(alloc, shaped, case)?;

@@ -12,7 +12,7 @@ use Rattle.oat_map.specs.declared.row.Row.{Row}
 use Rattle.oat_map.specs.declared.row.Row.TheVariants.{Jump, Branch, Call, ICall, Ret, Begin, End, UseCell, DefCell, Check}
 use Rattle.oat_map.specs.Rows.{address_of, after, entries_of, starts_of, is_call}
 use Rattle.oat_image.specs.declared.image.Image.{Image}
-use Rattle.oat_image.specs.Grammar.{IsWellFormed, IsRow}
+use Rattle.oat_image.specs.Grammar.{IsWellFormedImage, IsRow}
 use Rattle.oat_shape.specs.Groups.{IsGroup}
 use Rattle.oat_shape.specs.MapRules.{S2}
 use Rattle.oat_shape.specs.Shape.{Holds, IsReturnSite, IsPlaceOrSite, S3}
@@ -189,11 +189,11 @@ low_row (UseCell at cell) h = h.0
 low_row (DefCell at cell) h = h.0
 low_row (Check at) h = h
 
-pub are_within : (i : Image) (rows : List Row) → rows ≡ i.map.rows → IsWellFormed i → AreWithin rows
+pub are_within : (i : Image) (rows : List Row) → rows ≡ i.map.rows → IsWellFormedImage i → AreWithin rows
 are_within i rows same well row has =
     low_row row (of_each IsRow i.map.rows well.rows.each row (subst (λ (rs : List Row). Contains rs row) same has))
 
-pub are_indices : (i : Image) (cells : List ℕ) → cells ≡ i.cells → IsWellFormed i → AreIndices cells
+pub are_indices : (i : Image) (cells : List ℕ) → cells ≡ i.cells → IsWellFormedImage i → AreIndices cells
 are_indices i cells same well index has =
     of_each (λ n. n ≤ 65535) i.cells well.cells.each index (subst (λ (cs : List ℕ). Contains cs index) same has)
 

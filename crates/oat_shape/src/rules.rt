@@ -1,5 +1,5 @@
 ghost use Rattle.std.specs.Prelude.{IfOk, MatchOption};
-ghost use Rattle.oat_image.specs.Grammar.{IsWellFormed};
+ghost use Rattle.oat_image.specs.Grammar.{IsWellFormedImage};
 ghost use Rattle.oat_shape.specs.Lowest.{Lowest};
 ghost use Rattle.oat_shape.specs.MapRules.{S2, S4, S7, S8};
 ghost use Rattle.oat_shape.specs.Parts.{BreaksLaterRule, KeepsLaterRules};
@@ -27,7 +27,7 @@ pub(crate) struct Broken {
 
 /// The first shape rule that fails, if one does.
 pub(crate) fn first_broken(alloc: Global, image: &Image) -> Result<Option<Broken>, AllocError>
-    requires { IsWellFormed image.now }
+    requires { IsWellFormedImage image.now }
     ensures { IfOk result (λ broken. MatchOption broken (IsShaped image.now) (λ b. IsBroken image.now b.number b.at)) }
 {
     match s1(image) {
@@ -51,7 +51,7 @@ pub(crate) fn first_broken(alloc: Global, image: &Image) -> Result<Option<Broken
 
 /// The first of the rules from S5 on that fails, if one does.
 fn later_broken(alloc: Global, image: &Image) -> Result<Option<Broken>, AllocError>
-    requires well_formed { IsWellFormed image.now }
+    requires well_formed { IsWellFormedImage image.now }
     requires rises { Holds (S2 image.now.map) }
     ensures { IfOk result (λ broken. MatchOption broken (KeepsLaterRules image.now) (λ b. BreaksLaterRule image.now b.number b.at)) }
 {
@@ -76,7 +76,7 @@ fn later_broken(alloc: Global, image: &Image) -> Result<Option<Broken>, AllocErr
 // ---- the lowest address at which each rule fails
 
 fn s1(image: &Image) -> Option<u64>
-    requires { IsWellFormed image.now }
+    requires { IsWellFormedImage image.now }
     ensures { Lowest (S1 image.now) result }
 {
     lowest_undecoded(image.code.as_slice())
@@ -89,7 +89,7 @@ fn s2(image: &Image) -> Option<u64>
 }
 
 fn s3(image: &Image) -> Option<u64>
-    requires well_formed { IsWellFormed image.now }
+    requires well_formed { IsWellFormedImage image.now }
     requires rises { Holds (S2 image.now.map) }
     ensures { Lowest (S3 image.now) result }
 {
@@ -102,7 +102,7 @@ fn s3(image: &Image) -> Option<u64>
 }
 
 fn s4(alloc: Global, image: &Image) -> Result<Option<u64>, AllocError>
-    requires { IsWellFormed image.now }
+    requires { IsWellFormedImage image.now }
     ensures { IfOk result (λ lowest. Lowest (S4 image.now.map) lowest) }
 {
     let entries = entries(alloc, image.map.functions.as_slice())?;
@@ -115,7 +115,7 @@ fn s4(alloc: Global, image: &Image) -> Result<Option<u64>, AllocError>
 }
 
 fn s5(alloc: Global, image: &Image) -> Result<Option<u64>, AllocError>
-    requires well_formed { IsWellFormed image.now }
+    requires well_formed { IsWellFormedImage image.now }
     requires rises { Holds (S2 image.now.map) }
     ensures { IfOk result (λ lowest. Lowest (S5 image.now) lowest) }
 {
@@ -149,7 +149,7 @@ fn s7(alloc: Global, image: &Image) -> Result<Option<u64>, AllocError>
 }
 
 fn s8(alloc: Global, image: &Image) -> Result<Option<u64>, AllocError>
-    requires { IsWellFormed image.now }
+    requires { IsWellFormedImage image.now }
     ensures { IfOk result (λ lowest. Lowest (S8 image.now.map) lowest) }
 {
     let entries = entries(alloc, image.map.functions.as_slice())?;

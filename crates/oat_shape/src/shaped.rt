@@ -1,6 +1,6 @@
 ghost use Rattle.std.specs.Prelude.{◌≡◌, IfOk, IfErr, MatchOption};
 ghost use Rattle.sha2.specs.Sha256.{sha256};
-ghost use Rattle.oat_image.specs.Grammar.{IsWellFormed, image_text};
+ghost use Rattle.oat_image.specs.Grammar.{IsWellFormedImage, image_text};
 ghost use Rattle.oat_shape.specs.Refusal.{IsFault};
 ghost use Rattle.oat_shape.specs.Shape.{IsShaped};
 ghost use Rattle.oat_map.specs.Rows.{BeginsAt, IsOperation};
@@ -21,7 +21,7 @@ pub struct Shaped {
 impl Model for Shaped {
     ghost use Rattle.std.specs.Prelude.{◌≡◌};
     ghost use Rattle.sha2.specs.Sha256.{sha256};
-    ghost use Rattle.oat_image.specs.Grammar.{IsWellFormed, image_text};
+    ghost use Rattle.oat_image.specs.Grammar.{IsWellFormedImage, image_text};
     ghost use Rattle.oat_image.specs.declared.image.Image.{Image};
     ghost use Rattle.oat_shape.specs.Shape.{IsShaped};
 
@@ -29,12 +29,12 @@ impl Model for Shaped {
 
     ghost view = { λ shaped. shaped.image };
 
-    ghost invariant = { λ shaped. IsWellFormed shaped.image × IsShaped shaped.image × (shaped.digest ≡ sha256 (image_text shaped.image)) };
+    ghost invariant = { λ shaped. IsWellFormedImage shaped.image × IsShaped shaped.image × (shaped.digest ≡ sha256 (image_text shaped.image)) };
 }
 
 /// Takes an image that has the shape, and hands any other back with the first rule that it breaks.
 pub fn check_shape(alloc: Global, image: Image) -> Result<Shaped, ShapeRefusal>
-    requires { IsWellFormed image }
+    requires { IsWellFormedImage image }
     ensures same { IfOk result (λ shaped. shaped ≡ image) }
     ensures shaped { IfOk result (λ shaped. IsShaped shaped) }
     ensures handed_back { IfErr result (λ refusal. refusal.image ≡ image) }
@@ -62,7 +62,7 @@ pub fn check_shape(alloc: Global, image: Image) -> Result<Shaped, ShapeRefusal>
 impl Shaped {
     pub fn image(&self) -> &Image
         ensures same { result.now ≡ self.now }
-        ensures well_formed { IsWellFormed self.now }
+        ensures well_formed { IsWellFormedImage self.now }
         ensures shaped { IsShaped self.now }
     {
         &self.image

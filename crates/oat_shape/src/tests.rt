@@ -1,5 +1,5 @@
 ghost use Rattle.std.specs.Prelude.{IfOk};
-ghost use Rattle.oat_image.specs.Grammar.{IsWellFormed};
+ghost use Rattle.oat_image.specs.Grammar.{IsWellFormedImage};
 
 use super::*;
 use oat_image::{Image, read_image};
@@ -104,7 +104,7 @@ fn image_of(
     data_and_cells: &[u8],
     sections: &Sections<'_>,
 ) -> Result<Image, AllocError>
-    ensures { IfOk result (λ image. IsWellFormed image) }
+    ensures { IfOk result (λ image. IsWellFormedImage image) }
 {
     let mut text = Vec::new(alloc);
     text.extend_from_slice(b"oat-image 1\n")?;

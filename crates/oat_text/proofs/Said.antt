@@ -13,7 +13,7 @@ use Rattle.oat_lines.specs.Integer.{is_i64}
 use Rattle.oat_lines.specs.Fields.{is_visible}
 use Rattle.oat_lines.specs.Lines.{is_comment}
 use Rattle.oat_lines.proofs.Decimals.{decimal_digits, decimal_again}
-use Rattle.oat_lines.proofs.Hexadecimals.{both}
+use Rattle.std.proofs.lemmas.Bool.{and_parts}
 use Rattle.oat_map.specs.Name.{IsName, IsNameByte}
 use Rattle.oat_ir.specs.declared.func.Ty.{Ty}
 use Rattle.oat_ir.specs.declared.func.Ty.TheVariants.{I64, Fn}
@@ -87,13 +87,13 @@ digit_seen c e = (grind (arith, nat_tests), grind (arith, nat_tests), grind (ari
 digits_visible : (word : Word) → list_all is_decimal_digit word ≡ true → list_all is_visible word ≡ true
 digits_visible [] e = refl
 digits_visible (c ∷ cs) e =
-    let p = both (is_decimal_digit c) (list_all is_decimal_digit cs) e in
+    let p = and_parts (is_decimal_digit c) (list_all is_decimal_digit cs) e in
     rw ((digit_seen c p.0).0, digits_visible cs p.1) refl
 
 digits_plain : (word : Word) → list_all is_decimal_digit word ≡ true → 0 < length word → IsPlain word × (starts_with_minus word ≡ false)
 digits_plain [] e some = absurd (omega arith)
 digits_plain (c ∷ cs) e some =
-    let p = both (is_decimal_digit c) (list_all is_decimal_digit cs) e in
+    let p = and_parts (is_decimal_digit c) (list_all is_decimal_digit cs) e in
     let seen = digit_seen c p.0 in
     (record { visible = digits_visible (c ∷ cs) e; nonempty = some; counts = seen.1 }, seen.2)
 

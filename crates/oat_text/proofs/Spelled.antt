@@ -8,7 +8,7 @@ use Rattle.std.proofs.lemmas.List.Folds.{list_all-append}
 use Rattle.std.proofs.lemmas.List.Splits.{slice_split_at, slice_split_none, length-slice_split}
 use Rattle.oat_lines.specs.Lines.{lines_of, words_of, is_blank, has_bytes, is_comment}
 use Rattle.oat_lines.specs.Fields.{spaced, ended, is_visible}
-use Rattle.oat_lines.proofs.Hexadecimals.{both}
+use Rattle.std.proofs.lemmas.Bool.{and_parts}
 
 -- a word that is printed
 pub record IsPlain (word : List ℕ) : Type 0 where
@@ -25,7 +25,7 @@ no_blank b e =
 
 solid : (word : List ℕ) → list_all is_visible word ≡ true → AllByRecursion (λ b. is_blank b ≡ false) word
 solid [] e = tt
-solid (b ∷ bs) e = let p = both (is_visible b) (list_all is_visible bs) e in (no_blank b p.0, solid bs p.1)
+solid (b ∷ bs) e = let p = and_parts (is_visible b) (list_all is_visible bs) e in (no_blank b p.0, solid bs p.1)
 
 some_bytes : (word : List ℕ) → 0 < length word → has_bytes word ≡ true
 some_bytes [] some = absurd (omega arith)
@@ -52,7 +52,7 @@ is_within b = ltb 13 b
 visible_within : (word : List ℕ) → list_all is_visible word ≡ true → list_all is_within word ≡ true
 visible_within [] e = refl
 visible_within (b ∷ bs) e =
-    let p = both (is_visible b) (list_all is_visible bs) e in
+    let p = and_parts (is_visible b) (list_all is_visible bs) e in
     let above : 32 < b = ltb-true 32 b p.0 in
     rw (lt-ltb 13 b (omega arith), visible_within bs p.1) refl
 
@@ -65,14 +65,14 @@ spaced_within (word ∷ next ∷ words) plain =
 no_feed : (line : List ℕ) → list_all is_within line ≡ true → AllByRecursion (λ b. eqb b 10 ≡ false) line
 no_feed [] e = tt
 no_feed (b ∷ bs) e =
-    let p = both (is_within b) (list_all is_within bs) e in
+    let p = and_parts (is_within b) (list_all is_within bs) e in
     let above : 13 < b = ltb-true 13 b p.0 in
     (ne_eqb b 10 (λ f. omega arith), no_feed bs p.1)
 
 no_return : (line : List ℕ) → list_all is_within line ≡ true → AllByRecursion (λ b. eqb b 13 ≡ false) line
 no_return [] e = tt
 no_return (b ∷ bs) e =
-    let p = both (is_within b) (list_all is_within bs) e in
+    let p = and_parts (is_within b) (list_all is_within bs) e in
     let above : 13 < b = ltb-true 13 b p.0 in
     (ne_eqb b 13 (λ f. omega arith), no_return bs p.1)
 

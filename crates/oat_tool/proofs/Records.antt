@@ -5,7 +5,7 @@ use Rattle.std.proofs.lemmas.Bool.{and_parts, leb-true}
 use Rattle.oat_blob.specs.Body.{Body}
 use Rattle.oat_case.specs.declared.case.Case.{Case}
 use Rattle.oat_case.specs.declared.case.Write.{Write}
-use Rattle.oat_case.specs.Limits.{IsWellFormed}
+use Rattle.oat_case.specs.Limits.{IsWellFormedCase}
 use Rattle.oat_image.specs.declared.image.Image.{Image}
 use Rattle.oat_measure.specs.declared.opening.Opening.{Opening}
 use Rattle.oat_measure.specs.Monitor.{opens}
@@ -134,7 +134,7 @@ pub record IsSmall (shown : Monitored) : Type 0 where
   pub bits : length shown.bits < 2 ^ 32
   pub targets : length shown.targets < 2 ^ 32
 
-pub reported_small : (image : Image) (case : Case) (at : ℕ) (shown : Monitored) → IsWellFormed case
+pub reported_small : (image : Image) (case : Case) (at : ℕ) (shown : Monitored) → IsWellFormedCase case
     → reported shown ≡ body_of (opening_of image case.session at) (run_of image case at).state → IsSmall shown
 reported_small image case at shown formed same =
     let few = run_few image (opening_of image case.session at) case.inputs case.writes case.steps in

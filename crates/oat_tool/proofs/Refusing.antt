@@ -2,22 +2,24 @@
 use Rattle.std.proofs.Common.{◌≡◌, ◌≢◌, ◌∙◌, ℕ, List, Result, Ok, Err, refl, sym, ap}
 use Rattle.oat_map.specs.declared.map.Map.{Map}
 use Rattle.oat_image.specs.declared.image.Image.{Image}
-use Rattle.oat_image.specs.declared.fault.ImageFault.{ImageFault}
-use Rattle.oat_image.specs.declared.fault.ImageFault.TheVariants as image
-use Rattle.oat_image.specs.FaultText as image_text
+use Rattle.oat_lines.specs.declared.fault.Fault.{Fault}
+use Rattle.oat_image.specs.declared.fault.ImageFaultKind.{ImageFaultKind}
+use Rattle.oat_lines.specs.declared.fault.Fault.TheVariants.{Memory}
+use Rattle.oat_lines.specs.Faults.{Fails}
+use Rattle.oat_lines.proofs.Steps.{is_fault}
+use Rattle.oat_image.specs.FaultText.{image_fault_word}
 use Rattle.oat_image.specs.Grammar.{IsImageText}
-use Rattle.oat_image.specs.Reading as reading
 use Rattle.oat_image.specs.ImageReading.{image_at}
 use Rattle.oat_image.proofs.Images.{image_again}
 use Rattle.oat_shape.specs.Shape.{IsShaped}
 use Rattle.oat_map.specs.Rows.{IsOperation}
 use Rattle.oat_shape.proofs.Refusals.{shape_is_decided}
 use Rattle.oat_case.specs.declared.case.Case.{Case}
-use Rattle.oat_case.specs.declared.fault.CaseFault.{CaseFault}
-use Rattle.oat_case.specs.declared.fault.CaseFault.TheVariants as case
-use Rattle.oat_case.specs.FaultText as case_text
+use Rattle.oat_case.specs.declared.fault.CaseFaultKind.{CaseFaultKind}
+use Rattle.oat_lines.specs.FaultText.{fault_text}
+use Rattle.oat_case.specs.FaultText.{case_fault_word}
 use Rattle.oat_case.specs.Grammar.{IsCaseText}
-use Rattle.oat_case.specs.Reading.{Fails, case_of}
+use Rattle.oat_case.specs.Reading.{case_of}
 use Rattle.oat_case.proofs.Law.{is_read}
 use Rattle.oat_tool.specs.Outcome.{Outcome}
 use Rattle.oat_tool.specs.Texts.{refused}
@@ -27,31 +29,15 @@ use Rattle.oat_tool.specs.Laws.{IsOne}
 
 -- ---- a reader's fault
 
-first_image : (fault : ImageFault) (read : Result Image ImageFault) → fault ≢ image.Memory → reading.fails fault read → read ≡ Err fault
-first_image image.Memory read other given = absurd (other refl)
-first_image (image.Token number) read other given = given
-first_image (image.Number number) read other given = given
-first_image (image.Order number) read other given = given
-first_image (image.Limit number) read other given = given
-
-pub refuses_image : (name text : List ℕ) (fault : ImageFault) (o : Outcome) → fault ≢ image.Memory
-    → reading.fails fault (image_at text) → o ≡ refused name (image_text.fault_text fault) → RefusesImage name text o
+pub refuses_image : (name text : List ℕ) (fault : Fault ImageFaultKind) (o : Outcome) → fault ≢ Memory
+    → Fails fault (image_at text) → o ≡ refused name (fault_text image_fault_word fault) → RefusesImage name text o
 refuses_image name text fault o other given told =
-    record { fault = fault; first = first_image fault (image_at text) other given; told = told }
+    record { fault = fault; first = is_fault fault (image_at text) other given; told = told }
 
-first_case : (fault : CaseFault) (read : Result Case CaseFault) → fault ≢ case.Memory → Fails fault read → read ≡ Err fault
-first_case case.Memory read other given = absurd (other refl)
-first_case (case.Token number) read other given = given
-first_case (case.Missing number) read other given = given
-first_case (case.Twice number) read other given = given
-first_case (case.Range number) read other given = given
-first_case (case.Order number) read other given = given
-first_case (case.OutsideData number) read other given = given
-
-pub refuses_case : (name text : List ℕ) (fault : CaseFault) (o : Outcome) → fault ≢ case.Memory
-    → Fails fault (case_of text) → o ≡ refused name (case_text.fault_text fault) → RefusesCase name text o
+pub refuses_case : (name text : List ℕ) (fault : Fault CaseFaultKind) (o : Outcome) → fault ≢ Memory
+    → Fails fault (case_of text) → o ≡ refused name (fault_text case_fault_word fault) → RefusesCase name text o
 refuses_case name text fault o other given told =
-    record { fault = fault; first = first_case fault (case_of text) other given; told = told }
+    record { fault = fault; first = is_fault fault (case_of text) other given; told = told }
 
 -- ---- one value, or one fault
 
@@ -76,7 +62,7 @@ image_apart name text image o read refuses = never image refuses.fault (image_at
 
 pub one_image_refusal : (name text : List ℕ) → IsOne (RefusesImage name text)
 one_image_refusal name text o p one two =
-    one.told ∙ (ap (λ fault. refused name (image_text.fault_text fault)) (err_one one.fault two.fault (image_at text) one.first two.first) ∙ sym two.told)
+    one.told ∙ (ap (λ fault. refused name (fault_text image_fault_word fault)) (err_one one.fault two.fault (image_at text) one.first two.first) ∙ sym two.told)
 
 pub one_case : (text : List ℕ) (case other : Case) → IsCaseText text case → IsCaseText text other → other ≡ case
 one_case text case other one two = ok_one case other (case_of text) (is_read text case one) (is_read text other two)
@@ -86,7 +72,7 @@ case_apart name text case o read refuses = never case refuses.fault (case_of tex
 
 pub one_case_refusal : (name text : List ℕ) → IsOne (RefusesCase name text)
 one_case_refusal name text o p one two =
-    one.told ∙ (ap (λ fault. refused name (case_text.fault_text fault)) (err_one one.fault two.fault (case_of text) one.first two.first) ∙ sym two.told)
+    one.told ∙ (ap (λ fault. refused name (fault_text case_fault_word fault)) (err_one one.fault two.fault (case_of text) one.first two.first) ∙ sym two.told)
 
 pub shape_apart : (name : List ℕ) (image : Image) (o : Outcome) → IsShaped image → RefusesShape name image o → ⊥
 shape_apart name image o shaped refuses = (shape_is_decided image refuses.number refuses.at refuses.broken).0 shaped

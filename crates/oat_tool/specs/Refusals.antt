@@ -4,13 +4,15 @@ use Rattle.std.specs.Prelude.{◌≡◌, ℕ, List, ◌++◌, codes, Err}
 use Rattle.std.specs.Fmt.{decimal}
 use Rattle.oat_map.specs.declared.map.Map.{Map}
 use Rattle.oat_image.specs.declared.image.Image.{Image}
-use Rattle.oat_image.specs.declared.fault.ImageFault.{ImageFault}
-use Rattle.oat_image.specs.FaultText as image
+use Rattle.oat_lines.specs.declared.fault.Fault.{Fault}
+use Rattle.oat_image.specs.declared.fault.ImageFaultKind.{ImageFaultKind}
+use Rattle.oat_image.specs.FaultText.{image_fault_word}
 use Rattle.oat_image.specs.ImageReading.{image_at}
 use Rattle.oat_shape.specs.Shape.{IsBroken}
 use Rattle.oat_map.specs.Rows.{IsOperation}
-use Rattle.oat_case.specs.declared.fault.CaseFault.{CaseFault}
-use Rattle.oat_case.specs.FaultText as case
+use Rattle.oat_case.specs.declared.fault.CaseFaultKind.{CaseFaultKind}
+use Rattle.oat_lines.specs.FaultText.{fault_text}
+use Rattle.oat_case.specs.FaultText.{case_fault_word}
 use Rattle.oat_case.specs.Reading.{case_of}
 use Rattle.oat_tool.specs.Outcome.{Outcome}
 use Rattle.oat_tool.specs.Texts.{refused, no_operation, long_address}
@@ -21,9 +23,9 @@ rule_reason number at = codes "S" ++ decimal number ++ codes " " ++ long_address
 
 -- An image text is refused for its first fault.
 pub record RefusesImage (name text : List ℕ) (o : Outcome) : Type 0 where
-  pub fault : ImageFault
+  pub fault : Fault ImageFaultKind
   pub first : image_at text ≡ Err fault
-  pub told : o ≡ refused name (image.fault_text fault)
+  pub told : o ≡ refused name (fault_text image_fault_word fault)
 
 -- An image is refused for the first shape rule that it breaks, at the lowest address.
 pub record RefusesShape (name : List ℕ) (image : Image) (o : Outcome) : Type 0 where
@@ -34,9 +36,9 @@ pub record RefusesShape (name : List ℕ) (image : Image) (o : Outcome) : Type 0
 
 -- A case text is refused for its first fault.
 pub record RefusesCase (name text : List ℕ) (o : Outcome) : Type 0 where
-  pub fault : CaseFault
+  pub fault : Fault CaseFaultKind
   pub first : case_of text ≡ Err fault
-  pub told : o ≡ refused name (case.fault_text fault)
+  pub told : o ≡ refused name (fault_text case_fault_word fault)
 
 -- A case is refused for an operation that isn't the map's.
 pub record RefusesOperation (name : List ℕ) (flow : Map) (op : ℕ) (o : Outcome) : Type 0 where

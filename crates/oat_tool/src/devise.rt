@@ -1,6 +1,6 @@
 ghost use Rattle.std.specs.Prelude.{◌<◌, ◌≤◌, ◌^◌, length, IfOk};
 ghost use Rattle.oat_blob.specs.Layout.{IsBlobOf};
-ghost use Rattle.oat_case.specs.Limits.{IsWellFormed};
+ghost use Rattle.oat_case.specs.Limits.{IsWellFormedCase};
 ghost use Rattle.oat_map.specs.Rows.{IsOperation};
 ghost use Rattle.oat_device.specs.Standing.{reported};
 ghost use Rattle.oat_tool.specs.Devises.{Devises, Runs};
@@ -27,7 +27,7 @@ fn blob_under(alloc: Global, sealed: &Sealed, key: &[u8]) -> Result<Vec<u8>, All
 
 /// Makes the measured run of a case, and gives its page.
 fn run_case(alloc: Global, shaped: &Shaped, case: &Case) -> Result<Page, AllocError>
-    requires well_formed { IsWellFormed case.now }
+    requires well_formed { IsWellFormedCase case.now }
     requires operation { IsOperation shaped.now.map case.now.session.op }
     ensures { IfOk result (λ page. Runs shaped.now case.now (outcome_of page)) }
 {

@@ -1,11 +1,11 @@
 ghost use Rattle.std.specs.Prelude.{◌≡◌, ◌≢◌, ◌≤◌, length, IfOk, MatchResult};
-ghost use Rattle.oat_image.specs.declared.fault.ImageFault.TheVariants as image;
-ghost use Rattle.oat_image.specs.FaultText as image_text;
-ghost use Rattle.oat_image.specs.Grammar.{IsImageText, IsWellFormed};
+ghost use Rattle.oat_lines.specs.declared.fault.Fault.TheVariants.{Memory};
+ghost use Rattle.oat_image.specs.FaultText.{image_fault_word};
+ghost use Rattle.oat_image.specs.Grammar.{IsImageText, IsWellFormedImage};
 ghost use Rattle.oat_shape.specs.Shape.{IsShaped};
 ghost use Rattle.oat_map.specs.Rows.{IsOperation};
-ghost use Rattle.oat_case.specs.declared.fault.CaseFault.TheVariants as case;
-ghost use Rattle.oat_case.specs.FaultText as case_text;
+ghost use Rattle.oat_lines.specs.FaultText.{fault_text};
+ghost use Rattle.oat_case.specs.FaultText.{case_fault_word};
 ghost use Rattle.oat_case.specs.Grammar.{IsCaseText};
 ghost use Rattle.oat_tool.specs.Texts.{refused};
 ghost use Rattle.oat_tool.specs.Refusals.{RefusesImage, RefusesShape, RefusesCase, RefusesOperation, RefusesBlob};
@@ -22,8 +22,8 @@ use std::alloc::{AllocError, Global};
 
 /// What is said of an image text's fault; the error is want of memory.
 fn image_fault_page(alloc: Global, name: &str, fault: ImageFault) -> Result<Page, AllocError>
-    ensures of_text { IfOk result (λ page. fault ≢ image.Memory) }
-    ensures told { IfOk result (λ page. outcome_of page ≡ refused name.now (image_text.fault_text fault)) }
+    ensures of_text { IfOk result (λ page. fault ≢ Memory) }
+    ensures told { IfOk result (λ page. outcome_of page ≡ refused name.now (fault_text image_fault_word fault)) }
 {
     match fault {
         ImageFault::Memory => Err(AllocError),
@@ -44,7 +44,7 @@ pub fn image_of(alloc: Global, name: &str, text: &[u8]) -> Result<Image, Stop>
 
 /// The image, which has the shape.
 pub fn shaped_of(alloc: Global, name: &str, image: Image) -> Result<Shaped, Stop>
-    requires { IsWellFormed image }
+    requires { IsWellFormedImage image }
     ensures { MatchResult result (λ shaped. (shaped ≡ image) × IsShaped image) (Stops (RefusesShape name.now image)) }
 {
     match check_shape(alloc, image) {
@@ -60,8 +60,8 @@ pub fn shaped_of(alloc: Global, name: &str, image: Image) -> Result<Shaped, Stop
 
 /// What is said of a case text's fault; the error is want of memory.
 fn case_fault_page(alloc: Global, name: &str, fault: CaseFault) -> Result<Page, AllocError>
-    ensures of_text { IfOk result (λ page. fault ≢ case.Memory) }
-    ensures told { IfOk result (λ page. outcome_of page ≡ refused name.now (case_text.fault_text fault)) }
+    ensures of_text { IfOk result (λ page. fault ≢ Memory) }
+    ensures told { IfOk result (λ page. outcome_of page ≡ refused name.now (fault_text case_fault_word fault)) }
 {
     match fault {
         CaseFault::Memory => Err(AllocError),
