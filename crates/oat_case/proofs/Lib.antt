@@ -3,6 +3,7 @@ mod Loop
 mod OneLine
 mod Statements
 mod Completion
-pub mod Law
+mod Law
+pub mod CaseTexts
 mod WritesInLimits
 mod WritesMade

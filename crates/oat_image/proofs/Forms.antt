@@ -16,7 +16,7 @@ use Rattle.oat_map.specs.declared.map.Block.{Block}
 use Rattle.oat_image.specs.declared.image.InitWord.{InitWord}
 use Rattle.oat_image.specs.declared.fault.ImageFaultKind.TheVariants.{Token, Number}
 use Rattle.oat_image.specs.Grammar.{code_line, data_line, cell_line, function_line, block_line, flag_text, IsWord, IsIndex, IsInitWord, IsFunction, IsBlock}
-use Rattle.oat_image.specs.ImageReading.{eight_digits, number_in, value_of, flag_of, is_name, name_in, code_of, data_of, cell_of, function_with, function_of, block_of}
+use Rattle.oat_image.specs.ImageReading.{eight_digits, number_in, value_of, flag_of, is_name, spelled_name, code_of, data_of, cell_of, function_with, function_of, block_of}
 use Rattle.oat_image.proofs.Names.{name_from_test, test_from_name, name_field}
 use Rattle.oat_lines.proofs.Steps.{bind_ok, ok_is, or_ok, guard_ok}
 use Rattle.oat_image.proofs.Sections.{IsForm, between_takes, between_again, decimal_field, hexadecimal_field}
@@ -81,12 +81,12 @@ name_test : (t : Bool) (word name : List ℕ) → (if t then Ok word else Err To
 name_test true word name e = (refl, ok_is word name e)
 name_test false word name e = absurd cc
 
-name_takes : (word name : List ℕ) → name_in word ≡ Ok name → (word ≡ name) × IsName name
+name_takes : (word name : List ℕ) → spelled_name word ≡ Ok name → (word ≡ name) × IsName name
 name_takes word name e =
     let t = name_test (is_name word) word name e in
     (t.1, subst (λ (n : List ℕ). IsName n) t.1 (name_from_test word t.0))
 
-name_again : (name : List ℕ) → IsName name → name_in name ≡ Ok name
+name_again : (name : List ℕ) → IsName name → spelled_name name ≡ Ok name
 name_again name is = rw (test_from_name name is) refl
 
 -- ---- lines
@@ -169,8 +169,8 @@ with_again x fits = rw (address_again x.entry fits.entry, number_again 0 4 x.par
 function_takes : (line : List ℕ) (x : Function) → function_of line ≡ Ok x → (line ≡ function_line x) × IsFunction x
 unfolding function_of
 function_takes line x e =
-    let a = bind_ok (ok_or (four_fields line) Token) (λ words. name_in words.1 >>= λ name. function_with name words.0 words.2 words.3) x e in
-    let b = bind_ok (name_in a.0.1) (λ name. function_with name a.0.0 a.0.2 a.0.3) x a.2 in
+    let a = bind_ok (ok_or (four_fields line) Token) (λ words. spelled_name words.1 >>= λ name. function_with name words.0 words.2 words.3) x e in
+    let b = bind_ok (spelled_name a.0.1) (λ name. function_with name a.0.0 a.0.2 a.0.3) x a.2 in
     let name = name_takes a.0.1 b.0 b.1 in
     let rest = with_takes b.0 a.0.0 a.0.2 a.0.3 x b.2 in
     let parts : line ≡ spaced (a.0.0 ∷ a.0.1 ∷ a.0.2 ∷ a.0.3 ∷ []) = four_take line a.0 (or_ok (four_fields line) Token a.0 a.1) in (
@@ -202,8 +202,8 @@ function_form = record {
 block_takes : (line : List ℕ) (x : Block) → block_of line ≡ Ok x → (line ≡ block_line x) × IsBlock x
 unfolding block_of
 block_takes line x e =
-    let a = bind_ok (ok_or (two_fields line) Token) (λ words. name_in words.1 >>= λ label. eight_digits words.0 >>= λ start. Ok (record { start = start; label = label })) x e in
-    let b = bind_ok (name_in a.0.1) (λ label. eight_digits a.0.0 >>= λ start. Ok (record { start = start; label = label })) x a.2 in
+    let a = bind_ok (ok_or (two_fields line) Token) (λ words. spelled_name words.1 >>= λ label. eight_digits words.0 >>= λ start. Ok (record { start = start; label = label })) x e in
+    let b = bind_ok (spelled_name a.0.1) (λ label. eight_digits a.0.0 >>= λ start. Ok (record { start = start; label = label })) x a.2 in
     let d = bind_ok (eight_digits a.0.0) (λ start. Ok (record { start = start; label = b.0 })) x b.2 in
     let label = name_takes a.0.1 b.0 b.1 in
     let start = address_takes a.0.0 d.0 d.1 in

@@ -218,10 +218,13 @@ pub is_found : (text : List ℕ) (r : Result Image (Fault ImageFaultKind)) → G
 is_found text (Ok image) given = image_takes text image given
 is_found text (Err e) given = tt
 
+pub image_reads : (text : List ℕ) (image : Image) → IsImageText text image → image_at text ≡ Ok image
+image_reads text image is = ap image_at is.spelled ∙ image_again image is.well_formed
+
 pub is_only : (text : List ℕ) (r : Result Image (Fault ImageFaultKind)) → Gives (λ i. i) r (image_at text) → (image : Image) → IsImageText text image → Gives (λ i. i) r (Ok image)
 is_only text r given image is =
-    subst (λ (read : Result Image (Fault ImageFaultKind)). Gives (λ i. i) r read) (ap image_at is.spelled ∙ image_again image is.well_formed) given
+    subst (λ (read : Result Image (Fault ImageFaultKind)). Gives (λ i. i) r read) (image_reads text image is) given
 
 pub one_of_text : (text : List ℕ) (image other : Image) → IsImageText text image → IsImageText text other → image ≡ other
 one_of_text text image other is also =
-    ok_is image other (sym (ap image_at is.spelled ∙ image_again image is.well_formed) ∙ ap image_at also.spelled ∙ image_again other also.well_formed)
+    ok_is image other (sym (image_reads text image is) ∙ image_reads text other also)

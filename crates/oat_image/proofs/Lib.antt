@@ -1,9 +1,10 @@
-pub mod Loop
-pub mod Names
-pub mod Sections
-pub mod Forms
-pub mod RowForms
-pub mod Images
-pub mod Examples
+mod Loop
+mod Names
+mod Sections
+mod Forms
+mod RowForms
+mod Images
+pub mod ImageTexts
+mod Examples
 mod Texts
 mod WellFormed

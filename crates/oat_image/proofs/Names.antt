@@ -10,7 +10,7 @@ use Rattle.std.proofs.lemmas.Bool.Decides.{Decides-by_and, Decides-and, Decides-
 use Rattle.oat_lines.specs.Fields.{is_visible, IsField}
 use Rattle.oat_map.specs.Name.{IsName, IsNameByte}
 use Rattle.oat_image.specs.declared.fault.ImageFaultKind.TheVariants.{Token}
-use Rattle.oat_image.specs.ImageReading.{is_name_byte, is_name, name_in}
+use Rattle.oat_image.specs.ImageReading.{is_name_byte, is_name, spelled_name}
 
 in_range : (low high c : ℕ) → Decides (is_in_range low high c) (IsInRange low high c)
 in_range low high c = Decides-and (leb low c) (leb c high) (leb-true low c, le-leb low c) (leb-true c high, le-leb c high)
@@ -51,10 +51,10 @@ test_from_name text name =
     let short : length text < 33 = omega (arith, name.short) in
     rw (lt-ltb 0 (length text) some, lt-ltb (length text) 33 short, (bytes_decide text).1 name.word, digit) refl
 
-pub is_named : (text name : List ℕ) → IsName text → name ≡ text → Ok name ≡ name_in text
+pub is_named : (text name : List ℕ) → IsName text → name ≡ text → Ok name ≡ spelled_name text
 is_named text name is same = rw (test_from_name text is, same) refl
 
-pub is_unnamed : (text : List ℕ) → (IsName text → ⊥) → Err Token ≡ name_in text
+pub is_unnamed : (text : List ℕ) → (IsName text → ⊥) → Err Token ≡ spelled_name text
 is_unnamed text none = rw (false_unless (is_name text) (λ e. none (name_from_test text e))) refl
 
 byte_visible : (c : ℕ) → is_name_byte c ≡ true → is_visible c ≡ true

@@ -9,10 +9,12 @@ use Rattle.oat_lines.proofs.Cutting.{one_takes, field_takes, two_take, three_tak
 use Rattle.oat_map.specs.declared.row.Row.{Row}
 use Rattle.oat_map.specs.declared.row.Row.TheVariants.{Jump, Branch, Call, ICall, Ret, Begin, End, UseCell, DefCell, Check}
 use Rattle.oat_image.specs.declared.row.RowKind.{RowKind}
-use Rattle.oat_image.specs.declared.row.RowKind.TheVariants as kinds
+use Rattle.oat_image.specs.declared.row.RowKind.TheVariants.{Edge, Point}
+use Rattle.oat_image.specs.declared.row.EdgeKind.TheVariants as edges
+use Rattle.oat_image.specs.declared.row.PointKind.TheVariants as points
 use Rattle.oat_image.specs.declared.fault.ImageFaultKind.TheVariants.{Token}
 use Rattle.oat_image.specs.Grammar.{row_line, IsRow}
-use Rattle.oat_image.specs.ImageReading.{kind_of, sole_address, two_addresses, addresses_of, three_addresses, address_and_number, number_in, eight_digits, row_with, row_of}
+use Rattle.oat_image.specs.ImageReading.{kind_of, sole_address, two_addresses, addresses_of, three_addresses, address_and_number, number_in, eight_digits, edge_row, point_row, row_with, row_of}
 use Rattle.oat_lines.proofs.Steps.{bind_ok, ok_is, or_ok, some_is}
 use Rattle.oat_image.proofs.Sections.{IsForm, bytes_take, decimal_field}
 use Rattle.oat_image.proofs.Forms.{address_takes, address_again, address_field, number_takes, number_again}
@@ -20,16 +22,16 @@ use Rattle.oat_image.proofs.Forms.{address_takes, address_again, address_field, 
 -- ---- keywords
 
 abbrev keyword_of : RowKind → List ℕ
-keyword_of kinds.Jump = codes "jump"
-keyword_of kinds.Branch = codes "branch"
-keyword_of kinds.Call = codes "call"
-keyword_of kinds.ICall = codes "icall"
-keyword_of kinds.Ret = codes "ret"
-keyword_of kinds.Begin = codes "begin"
-keyword_of kinds.End = codes "end"
-keyword_of kinds.UseCell = codes "use"
-keyword_of kinds.DefCell = codes "def"
-keyword_of kinds.Check = codes "check"
+keyword_of (Edge edges.Jump) = codes "jump"
+keyword_of (Edge edges.Branch) = codes "branch"
+keyword_of (Edge edges.Call) = codes "call"
+keyword_of (Edge edges.ICall) = codes "icall"
+keyword_of (Edge edges.Ret) = codes "ret"
+keyword_of (Point points.Begin) = codes "begin"
+keyword_of (Point points.End) = codes "end"
+keyword_of (Point points.UseCell) = codes "use"
+keyword_of (Point points.DefCell) = codes "def"
+keyword_of (Point points.Check) = codes "check"
 
 choose : (b : Bool) (word keyword : List ℕ) (k r : RowKind) (o : Option RowKind) → bytes_eq word keyword ≡ b → keyword ≡ keyword_of k → (if b then Some k else o) ≡ Some r
     → (o ≡ Some r → word ≡ keyword_of r) → word ≡ keyword_of r
@@ -42,40 +44,40 @@ pick word keyword k r o is e later = choose (bytes_eq word keyword) word keyword
 
 kind_takes : (word : List ℕ) (r : RowKind) → kind_of word ≡ Some r → word ≡ keyword_of r
 kind_takes word r e =
-    pick word (codes "jump") kinds.Jump r _ refl e λ e.
-    pick word (codes "branch") kinds.Branch r _ refl e λ e.
-    pick word (codes "call") kinds.Call r _ refl e λ e.
-    pick word (codes "icall") kinds.ICall r _ refl e λ e.
-    pick word (codes "ret") kinds.Ret r _ refl e λ e.
-    pick word (codes "begin") kinds.Begin r _ refl e λ e.
-    pick word (codes "end") kinds.End r _ refl e λ e.
-    pick word (codes "use") kinds.UseCell r _ refl e λ e.
-    pick word (codes "def") kinds.DefCell r _ refl e λ e.
-    pick word (codes "check") kinds.Check r _ refl e λ e. absurd cc
+    pick word (codes "jump") (Edge edges.Jump) r _ refl e λ e.
+    pick word (codes "branch") (Edge edges.Branch) r _ refl e λ e.
+    pick word (codes "call") (Edge edges.Call) r _ refl e λ e.
+    pick word (codes "icall") (Edge edges.ICall) r _ refl e λ e.
+    pick word (codes "ret") (Edge edges.Ret) r _ refl e λ e.
+    pick word (codes "begin") (Point points.Begin) r _ refl e λ e.
+    pick word (codes "end") (Point points.End) r _ refl e λ e.
+    pick word (codes "use") (Point points.UseCell) r _ refl e λ e.
+    pick word (codes "def") (Point points.DefCell) r _ refl e λ e.
+    pick word (codes "check") (Point points.Check) r _ refl e λ e. absurd cc
 
 kind_again : (k : RowKind) → kind_of (keyword_of k) ≡ Some k
-kind_again kinds.Jump = refl
-kind_again kinds.Branch = refl
-kind_again kinds.Call = refl
-kind_again kinds.ICall = refl
-kind_again kinds.Ret = refl
-kind_again kinds.Begin = refl
-kind_again kinds.End = refl
-kind_again kinds.UseCell = refl
-kind_again kinds.DefCell = refl
-kind_again kinds.Check = refl
+kind_again (Edge edges.Jump) = refl
+kind_again (Edge edges.Branch) = refl
+kind_again (Edge edges.Call) = refl
+kind_again (Edge edges.ICall) = refl
+kind_again (Edge edges.Ret) = refl
+kind_again (Point points.Begin) = refl
+kind_again (Point points.End) = refl
+kind_again (Point points.UseCell) = refl
+kind_again (Point points.DefCell) = refl
+kind_again (Point points.Check) = refl
 
 keyword_field : (k : RowKind) → IsField (keyword_of k)
-keyword_field kinds.Jump = record { visible = refl; nonempty = omega arith }
-keyword_field kinds.Branch = record { visible = refl; nonempty = omega arith }
-keyword_field kinds.Call = record { visible = refl; nonempty = omega arith }
-keyword_field kinds.ICall = record { visible = refl; nonempty = omega arith }
-keyword_field kinds.Ret = record { visible = refl; nonempty = omega arith }
-keyword_field kinds.Begin = record { visible = refl; nonempty = omega arith }
-keyword_field kinds.End = record { visible = refl; nonempty = omega arith }
-keyword_field kinds.UseCell = record { visible = refl; nonempty = omega arith }
-keyword_field kinds.DefCell = record { visible = refl; nonempty = omega arith }
-keyword_field kinds.Check = record { visible = refl; nonempty = omega arith }
+keyword_field (Edge edges.Jump) = record { visible = refl; nonempty = omega arith }
+keyword_field (Edge edges.Branch) = record { visible = refl; nonempty = omega arith }
+keyword_field (Edge edges.Call) = record { visible = refl; nonempty = omega arith }
+keyword_field (Edge edges.ICall) = record { visible = refl; nonempty = omega arith }
+keyword_field (Edge edges.Ret) = record { visible = refl; nonempty = omega arith }
+keyword_field (Point points.Begin) = record { visible = refl; nonempty = omega arith }
+keyword_field (Point points.End) = record { visible = refl; nonempty = omega arith }
+keyword_field (Point points.UseCell) = record { visible = refl; nonempty = omega arith }
+keyword_field (Point points.DefCell) = record { visible = refl; nonempty = omega arith }
+keyword_field (Point points.Check) = record { visible = refl; nonempty = omega arith }
 
 -- ---- fields
 
@@ -201,17 +203,17 @@ tripled keyword fields make r spelled e =
     subst (λ (q : Row). Spells keyword fields q) (ok_is (make a.0.0 a.0.1 a.0.2) r a.2) (ap (λ (t : List ℕ). keyword ++ 32 ∷ t) n.0 ∙ s.0, s.1)
 
 with_takes : (k : RowKind) (fields : List ℕ) (r : Row) → row_with k fields ≡ Ok r → Spells (keyword_of k) fields r
-unfolding row_with
-with_takes kinds.Jump fields r e = paired (codes "jump") fields (λ a b. Jump a b) r (λ a b la lb. (refl, (la, lb))) e
-with_takes kinds.Branch fields r e = tripled (codes "branch") fields (λ a b d. Branch a b d) r (λ a b d la lb ld. (refl, (la, lb, ld))) e
-with_takes kinds.Call fields r e = paired (codes "call") fields (λ a b. Call a b) r (λ a b la lb. (refl, (la, lb))) e
-with_takes kinds.ICall fields r e = numbered 0 4 (codes "icall") fields (λ a n. ICall a n) r (omega arith) (λ a n la low high. (refl, (la, high))) e
-with_takes kinds.Ret fields r e = single (codes "ret") fields (λ a. Ret a) r (λ a la. (refl, la)) e
-with_takes kinds.Begin fields r e = numbered 1 65535 (codes "begin") fields (λ a n. Begin a n) r (omega arith) (λ a n la low high. (refl, (la, (low, high)))) e
-with_takes kinds.End fields r e = numbered 1 65535 (codes "end") fields (λ a n. End a n) r (omega arith) (λ a n la low high. (refl, (la, (low, high)))) e
-with_takes kinds.UseCell fields r e = numbered 0 65535 (codes "use") fields (λ a n. UseCell a n) r (omega arith) (λ a n la low high. (refl, (la, high))) e
-with_takes kinds.DefCell fields r e = numbered 0 65535 (codes "def") fields (λ a n. DefCell a n) r (omega arith) (λ a n la low high. (refl, (la, high))) e
-with_takes kinds.Check fields r e = single (codes "check") fields (λ a. Check a) r (λ a la. (refl, la)) e
+unfolding edge_row point_row
+with_takes (Edge edges.Jump) fields r e = paired (codes "jump") fields (λ a b. Jump a b) r (λ a b la lb. (refl, (la, lb))) e
+with_takes (Edge edges.Branch) fields r e = tripled (codes "branch") fields (λ a b d. Branch a b d) r (λ a b d la lb ld. (refl, (la, lb, ld))) e
+with_takes (Edge edges.Call) fields r e = paired (codes "call") fields (λ a b. Call a b) r (λ a b la lb. (refl, (la, lb))) e
+with_takes (Edge edges.ICall) fields r e = numbered 0 4 (codes "icall") fields (λ a n. ICall a n) r (omega arith) (λ a n la low high. (refl, (la, high))) e
+with_takes (Edge edges.Ret) fields r e = single (codes "ret") fields (λ a. Ret a) r (λ a la. (refl, la)) e
+with_takes (Point points.Begin) fields r e = numbered 1 65535 (codes "begin") fields (λ a n. Begin a n) r (omega arith) (λ a n la low high. (refl, (la, (low, high)))) e
+with_takes (Point points.End) fields r e = numbered 1 65535 (codes "end") fields (λ a n. End a n) r (omega arith) (λ a n la low high. (refl, (la, (low, high)))) e
+with_takes (Point points.UseCell) fields r e = numbered 0 65535 (codes "use") fields (λ a n. UseCell a n) r (omega arith) (λ a n la low high. (refl, (la, high))) e
+with_takes (Point points.DefCell) fields r e = numbered 0 65535 (codes "def") fields (λ a n. DefCell a n) r (omega arith) (λ a n la low high. (refl, (la, high))) e
+with_takes (Point points.Check) fields r e = single (codes "check") fields (λ a. Check a) r (λ a la. (refl, la)) e
 
 row_takes : (line : List ℕ) (r : Row) → row_of line ≡ Ok r → (line ≡ row_line r) × IsRow r
 unfolding row_of
@@ -231,17 +233,17 @@ row_step k keyword fields is =
     rw (field_again keyword fields field) (ap (λ (o : Option RowKind). ok_or o Token >>= λ r. row_with r fields) kind)
 
 row_again : (r : Row) → IsRow r → row_of (row_line r) ≡ Ok r
-unfolding row_with
-row_again (Jump a b) fits = row_step kinds.Jump (codes "jump") (spaced (hexadecimal 8 a ∷ hexadecimal 8 b ∷ [])) refl ∙ rw (pair_again a b fits.0 fits.1) refl
-row_again (Branch a b d) fits = row_step kinds.Branch (codes "branch") (spaced (hexadecimal 8 a ∷ hexadecimal 8 b ∷ hexadecimal 8 d ∷ [])) refl ∙ rw (triple_again a b d fits.0 fits.1 fits.2) refl
-row_again (Call a b) fits = row_step kinds.Call (codes "call") (spaced (hexadecimal 8 a ∷ hexadecimal 8 b ∷ [])) refl ∙ rw (pair_again a b fits.0 fits.1) refl
-row_again (ICall a n) fits = row_step kinds.ICall (codes "icall") (spaced (hexadecimal 8 a ∷ decimal n ∷ [])) refl ∙ rw (numbered_again 0 4 a n fits.0 (omega arith) fits.1 (omega arith)) refl
-row_again (Ret a) fits = row_step kinds.Ret (codes "ret") (hexadecimal 8 a) refl ∙ rw (sole_again a fits) refl
-row_again (Begin a n) fits = row_step kinds.Begin (codes "begin") (spaced (hexadecimal 8 a ∷ decimal n ∷ [])) refl ∙ rw (numbered_again 1 65535 a n fits.0 fits.1.0 fits.1.1 (omega arith)) refl
-row_again (End a n) fits = row_step kinds.End (codes "end") (spaced (hexadecimal 8 a ∷ decimal n ∷ [])) refl ∙ rw (numbered_again 1 65535 a n fits.0 fits.1.0 fits.1.1 (omega arith)) refl
-row_again (UseCell a n) fits = row_step kinds.UseCell (codes "use") (spaced (hexadecimal 8 a ∷ decimal n ∷ [])) refl ∙ rw (numbered_again 0 65535 a n fits.0 (omega arith) fits.1 (omega arith)) refl
-row_again (DefCell a n) fits = row_step kinds.DefCell (codes "def") (spaced (hexadecimal 8 a ∷ decimal n ∷ [])) refl ∙ rw (numbered_again 0 65535 a n fits.0 (omega arith) fits.1 (omega arith)) refl
-row_again (Check a) fits = row_step kinds.Check (codes "check") (hexadecimal 8 a) refl ∙ rw (sole_again a fits) refl
+unfolding edge_row point_row
+row_again (Jump a b) fits = row_step (Edge edges.Jump) (codes "jump") (spaced (hexadecimal 8 a ∷ hexadecimal 8 b ∷ [])) refl ∙ rw (pair_again a b fits.0 fits.1) refl
+row_again (Branch a b d) fits = row_step (Edge edges.Branch) (codes "branch") (spaced (hexadecimal 8 a ∷ hexadecimal 8 b ∷ hexadecimal 8 d ∷ [])) refl ∙ rw (triple_again a b d fits.0 fits.1 fits.2) refl
+row_again (Call a b) fits = row_step (Edge edges.Call) (codes "call") (spaced (hexadecimal 8 a ∷ hexadecimal 8 b ∷ [])) refl ∙ rw (pair_again a b fits.0 fits.1) refl
+row_again (ICall a n) fits = row_step (Edge edges.ICall) (codes "icall") (spaced (hexadecimal 8 a ∷ decimal n ∷ [])) refl ∙ rw (numbered_again 0 4 a n fits.0 (omega arith) fits.1 (omega arith)) refl
+row_again (Ret a) fits = row_step (Edge edges.Ret) (codes "ret") (hexadecimal 8 a) refl ∙ rw (sole_again a fits) refl
+row_again (Begin a n) fits = row_step (Point points.Begin) (codes "begin") (spaced (hexadecimal 8 a ∷ decimal n ∷ [])) refl ∙ rw (numbered_again 1 65535 a n fits.0 fits.1.0 fits.1.1 (omega arith)) refl
+row_again (End a n) fits = row_step (Point points.End) (codes "end") (spaced (hexadecimal 8 a ∷ decimal n ∷ [])) refl ∙ rw (numbered_again 1 65535 a n fits.0 fits.1.0 fits.1.1 (omega arith)) refl
+row_again (UseCell a n) fits = row_step (Point points.UseCell) (codes "use") (spaced (hexadecimal 8 a ∷ decimal n ∷ [])) refl ∙ rw (numbered_again 0 65535 a n fits.0 (omega arith) fits.1 (omega arith)) refl
+row_again (DefCell a n) fits = row_step (Point points.DefCell) (codes "def") (spaced (hexadecimal 8 a ∷ decimal n ∷ [])) refl ∙ rw (numbered_again 0 65535 a n fits.0 (omega arith) fits.1 (omega arith)) refl
+row_again (Check a) fits = row_step (Point points.Check) (codes "check") (hexadecimal 8 a) refl ∙ rw (sole_again a fits) refl
 
 numbered_within : (k : RowKind) (a n : ℕ) → n < 2 ^ 64 → list_all is_within_line (keyword_of k ++ 32 ∷ spaced (hexadecimal 8 a ∷ decimal n ∷ [])) ≡ true
 numbered_within k a n small = within_spaced (keyword_of k) (spaced (hexadecimal 8 a ∷ decimal n ∷ [])) (keyword_field k) (two_within (hexadecimal 8 a) (decimal n) (address_field a) (decimal_field n small))
@@ -253,18 +255,18 @@ single_within : (k : RowKind) (a : ℕ) → list_all is_within_line (keyword_of 
 single_within k a = within_spaced (keyword_of k) (hexadecimal 8 a) (keyword_field k) (within_field (hexadecimal 8 a) (address_field a))
 
 row_whole : (r : Row) → IsRow r → list_all is_within_line (row_line r) ≡ true
-row_whole (Jump a b) fits = paired_within kinds.Jump a b
+row_whole (Jump a b) fits = paired_within (Edge edges.Jump) a b
 row_whole (Branch a b d) fits =
-    within_spaced (codes "branch") (spaced (hexadecimal 8 a ∷ hexadecimal 8 b ∷ hexadecimal 8 d ∷ [])) (keyword_field kinds.Branch)
+    within_spaced (codes "branch") (spaced (hexadecimal 8 a ∷ hexadecimal 8 b ∷ hexadecimal 8 d ∷ [])) (keyword_field (Edge edges.Branch))
     (three_within (hexadecimal 8 a) (hexadecimal 8 b) (hexadecimal 8 d) (address_field a) (address_field b) (address_field d))
-row_whole (Call a b) fits = paired_within kinds.Call a b
-row_whole (ICall a n) fits = numbered_within kinds.ICall a n (omega (arith, fits.1))
-row_whole (Ret a) fits = single_within kinds.Ret a
-row_whole (Begin a n) fits = numbered_within kinds.Begin a n (omega (arith, fits.1.1))
-row_whole (End a n) fits = numbered_within kinds.End a n (omega (arith, fits.1.1))
-row_whole (UseCell a n) fits = numbered_within kinds.UseCell a n (omega (arith, fits.1))
-row_whole (DefCell a n) fits = numbered_within kinds.DefCell a n (omega (arith, fits.1))
-row_whole (Check a) fits = single_within kinds.Check a
+row_whole (Call a b) fits = paired_within (Edge edges.Call) a b
+row_whole (ICall a n) fits = numbered_within (Edge edges.ICall) a n (omega (arith, fits.1))
+row_whole (Ret a) fits = single_within (Edge edges.Ret) a
+row_whole (Begin a n) fits = numbered_within (Point points.Begin) a n (omega (arith, fits.1.1))
+row_whole (End a n) fits = numbered_within (Point points.End) a n (omega (arith, fits.1.1))
+row_whole (UseCell a n) fits = numbered_within (Point points.UseCell) a n (omega (arith, fits.1))
+row_whole (DefCell a n) fits = numbered_within (Point points.DefCell) a n (omega (arith, fits.1))
+row_whole (Check a) fits = single_within (Point points.Check) a
 
 pub row_form : IsForm row_of row_line IsRow
 row_form = record { takes = row_takes; again = row_again; whole = row_whole }

@@ -20,7 +20,11 @@ use Rattle.oat_image.specs.declared.image.InitWord.{InitWord}
 use Rattle.oat_image.specs.declared.fault.ImageFaultKind.{ImageFaultKind}
 use Rattle.oat_image.specs.declared.fault.ImageFaultKind.TheVariants.{Token, Number}
 use Rattle.oat_image.specs.declared.row.RowKind.{RowKind}
-use Rattle.oat_image.specs.declared.row.RowKind.TheVariants as kinds
+use Rattle.oat_image.specs.declared.row.RowKind.TheVariants.{Edge, Point}
+use Rattle.oat_image.specs.declared.row.EdgeKind.{EdgeKind}
+use Rattle.oat_image.specs.declared.row.EdgeKind.TheVariants as edges
+use Rattle.oat_image.specs.declared.row.PointKind.{PointKind}
+use Rattle.oat_image.specs.declared.row.PointKind.TheVariants as points
 use Rattle.oat_image.specs.Reading.{Remainder, section_at, fixed_at}
 
 -- ---- words
@@ -56,8 +60,8 @@ is_name_byte c = is_ascii_alphanumeric c || (c == 95)
 abbrev pub is_name : List ℕ → Bool
 is_name text = nat_lt 0 (length text) && nat_lt (length text) 33 && list_all is_name_byte text && not (is_ascii_digit (slice_index text 0))
 
-abbrev pub name_in : List ℕ → Result (List ℕ) ImageFaultKind
-name_in word = if is_name word then Ok word else Err Token
+abbrev pub spelled_name : List ℕ → Result (List ℕ) ImageFaultKind
+spelled_name word = if is_name word then Ok word else Err Token
 
 -- ---- lines
 
@@ -92,13 +96,13 @@ function_with name entry params flag = do
 unfoldable pub function_of : List ℕ → Result Function ImageFaultKind
 function_of line = do
   words ← ok_or (four_fields line) Token
-  name ← name_in words.1
+  name ← spelled_name words.1
   function_with name words.0 words.2 words.3
 
 unfoldable pub block_of : List ℕ → Result Block ImageFaultKind
 block_of line = do
   words ← ok_or (two_fields line) Token
-  label ← name_in words.1
+  label ← spelled_name words.1
   start ← eight_digits words.0
   Ok (record { start = start; label = label })
 
@@ -106,16 +110,16 @@ block_of line = do
 
 abbrev pub kind_of : List ℕ → Option RowKind
 kind_of word =
-    if bytes_eq word (codes "jump") then Some kinds.Jump else
-    if bytes_eq word (codes "branch") then Some kinds.Branch else
-    if bytes_eq word (codes "call") then Some kinds.Call else
-    if bytes_eq word (codes "icall") then Some kinds.ICall else
-    if bytes_eq word (codes "ret") then Some kinds.Ret else
-    if bytes_eq word (codes "begin") then Some kinds.Begin else
-    if bytes_eq word (codes "end") then Some kinds.End else
-    if bytes_eq word (codes "use") then Some kinds.UseCell else
-    if bytes_eq word (codes "def") then Some kinds.DefCell else
-    if bytes_eq word (codes "check") then Some kinds.Check else None
+    if bytes_eq word (codes "jump") then Some (Edge edges.Jump) else
+    if bytes_eq word (codes "branch") then Some (Edge edges.Branch) else
+    if bytes_eq word (codes "call") then Some (Edge edges.Call) else
+    if bytes_eq word (codes "icall") then Some (Edge edges.ICall) else
+    if bytes_eq word (codes "ret") then Some (Edge edges.Ret) else
+    if bytes_eq word (codes "begin") then Some (Point points.Begin) else
+    if bytes_eq word (codes "end") then Some (Point points.End) else
+    if bytes_eq word (codes "use") then Some (Point points.UseCell) else
+    if bytes_eq word (codes "def") then Some (Point points.DefCell) else
+    if bytes_eq word (codes "check") then Some (Point points.Check) else None
 
 unfoldable pub sole_address : List ℕ → Result ℕ ImageFaultKind
 sole_address fields = do
@@ -148,17 +152,23 @@ address_and_number least most fields = do
   n ← number_in least most words.1
   Ok (address, n)
 
-unfoldable pub row_with : RowKind → List ℕ → Result Row ImageFaultKind
-row_with kinds.Jump fields = two_addresses fields >>= λ p. Ok (Jump p.0 p.1)
-row_with kinds.Branch fields = three_addresses fields >>= λ p. Ok (Branch p.0 p.1 p.2)
-row_with kinds.Call fields = two_addresses fields >>= λ p. Ok (Call p.0 p.1)
-row_with kinds.ICall fields = address_and_number 0 4 fields >>= λ p. Ok (ICall p.0 p.1)
-row_with kinds.Ret fields = sole_address fields >>= λ a. Ok (Ret a)
-row_with kinds.Begin fields = address_and_number 1 65535 fields >>= λ p. Ok (Begin p.0 p.1)
-row_with kinds.End fields = address_and_number 1 65535 fields >>= λ p. Ok (End p.0 p.1)
-row_with kinds.UseCell fields = address_and_number 0 65535 fields >>= λ p. Ok (UseCell p.0 p.1)
-row_with kinds.DefCell fields = address_and_number 0 65535 fields >>= λ p. Ok (DefCell p.0 p.1)
-row_with kinds.Check fields = sole_address fields >>= λ a. Ok (Check a)
+unfoldable pub edge_row : EdgeKind → List ℕ → Result Row ImageFaultKind
+edge_row edges.Jump fields = two_addresses fields >>= λ p. Ok (Jump p.0 p.1)
+edge_row edges.Branch fields = three_addresses fields >>= λ p. Ok (Branch p.0 p.1 p.2)
+edge_row edges.Call fields = two_addresses fields >>= λ p. Ok (Call p.0 p.1)
+edge_row edges.ICall fields = address_and_number 0 4 fields >>= λ p. Ok (ICall p.0 p.1)
+edge_row edges.Ret fields = sole_address fields >>= λ a. Ok (Ret a)
+
+unfoldable pub point_row : PointKind → List ℕ → Result Row ImageFaultKind
+point_row points.Begin fields = address_and_number 1 65535 fields >>= λ p. Ok (Begin p.0 p.1)
+point_row points.End fields = address_and_number 1 65535 fields >>= λ p. Ok (End p.0 p.1)
+point_row points.UseCell fields = address_and_number 0 65535 fields >>= λ p. Ok (UseCell p.0 p.1)
+point_row points.DefCell fields = address_and_number 0 65535 fields >>= λ p. Ok (DefCell p.0 p.1)
+point_row points.Check fields = sole_address fields >>= λ a. Ok (Check a)
+
+abbrev pub row_with : RowKind → List ℕ → Result Row ImageFaultKind
+row_with (Edge kind) fields = edge_row kind fields
+row_with (Point kind) fields = point_row kind fields
 
 unfoldable pub row_of : List ℕ → Result Row ImageFaultKind
 row_of line = do

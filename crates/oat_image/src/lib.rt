@@ -12,6 +12,7 @@ mod row;
 mod text;
 mod well_formed;
 mod words;
+pub mod worked;
 
 pub use fault::{ImageFault, ImageFaultKind};
 pub use image::{Image, InitWord};

@@ -1,6 +1,6 @@
 ghost use Rattle.std.specs.Prelude.{◌≡◌, ◌↔◌, ◌<◌, ◌≤◌, ◌^◌, IsTrue, IfOk, Some};
 ghost use Rattle.oat_image.specs.Grammar.{code_line, data_line, cell_line, flag_text, function_line, block_line, IsAddress, IsWord, IsIndex, IsInitWord, IsFunction, IsBlock};
-ghost use Rattle.oat_image.specs.ImageReading.{eight_digits, number_in, value_of, flag_of, name_in, code_of, data_of, cell_of, function_with, function_of, block_of, no_key, index_key, cell_key, entry_key, start_key};
+ghost use Rattle.oat_image.specs.ImageReading.{eight_digits, number_in, value_of, flag_of, spelled_name, code_of, data_of, cell_of, function_with, function_of, block_of, no_key, index_key, cell_key, entry_key, start_key};
 
 use crate::fault::ImageFaultKind;
 use crate::image::InitWord;
@@ -71,7 +71,7 @@ fn read_flag(word: &[u8]) -> Result<bool, ImageFaultKind>
 }
 
 fn read_name(word: &[u8]) -> Result<Name, ImageFaultKind>
-    ensures { result ≡ name_in word.now }
+    ensures { result ≡ spelled_name word.now }
 {
     match Name::new(word) {
         Some(name) => Ok(name),

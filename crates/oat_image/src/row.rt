@@ -1,6 +1,9 @@
-ghost use Rattle.std.specs.Prelude.{◌≡◌, ◌<◌, ◌≤◌, IfOk};
+ghost use Rattle.std.specs.Prelude.{◌≡◌, ◌<◌, ◌≤◌, [], ◌∷◌, IfOk, decimal};
+ghost use Rattle.oat_lines.specs.Fields.{spaced, ended};
+ghost use Rattle.oat_lines.specs.Hexadecimal.{hexadecimal};
+ghost use Rattle.oat_image.specs.Printing.{Takes};
 ghost use Rattle.oat_image.specs.Grammar.{row_line, IsRow};
-ghost use Rattle.oat_image.specs.ImageReading.{kind_of, sole_address, two_addresses, addresses_of, three_addresses, address_and_number, row_with, row_of, no_key};
+ghost use Rattle.oat_image.specs.ImageReading.{kind_of, sole_address, two_addresses, addresses_of, three_addresses, address_and_number, edge_row, point_row, row_with, row_of, no_key};
 
 use crate::fault::ImageFaultKind;
 use crate::line::{is_address, read_address, read_number};
@@ -11,19 +14,31 @@ use itoa::Buffer;
 use oat_lines::{read_field, read_one_field, read_three_fields, read_two_fields};
 use oat_map::Row;
 
-/// What kind of row a line's keyword begins.
+/// A row where the flow may turn.
 #[derive(Clone, Copy, Debug, PartialEq, Eq)]
-pub(crate) enum RowKind {
+pub(crate) enum EdgeKind {
     Jump,
     Branch,
     Call,
     ICall,
     Ret,
+}
+
+/// A row that the flow passes, or where it is measured from or to.
+#[derive(Clone, Copy, Debug, PartialEq, Eq)]
+pub(crate) enum PointKind {
     Begin,
     End,
     UseCell,
     DefCell,
     Check,
+}
+
+/// What kind of row a line's keyword begins.
+#[derive(Clone, Copy, Debug, PartialEq, Eq)]
+pub(crate) enum RowKind {
+    Edge(EdgeKind),
+    Point(PointKind),
 }
 
 pub(crate) struct RowLine;
@@ -32,25 +47,25 @@ fn read_kind(word: &[u8]) -> Option<RowKind>
     ensures { result ≡ kind_of word.now }
 {
     if word == b"jump".as_slice() {
-        Some(RowKind::Jump)
+        Some(RowKind::Edge(EdgeKind::Jump))
     } else if word == b"branch".as_slice() {
-        Some(RowKind::Branch)
+        Some(RowKind::Edge(EdgeKind::Branch))
     } else if word == b"call".as_slice() {
-        Some(RowKind::Call)
+        Some(RowKind::Edge(EdgeKind::Call))
     } else if word == b"icall".as_slice() {
-        Some(RowKind::ICall)
+        Some(RowKind::Edge(EdgeKind::ICall))
     } else if word == b"ret".as_slice() {
-        Some(RowKind::Ret)
+        Some(RowKind::Edge(EdgeKind::Ret))
     } else if word == b"begin".as_slice() {
-        Some(RowKind::Begin)
+        Some(RowKind::Point(PointKind::Begin))
     } else if word == b"end".as_slice() {
-        Some(RowKind::End)
+        Some(RowKind::Point(PointKind::End))
     } else if word == b"use".as_slice() {
-        Some(RowKind::UseCell)
+        Some(RowKind::Point(PointKind::UseCell))
     } else if word == b"def".as_slice() {
-        Some(RowKind::DefCell)
+        Some(RowKind::Point(PointKind::DefCell))
     } else if word == b"check".as_slice() {
-        Some(RowKind::Check)
+        Some(RowKind::Point(PointKind::Check))
     } else {
         None
     }
@@ -120,62 +135,90 @@ fn read_address_and_number(
     Ok((address, number))
 }
 
-/// A row of an operation.
-#[tactic(auto, unfolding(crate::specs::ImageReading::row_with))]
-fn read_row(kind: RowKind, fields: &[u8]) -> Result<Row, ImageFaultKind>
-    ensures { result ≡ row_with kind fields.now }
+#[tactic(auto, unfolding(crate::specs::ImageReading::edge_row))]
+fn read_edge(kind: EdgeKind, fields: &[u8]) -> Result<Row, ImageFaultKind>
+    ensures { result ≡ edge_row kind fields.now }
 {
     match kind {
-        RowKind::Jump => {
+        EdgeKind::Jump => {
             let (at, to) = read_two_addresses(fields)?;
             Ok(Row::Jump { at, to })
         }
-        RowKind::Branch => {
+        EdgeKind::Branch => {
             let (at, taken, other) = read_three_addresses(fields)?;
             Ok(Row::Branch { at, taken, other })
         }
-        RowKind::Call => {
+        EdgeKind::Call => {
             let (at, to) = read_two_addresses(fields)?;
             Ok(Row::Call { at, to })
         }
-        RowKind::ICall => {
+        EdgeKind::ICall => {
             let (at, params) = read_address_and_number(0, 4, fields)?;
-            Ok(Row::ICall {
-                at,
-                params: params as u8,
-            })
+            let params = params as u8;
+            Ok(Row::ICall { at, params })
         }
-        RowKind::Ret => {
+        EdgeKind::Ret => {
             let at = read_sole_address(fields)?;
             Ok(Row::Ret { at })
         }
-        RowKind::Begin => {
+    }
+}
+
+#[tactic(auto, unfolding(crate::specs::ImageReading::point_row))]
+fn read_point(kind: PointKind, fields: &[u8]) -> Result<Row, ImageFaultKind>
+    ensures { result ≡ point_row kind fields.now }
+{
+    match kind {
+        PointKind::Begin => {
             let (at, op) = read_address_and_number(1, 65535, fields)?;
             Ok(Row::Begin { at, op: op as u16 })
         }
-        RowKind::End => {
+        PointKind::End => {
             let (at, op) = read_address_and_number(1, 65535, fields)?;
             Ok(Row::End { at, op: op as u16 })
         }
-        RowKind::UseCell => {
+        PointKind::UseCell => {
             let (at, cell) = read_address_and_number(0, 65535, fields)?;
-            Ok(Row::UseCell {
-                at,
-                cell: cell as u16,
-            })
+            let cell = cell as u16;
+            Ok(Row::UseCell { at, cell })
         }
-        RowKind::DefCell => {
+        PointKind::DefCell => {
             let (at, cell) = read_address_and_number(0, 65535, fields)?;
-            Ok(Row::DefCell {
-                at,
-                cell: cell as u16,
-            })
+            let cell = cell as u16;
+            Ok(Row::DefCell { at, cell })
         }
-        RowKind::Check => {
+        PointKind::Check => {
             let at = read_sole_address(fields)?;
             Ok(Row::Check { at })
         }
     }
+}
+
+fn read_row(kind: RowKind, fields: &[u8]) -> Result<Row, ImageFaultKind>
+    ensures { result ≡ row_with kind fields.now }
+{
+    match kind {
+        RowKind::Edge(kind) => read_edge(kind, fields),
+        RowKind::Point(kind) => read_point(kind, fields),
+    }
+}
+
+fn put_to<R: Receiver>(out: &mut R, keyword: &[u8], at: u64, to: u64)
+    ensures { Takes R.holds (ended (spaced (keyword.now ∷ hexadecimal 8 at ∷ hexadecimal 8 to ∷ []))) out.old out.new }
+{
+    put_three(out, keyword, &address_digits(at), &address_digits(to));
+}
+
+fn put_numbered<R: Receiver>(out: &mut R, keyword: &[u8], at: u64, number: u16)
+    ensures { Takes R.holds (ended (spaced (keyword.now ∷ hexadecimal 8 at ∷ decimal number ∷ []))) out.old out.new }
+{
+    let mut digits = Buffer::new();
+    put_three(
+        out,
+        keyword,
+        &address_digits(at),
+        digits.format(number).as_bytes(),
+    );
 }
 
 impl Form for RowLine {
@@ -222,69 +265,23 @@ impl Form for RowLine {
     }
 
     fn put<R: Receiver>(row: &Row, out: &mut R) {
-        let mut number = Buffer::new();
         match row {
-            Row::Jump { at, to } => {
-                put_three(out, b"jump", &address_digits(*at), &address_digits(*to));
-            }
-            Row::Branch { at, taken, other } => {
-                put_four(
-                    out,
-                    b"branch",
-                    &address_digits(*at),
-                    &address_digits(*taken),
-                    &address_digits(*other),
-                );
-            }
-            Row::Call { at, to } => {
-                put_three(out, b"call", &address_digits(*at), &address_digits(*to));
-            }
-            Row::ICall { at, params } => {
-                put_three(
-                    out,
-                    b"icall",
-                    &address_digits(*at),
-                    number.format(*params).as_bytes(),
-                );
-            }
-            Row::Ret { at } => {
-                put_two(out, b"ret", &address_digits(*at));
-            }
-            Row::Begin { at, op } => {
-                put_three(
-                    out,
-                    b"begin",
-                    &address_digits(*at),
-                    number.format(*op).as_bytes(),
-                );
-            }
-            Row::End { at, op } => {
-                put_three(
-                    out,
-                    b"end",
-                    &address_digits(*at),
-                    number.format(*op).as_bytes(),
-                );
-            }
-            Row::UseCell { at, cell } => {
-                put_three(
-                    out,
-                    b"use",
-                    &address_digits(*at),
-                    number.format(*cell).as_bytes(),
-                );
-            }
-            Row::DefCell { at, cell } => {
-                put_three(
-                    out,
-                    b"def",
-                    &address_digits(*at),
-                    number.format(*cell).as_bytes(),
-                );
-            }
-            Row::Check { at } => {
-                put_two(out, b"check", &address_digits(*at));
-            }
+            Row::Jump { at, to } => put_to(out, b"jump", *at, *to),
+            Row::Branch { at, taken, other } => put_four(
+                out,
+                b"branch",
+                &address_digits(*at),
+                &address_digits(*taken),
+                &address_digits(*other),
+            ),
+            Row::Call { at, to } => put_to(out, b"call", *at, *to),
+            Row::ICall { at, params } => put_numbered(out, b"icall", *at, u16::from(*params)),
+            Row::Ret { at } => put_two(out, b"ret", &address_digits(*at)),
+            Row::Begin { at, op } => put_numbered(out, b"begin", *at, *op),
+            Row::End { at, op } => put_numbered(out, b"end", *at, *op),
+            Row::UseCell { at, cell } => put_numbered(out, b"use", *at, *cell),
+            Row::DefCell { at, cell } => put_numbered(out, b"def", *at, *cell),
+            Row::Check { at } => put_two(out, b"check", &address_digits(*at)),
         }
     }
 }

@@ -1,5 +1,5 @@
 -- Hexadecimal numbers of texts: a fixed number of upper-case digits, the highest first (docs/FORMATS.md).
-use Rattle.std.specs.Prelude.{ℕ, zero, suc, ◌+◌, ◌/◌, ◌%◌, ◌^◌, Bool, ◌&&◌, ◌||◌, List, [], ◌∷◌, ◌++◌, length, Option, Some, None, nat_le, nat_lt, ◌==◌, if◌then◌else◌}
+use Rattle.std.specs.Prelude.{ℕ, zero, suc, ◌+◌, ◌/◌, ◌%◌, Bool, ◌&&◌, ◌||◌, List, [], ◌∷◌, ◌++◌, length, Option, Some, None, nat_le, nat_lt, ◌==◌, if◌then◌else◌}
 use Rattle.std.specs.List.{list_all}
 use Rattle.std.specs.Str.Parse.{digits_value}
 
@@ -19,11 +19,3 @@ hexadecimal_digit d = if nat_lt d 10 then 48 + d else 55 + d
 unfoldable pub hexadecimal : ℕ → ℕ → List ℕ
 hexadecimal zero n = []
 hexadecimal (suc digits) n = hexadecimal digits (n / 16) ++ hexadecimal_digit (n % 16) ∷ []
-
-abbrev pub without_zeros : List ℕ → List ℕ
-without_zeros [] = []
-without_zeros (c ∷ cs) = if c == 48 then without_zeros cs else c ∷ cs
-
--- an address by eight digits, or more where it needs them, at most sixteen
-abbrev pub address_text : ℕ → List ℕ
-address_text address = if nat_lt address (2 ^ 32) then hexadecimal 8 address else without_zeros (hexadecimal 16 address)

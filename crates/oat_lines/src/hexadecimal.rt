@@ -1,6 +1,6 @@
 ghost use Rattle.std.specs.Prelude.{◌≡◌, ◌<◌, ◌≤◌, length};
 ghost use Rattle.hex.specs.Hex.{encode_lower};
-ghost use Rattle.oat_lines.specs.Hexadecimal.{hexadecimal_digit, hexadecimal, without_zeros, address_text};
+ghost use Rattle.oat_lines.specs.Hexadecimal.{hexadecimal_digit, hexadecimal};
 
 fn digit_character(digit: u8) -> u8
     requires { digit < 16 }
@@ -26,31 +26,6 @@ pub fn hexadecimal_text<const N: usize>(number: u64) -> [u8; N]
         rest /= 16;
     }
     digits
-}
-
-/// What is left of digits behind their leading zeros.
-fn without_zeros(digits: &[u8]) -> &[u8]
-    ensures { result.now ≡ without_zeros digits.now }
-{
-    let mut rest = digits;
-    'zeros: while !rest.is_empty() && rest[0] == b'0' {
-        rest = &rest[1..];
-    }
-    rest
-}
-
-/// The upper-case digits of an address: eight, or more where it needs them.
-pub fn address_text(address: u64, buffer: &mut [u8; 16]) -> &[u8]
-    ensures { result.now ≡ address_text address }
-{
-    if address < 1 << 32 {
-        let digits = &mut buffer[..8];
-        digits.copy_from_slice(&hexadecimal_text::<8>(address));
-        digits
-    } else {
-        *buffer = hexadecimal_text::<16>(address);
-        without_zeros(buffer)
-    }
 }
 
 /// The lower-case digits of at most 32 bytes, two for each, in front of `buffer`.

@@ -10,7 +10,7 @@ use Rattle.oat_lines.proofs.Steps.{is_fault}
 use Rattle.oat_image.specs.FaultText.{image_fault_word}
 use Rattle.oat_image.specs.Grammar.{IsImageText}
 use Rattle.oat_image.specs.ImageReading.{image_at}
-use Rattle.oat_image.proofs.Images.{image_again}
+use Rattle.oat_image.proofs.ImageTexts.{image_again}
 use Rattle.oat_shape.specs.Shape.{IsShaped}
 use Rattle.oat_map.specs.Rows.{IsOperation}
 use Rattle.oat_shape.proofs.Refusals.{shape_is_decided}
@@ -20,7 +20,7 @@ use Rattle.oat_lines.specs.FaultText.{fault_text}
 use Rattle.oat_case.specs.FaultText.{case_fault_word}
 use Rattle.oat_case.specs.Grammar.{IsCaseText}
 use Rattle.oat_case.specs.Reading.{case_of}
-use Rattle.oat_case.proofs.Law.{is_read}
+use Rattle.oat_case.proofs.CaseTexts.{is_read}
 use Rattle.oat_tool.specs.Outcome.{Outcome}
 use Rattle.oat_tool.specs.Texts.{refused}
 use Rattle.oat_tool.specs.BlobText.{IsBlobText}
