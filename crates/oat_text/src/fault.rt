@@ -1,4 +1,4 @@
-use oat_lines::{Fault, FaultKind};
+use oat_lines::{Fault, LineFault};
 
 /// What can be wrong with a line of a program text.
 #[derive(Clone, Copy, Debug, PartialEq, Eq)]
@@ -19,7 +19,7 @@ pub enum TextFaultKind {
 /// Why a text is no program's.
 pub type TextFault = Fault<TextFaultKind>;
 
-impl FaultKind for TextFaultKind {
+impl LineFault for TextFaultKind {
     ghost use Rattle.oat_text.specs.FaultText.{kind_text};
 
     ghost word = { kind_text };

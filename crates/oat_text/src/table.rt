@@ -121,10 +121,7 @@ impl<T: Called + Drop> Table<T> {
         ensures { Gives (λ _. self.new) result (add line T.called self.old item) }
     {
         if self.has(item.called()) {
-            return Err(Fault::At {
-                line,
-                kind: TextFaultKind::Duplicate,
-            });
+            return Err(Fault::At(line, TextFaultKind::Duplicate));
         }
         if self.items.len() >= u32::MAX as usize {
             return Err(Fault::Memory);
