@@ -1,6 +1,4 @@
 use super::*;
-use oat_list::Listed;
-use std::alloc::Global;
 use std::test::*;
 
 #[test]
@@ -26,110 +24,53 @@ fn a_case_is_read(rt: HostRuntime) -> Result<(), Fail> {
 
 #[test]
 fn bad_texts_are_refused(rt: HostRuntime) {
-    let table = [
+    let table: [(&[u8], u32, CaseFaultKind); 11] = [
+        (b"", 1, CaseFaultKind::Missing),
         (
-            b"oat-case 1\nnonce 000102030405060708090a0b0c0d0e0f\noperation 2\nsteps 100000\n".as_slice(),
-            CaseFault::At(5, CaseFaultKind::Missing),
-        ),
-        (b"".as_slice(), CaseFault::At(1, CaseFaultKind::Missing)),
-        (
-            b"oat-case 1\nnonce 000102030405060708090a0b0c0d0e0f\nnonce 000102030405060708090a0b0c0d0e0f\n".as_slice(),
-            CaseFault::At(3, CaseFaultKind::Twice),
+            b"oat-case 1\nnonce 000102030405060708090a0b0c0d0e0f\nnonce 000102030405060708090a0b0c0d0e0f\n",
+            3,
+            CaseFaultKind::Twice,
         ),
         (
-            b"oat-case 1\nsteps 4194305\n".as_slice(),
-            CaseFault::At(2, CaseFaultKind::Range),
+            b"oat-case 1\nsteps 999999999999999999999999\n",
+            2,
+            CaseFaultKind::Range,
         ),
         (
-            b"oat-case 1\nsteps 999999999999999999999999\n".as_slice(),
-            CaseFault::At(2, CaseFaultKind::Range),
+            b"oat-case 1\ninput 9223372036854775808\n",
+            2,
+            CaseFaultKind::Range,
         ),
         (
-            b"oat-case 1\ninput 9223372036854775808\n".as_slice(),
-            CaseFault::At(2, CaseFaultKind::Range),
+            b"oat-case 1\nwrite 20 40000000 00\nwrite 15 40000000 00\n",
+            3,
+            CaseFaultKind::Order,
         ),
         (
-            b"oat-case 1\nwrite 20 40000000 00\nwrite 15 40000000 00\n".as_slice(),
-            CaseFault::At(3, CaseFaultKind::Order),
+            b"oat-case 1\nwrite 0 40080000 00\n",
+            2,
+            CaseFaultKind::OutsideData,
         ),
         (
-            b"oat-case 1\nwrite 0 40080000 00\n".as_slice(),
-            CaseFault::At(2, CaseFaultKind::OutsideData),
+            b"oat-case 1\nwrite 0 00000000040000000 00\n",
+            2,
+            CaseFaultKind::Token,
         ),
         (
-            b"oat-case 1\nwrite 0 00000000040000000 00\n".as_slice(),
-            CaseFault::At(2, CaseFaultKind::Token),
+            b"; comment\n\noat-case 1\r\n \t;\xff\nkey 0\n",
+            5,
+            CaseFaultKind::Token,
         ),
-        (
-            b"; comment\n\noat-case 1\r\n \t;\xff\nkey 0\n".as_slice(),
-            CaseFault::At(5, CaseFaultKind::Token),
-        ),
-        (
-            b"oat-case 1\noperation +1\n".as_slice(),
-            CaseFault::At(2, CaseFaultKind::Token),
-        ),
-        (
-            b"oat-case 1\nsteps -1\n".as_slice(),
-            CaseFault::At(2, CaseFaultKind::Token),
-        ),
-        (
-            b"oat-case 1\noat-case 1\n".as_slice(),
-            CaseFault::At(2, CaseFaultKind::Token),
-        ),
-        (
-            b"oat-case 1\r".as_slice(),
-            CaseFault::At(1, CaseFaultKind::Token),
-        ),
+        (b"oat-case 1\noperation +1\n", 2, CaseFaultKind::Token),
+        (b"oat-case 1\noat-case 1\n", 2, CaseFaultKind::Token),
+        (b"oat-case 1\r", 1, CaseFaultKind::Token),
     ];
-    for (text, fault) in table {
+    for (text, line, kind) in table {
         assert!(rt; text.len() <= 4_194_304);
         assert_eq!(rt;
             read_case(rt.alloc(), text).err(),
-            Some(fault),
+            Some(CaseFault::At(line, kind)),
             "in {text:?}"
         );
     }
-}
-
-fn write(alloc: Global, before: u64, address: u64) -> Result<Write, Fail> {
-    Ok(Write {
-        before,
-        address,
-        bytes: Listed::from_vec(Vec::from_slice(alloc, &[7])?),
-    })
-}
-
-#[test]
-fn cases_out_of_their_limits_are_not_well_formed(rt: HostRuntime) -> Result<(), Fail> {
-    let text = b"oat-case 1\nsteps 1\nkey 0b\noperation 1\nnonce 000102030405060708090a0b0c0d0e0f";
-    let mut case = read_case(rt.alloc(), text)?;
-    for (steps, fits) in [(0, false), (4_194_305, false), (4_194_304, true)] {
-        case.steps = steps;
-        assert_eq!(rt; case.well_formed(), fits);
-    }
-    for (op, fits) in [(0, false), (65_535, true)] {
-        case.session.op = op;
-        assert_eq!(rt; case.well_formed(), fits);
-    }
-    for (first, second, fits) in [
-        ((15, 0x4000_0000), (15, 0x7FFF_FFFF), true),
-        ((15, 0x4000_0000), (14, 0x4000_0000), false),
-        ((15, 0x4000_0000), (15, 0x8000_0000), false),
-    ] {
-        let mut writes = Vec::new(rt.alloc());
-        for (before, address) in [first, second] {
-            writes.push(write(rt.alloc(), before, address)?)?;
-        }
-        case.writes = Listed::from_vec(writes);
-        assert_eq!(rt; case.well_formed(), fits);
-    }
-    Ok(())
-}
-
-#[test]
-fn faults_are_written_as_line_and_kind(rt: HostRuntime) -> Result<(), Fail> {
-    let fault = CaseFault::At(12, CaseFaultKind::OutsideData);
-    let text = format!(in rt.alloc(); "{fault}")?;
-    assert_eq!(rt; text.as_bytes(), b"12 OutsideData".as_slice());
-    Ok(())
 }

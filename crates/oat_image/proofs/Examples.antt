@@ -6,7 +6,7 @@ use Rattle.oat_lines.specs.Hexadecimal.{hexadecimal}
 use Rattle.oat_map.specs.Name.{IsName}
 use Rattle.oat_image.specs.Grammar.{image_text, IsWellFormedImage, IsImageText}
 use Rattle.oat_image.specs.Worked.{one_jump, one_jump_text}
-use Rattle.oat_image.proofs.Names.{name_from_test}
+use Rattle.oat_map.proofs.NameTests.{name_from_test}
 
 spelled : one_jump_text ≡ image_text one_jump
 unfolding digits hexadecimal

@@ -10,15 +10,16 @@ use Rattle.oat_lines.specs.Fields.{one_field, two_fields, four_fields, spaced, I
 use Rattle.oat_lines.proofs.Hexadecimals.{hexadecimal_takes, hexadecimal_again}
 use Rattle.oat_lines.proofs.Decimals.{decimal_takes, decimal_again}
 use Rattle.oat_lines.proofs.Cutting.{one_takes, two_take, four_take, one_again, two_again, four_again, within_field, two_within, four_within}
-use Rattle.oat_map.specs.Name.{IsName}
+use Rattle.oat_map.specs.Name.{IsName, is_name, read_name}
 use Rattle.oat_map.specs.declared.map.Function.{Function}
 use Rattle.oat_map.specs.declared.map.Block.{Block}
 use Rattle.oat_image.specs.declared.image.InitWord.{InitWord}
 use Rattle.oat_image.specs.declared.fault.ImageFaultKind.TheVariants.{Token, Number}
 use Rattle.oat_image.specs.Grammar.{code_line, data_line, cell_line, function_line, block_line, flag_text, IsWord, IsIndex, IsInitWord, IsFunction, IsBlock}
-use Rattle.oat_image.specs.ImageReading.{eight_digits, number_in, value_of, flag_of, is_name, spelled_name, code_of, data_of, cell_of, function_with, function_of, block_of}
-use Rattle.oat_image.proofs.Names.{name_from_test, test_from_name, name_field}
-use Rattle.oat_lines.proofs.Steps.{bind_ok, ok_is, or_ok, guard_ok}
+use Rattle.oat_image.specs.ImageReading.{eight_digits, number_in, value_of, flag_of, spelled_name, code_of, data_of, cell_of, function_with, function_of, block_of}
+use Rattle.oat_map.proofs.NameTests.{name_from_test, test_from_name}
+use Rattle.oat_image.proofs.Names.{name_field}
+use Rattle.oat_lines.proofs.Steps.{chosen, bind_ok, ok_is, or_ok, guard_ok}
 use Rattle.oat_image.proofs.Sections.{IsForm, between_takes, between_again, decimal_field, hexadecimal_field}
 
 -- ---- words
@@ -77,13 +78,9 @@ flag_field : (b : Bool) → IsField (flag_text b)
 flag_field true = record { visible = refl; nonempty = omega arith }
 flag_field false = record { visible = refl; nonempty = omega arith }
 
-name_test : (t : Bool) (word name : List ℕ) → (if t then Ok word else Err Token) ≡ Ok name → (t ≡ true) × (word ≡ name)
-name_test true word name e = (refl, ok_is word name e)
-name_test false word name e = absurd cc
-
 name_takes : (word name : List ℕ) → spelled_name word ≡ Ok name → (word ≡ name) × IsName name
 name_takes word name e =
-    let t = name_test (is_name word) word name e in
+    let t = chosen (is_name word) word name (or_ok (read_name word) Token name e) in
     (t.1, subst (λ (n : List ℕ). IsName n) t.1 (name_from_test word t.0))
 
 name_again : (name : List ℕ) → IsName name → spelled_name name ≡ Ok name

@@ -1,15 +1,14 @@
 -- What the lines of an image text say, with the first fault of a line, and the image or the fault of a whole
 -- text (docs/FORMATS.md). In a line a wrong word or spacing comes first, then a wrong number, then a count above its limit, then
 -- an index or address that doesn't rise.
-use Rattle.std.specs.Prelude.{ℕ, Bool, List, length, codes, Option, Some, None, ok_or, Result, Ok, Err, nat_lt, ◌==◌, ◌&&◌, ◌||◌, not, bytes_eq, slice_index, if◌then◌else◌}
-use Rattle.std.specs.List.{list_all}
-use Rattle.std.specs.Char.{is_ascii_digit, is_ascii_alphanumeric}
+use Rattle.std.specs.Prelude.{ℕ, Bool, List, length, codes, Option, Some, None, ok_or, Result, Ok, Err, nat_lt, ◌==◌, bytes_eq, if◌then◌else◌}
 use Rattle.oat_lines.specs.declared.fault.Fault.{Fault}
 use Rattle.oat_lines.specs.Faults.{at}
 use Rattle.oat_lines.specs.Reading.{◌>>=◌, guard, between}
 use Rattle.oat_lines.specs.Decimal.{decimal_of}
 use Rattle.oat_lines.specs.Hexadecimal.{hexadecimal_of}
 use Rattle.oat_lines.specs.Fields.{one_field, field_and_rest, two_fields, three_fields, four_fields}
+use Rattle.oat_map.specs.Name.{read_name}
 use Rattle.oat_map.specs.declared.map.Map.{Map}
 use Rattle.oat_map.specs.declared.map.Function.{Function}
 use Rattle.oat_map.specs.declared.map.Block.{Block}
@@ -52,16 +51,8 @@ flag_of word = do
   n ← number_in 0 1 word
   Ok (n == 1)
 
--- an ASCII letter, a digit or an underscore
-abbrev pub is_name_byte : ℕ → Bool
-is_name_byte c = is_ascii_alphanumeric c || (c == 95)
-
--- what `IsName` says, as a test
-abbrev pub is_name : List ℕ → Bool
-is_name text = nat_lt 0 (length text) && nat_lt (length text) 33 && list_all is_name_byte text && not (is_ascii_digit (slice_index text 0))
-
 abbrev pub spelled_name : List ℕ → Result (List ℕ) ImageFaultKind
-spelled_name word = if is_name word then Ok word else Err Token
+spelled_name word = ok_or (read_name word) Token
 
 -- ---- lines
 

@@ -7,8 +7,8 @@ abbrev pub IsFree : ℕ → ℕ → List ℕ → Type 0
 IsFree byte place text = (k : ℕ) → k < place → slice_index text k ≢ byte
 
 -- the place of the first such byte
-abbrev pub IsFirst : ℕ → List ℕ → ℕ → Type 0
-IsFirst byte text place = (place < length text) × (slice_index text place ≡ byte) × IsFree byte place text
+abbrev pub IsFirstByte : ℕ → List ℕ → ℕ → Type 0
+IsFirstByte byte text place = (place < length text) × (slice_index text place ≡ byte) × IsFree byte place text
 
 -- what stands before the first such byte, and what stands after it
 unfoldable pub cut : ℕ → List ℕ → Option (List ℕ × List ℕ)

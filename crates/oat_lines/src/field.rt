@@ -1,8 +1,8 @@
 ghost use Rattle.std.specs.Prelude.{◌≡◌, length, MatchOption, option_map, option_copied};
-ghost use Rattle.oat_lines.specs.Fields.{IsFree, IsFirst, cut, one_field, field_and_rest, two_fields, three_fields, four_fields};
+ghost use Rattle.oat_lines.specs.Fields.{IsFree, IsFirstByte, cut, one_field, field_and_rest, two_fields, three_fields, four_fields};
 
 fn find(text: &[u8], byte: u8) -> Option<usize>
-    ensures { MatchOption result (IsFree byte (length text.now) text.now) (IsFirst byte text.now) }
+    ensures { MatchOption result (IsFree byte (length text.now) text.now) (IsFirstByte byte text.now) }
 {
     text.iter().position(|b| *b == byte)
 }
