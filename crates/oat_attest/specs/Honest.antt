@@ -7,7 +7,7 @@ use Rattle.oat_case.specs.declared.case.Session.{Session}
 use Rattle.oat_case.specs.declared.case.Write.{Write}
 use Rattle.oat_chain.specs.Chain.{chain}
 use Rattle.oat_image.specs.declared.image.Image.{Image}
-use Rattle.oat_image.specs.Grammar.{IsWellFormed}
+use Rattle.oat_image.specs.Grammar.{IsWellFormedImage}
 use Rattle.oat_map.specs.Walk.{Step, Walk, path_of, bits_of, targets_of, returns_of, path_limit}
 use Rattle.oat_journal.specs.Run.{Entry, AreGiven}
 use Rattle.oat_shape.specs.Shape.{IsShaped}
@@ -37,7 +37,7 @@ pub record IsWalkOf (image : Image) (op : ℕ) (window : List Entry) : Type 0 wh
 -- A trace that goes back as it called is a walk: for every image with the shape, from behind the call that opens the operation's window.
 abbrev pub TracesAreWalks : Type 0
 TracesAreWalks =
-    (image : Image) (op begin_at : ℕ) (window : List Entry) → IsWellFormed image → IsShaped image → BeginsAt image.map op begin_at
+    (image : Image) (op begin_at : ℕ) (window : List Entry) → IsWellFormedImage image → IsShaped image → BeginsAt image.map op begin_at
     → IsTrace image.code op (next_pc begin_at) window → GoesBack turn_of [] (executed_path image.map op window) → IsWalkOf image op window
 
 -- the sealed runs of an image, whatever was given and written, whose executed path goes back as it called
