@@ -1,7 +1,8 @@
 -- Whole runs: what each step keeps is kept by all, and the paths of calls go back as they called.
 use Rattle.std.proofs.Common.{refl, ap}
 use Rattle.oat_events.specs.Events.{is_entered, is_left}
-use Rattle.oat_events.proofs.EventLaws.{windows_are_cut, paths_go_back, completed_calls_are_first}
+use Rattle.oat_events.proofs.EventLaws.{paths_go_back, completed_calls_are_first}
+use Rattle.oat_events.proofs.WindowLaws.{windows_are_cut}
 use Rattle.oat_events.proofs.SourceLaws as source
 use Rattle.oat_check.specs.Active.{active_of, first_cells, line_turn}
 use Rattle.oat_check.specs.RunLaws.{CallsAreCounted, CallsAreCut, CallsGoBack, EndedRunsStay, RunsAreConsistent, RunsPass, RunsStack}

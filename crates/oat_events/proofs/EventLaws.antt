@@ -1,20 +1,12 @@
 -- Laws of lists of events, of any edges.
-use Rattle.std.proofs.Common.{◌≡◌, ℕ, Bool, true, List, [], ◌++◌, Option, Some, None}
-use Rattle.std.specs.Prelude.{nat_lt, if◌then◌else◌, slice_get}
+use Rattle.std.proofs.Common.{◌≡◌, ℕ, true, List, [], ◌++◌, Option, None}
+use Rattle.std.specs.Prelude.{nat_lt}
 use Rattle.std.specs.List.{filter_map}
 use Rattle.oat_map.specs.Turns.{Turn, GoesBack, stays}
 use Rattle.oat_events.specs.Cells.{Cells}
-use Rattle.oat_events.specs.Cuts.{cut_up}
 use Rattle.oat_events.specs.Events.{SourceEvent, Active, Passes, Stacks}
 use Rattle.oat_events.specs.Source.{edge_taken, stretch, has_completed, calls_done}
-use Rattle.oat_events.specs.Windows.{inside, is_closed}
-use Rattle.oat_events.proofs.Cutting.{cut_windows}
 use Rattle.oat_events.proofs.Stacking.{goes_back_in, calls_counted, stacks_join, passes_join}
-
--- Taken up item by item, the windows that have closed are those of the whole list.
-pub windows_are_cut : {X : Type 0} (opens seals : X → Bool) (xs : List X) (s : ℕ)
-    → slice_get (cut_up opens seals xs).closed s ≡ if is_closed opens seals s xs then Some (inside opens seals s xs) else None
-windows_are_cut opens seals xs s = cut_windows opens seals xs s
 
 -- Where the rule of operations and cells holds of events and of what follows, it holds of both.
 pub passes_joined : {E : Type 0} (front rest : List (SourceEvent E)) (now middle later : Option ℕ) (cells between behind : Cells)

@@ -2,3 +2,5 @@ mod Cutting
 pub mod EventLaws
 pub mod SourceLaws
 mod Stacking
+pub mod WindowLaws
+mod Windowing

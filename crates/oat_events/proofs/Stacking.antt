@@ -8,6 +8,7 @@ use Rattle.oat_events.specs.Cells.{Cells, defined}
 use Rattle.oat_events.specs.Events.{Active, Passes, SourceEvent, Stacks, enters, is_entered, is_left, leaves, loads, outputs, stores, takes}
 use Rattle.oat_events.specs.Source.{edge_taken, stretch}
 use Rattle.oat_events.specs.Windows.{beyond, is_closed, through}
+use Rattle.oat_events.proofs.Windowing.{beyond_none, closed_none, first_closed}
 
 abbrev active : {P : Type 0} → ℕ → List P → Option (Active P)
 active op calls = Some (record { op = op; calls = calls })
@@ -89,34 +90,12 @@ left-path turn finish end op calls (outputs value ∷ es) later st closed = left
 
 -- ---- call s
 
-beyond-none : {X : Type 0} (test : X → Bool) (xs : List X) → list_any test xs ≡ false → beyond test xs ≡ []
-beyond-none test [] none = refl
-beyond-none test (x ∷ xs) none =
-    elim (cases_Bool (test x)) [
-      | inl hit ↦ let no : true ≡ false = rw hit at none in absurd (cc)
-      | inr off ↦ rw off (beyond-none test xs (rw off at none))
-    ]
-
-never-closed : {X : Type 0} (opens seals : X → Bool) (s : ℕ) → is_closed opens seals s [] ≡ false
-never-closed opens seals zero = refl
-never-closed opens seals (suc s) = never-closed opens seals s
-
--- where a later window closes, the first one does
-first-closed : {X : Type 0} (opens seals : X → Bool) (s : ℕ) (xs : List X) → is_closed opens seals (suc s) xs ≡ true → list_any seals (beyond opens xs) ≡ true
-first-closed opens seals s xs closed =
-    elim (cases_Bool (list_any seals (beyond opens xs))) [
-      | inl any ↦ any
-      | inr none ↦
-          let no : false ≡ true = sym (never-closed opens seals s) ∙ ap (is_closed opens seals s) (sym (beyond-none seals (beyond opens xs) none)) ∙ closed in
-          absurd (cc)
-    ]
-
 pub goes_back_in : {E P : Type 0} (turn : E → Turn P) (finish : ℕ → E) → ((op : ℕ) → turn (finish op) ≡ stays) → (es : List (SourceEvent E)) (later : Option (Active P)) → Stacks turn None es later
     → (op s : ℕ) → is_closed (is_entered op) (is_left op) s es ≡ true → GoesBack turn [] (filter_map (edge_taken finish op) (stretch op s es))
 goes_back_in turn finish end es later st op zero closed =
     left-path turn finish end op [] (beyond (is_entered op) es) later (entered turn op es None later st closed) closed
 goes_back_in turn finish end es later st op (suc s) closed =
-    let first = first-closed (is_entered op) (is_left op) s es closed in
+    let first = first_closed (is_entered op) (is_left op) s es closed in
     goes_back_in turn finish end (beyond (is_left op) (beyond (is_entered op) es)) later
     (left-behind turn op [] (beyond (is_entered op) es) later (entered turn op es None later st first) first) op s closed
 
@@ -208,7 +187,7 @@ calls_counted turn es later st op (suc s) = elim (cases_Bool (list_any (is_left 
       calls_counted turn (beyond (is_left op) (beyond (is_entered op) es)) later rest op s ∙ next s _ _ e
   | inr none ↦
       let e : count_by (is_left op) es ≡ 0 = idle-counts turn op es None later st (idle-none _ op) ∙ none-counts (is_left op) (beyond (is_entered op) es) none in
-      ap (is_closed (is_entered op) (is_left op) s) (beyond-none (is_left op) (beyond (is_entered op) es) none) ∙ never-closed (is_entered op) (is_left op) s
+      ap (is_closed (is_entered op) (is_left op) s) (beyond_none (is_left op) (beyond (is_entered op) es) none) ∙ closed_none (is_entered op) (is_left op) s
       ∙ sym (le-ltb (suc s) (count_by (is_left op) es) (omega arith))
 ] where
   next : (s m n : ℕ) → n ≡ suc m → ltb s m ≡ ltb (suc s) n
