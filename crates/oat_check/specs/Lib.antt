@@ -9,6 +9,7 @@ pub mod RuleLaws
 pub mod Rules
 pub mod RunLaws
 pub mod Runs
+pub mod Shown
 pub mod Steps
 pub mod Worked
 pub mod WorkedPrograms

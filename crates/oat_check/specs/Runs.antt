@@ -1,11 +1,9 @@
 -- The source run: a program with its inputs is a source, so its events, end, outputs, paths and loads are a source's.
-use Rattle.std.specs.Prelude.{ℕ, suc, if◌then◌else◌, List, [], ◌∷◌, Option, Some, None, ℤ}
+use Rattle.std.specs.Prelude.{ℕ, suc, if◌then◌else◌, List, [], ◌∷◌, None, ℤ}
 use Rattle.oat_ir.specs.declared.program.Program.{Program}
 use Rattle.oat_ir.specs.declared.func.Func.{Func}
-use Rattle.oat_ir.specs.declared.source.SourceEnd.{SourceEnd}
-use Rattle.oat_ir.specs.declared.source.SourceEnd.TheVariants.{Halted, Trap, OutOfSteps}
 use Rattle.oat_events.specs.Events.{SourceEvent}
-use Rattle.oat_events.specs.Source.{SourceMachine, Finish, halted, trapped, state_after, events_after}
+use Rattle.oat_events.specs.Source.{SourceMachine, state_after, events_after}
 use Rattle.oat_check.specs.Globals.{first_values}
 use Rattle.oat_check.specs.Rules.{is_main}
 use Rattle.oat_check.specs.Naming.{line_edge_name}
@@ -44,9 +42,3 @@ source_run p inputs n = state_after (source_of p inputs) n (source_start p input
 -- what these steps show
 abbrev pub source_events : Program → List ℤ → ℕ → List (SourceEvent LineEdge)
 source_events p inputs n = events_after (source_of p inputs) n
-
--- a run that hasn't ended is out of steps
-abbrev pub source_end : Option Finish → SourceEnd
-source_end (Some halted) = Halted
-source_end (Some (trapped kind)) = Trap kind
-source_end None = OutOfSteps
