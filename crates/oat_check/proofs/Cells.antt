@@ -10,7 +10,7 @@ use Rattle.oat_ir.specs.declared.program.GlobalItem.{GlobalItem}
 use Rattle.oat_ir.specs.declared.program.GlobalItem.TheVariants.{Scalar, FnScalar, Array, CriticalArray}
 use Rattle.std.specs.Option.{option_and_then}
 use Rattle.std.proofs.lemmas.List.FromFn.{length-range_with_len}
-use Rattle.oat_check.specs.Globals.{Values, cell_words, cells_in, element_number, elements_in, of_global, put, size_in_cells, size_in_words, word_number, words_in}
+use Rattle.oat_check.specs.Globals.{Values, cell_words, cell_values, element_number, element_values, of_global, put, size_in_cells, size_in_words, word_number, word_values}
 use Rattle.oat_check.specs.RunLaws.{CellWordsAreThere, CellsAreWords, CellsHaveWords, ElementsAreNumbered}
 use Rattle.oat_events.specs.Cells.{defined}
 
@@ -20,29 +20,29 @@ behind count x xs g i = let e : sum_by count (take (suc g) (x ∷ xs)) ≡ count
 -- ---- reading
 
 pub element_holds : (count : GlobalItem → ℕ) (items : List GlobalItem) (values : Values) (g i : ℕ) (item : GlobalItem) → slice_get items g ≡ Some item → i < count item
-    → elements_in count items values (sum_by count (take g items) + i) ≡ Some (values g i)
+    → element_values count items values (sum_by count (take g items) + i) ≡ Some (values g i)
 element_holds count [] values g i item is l = absurd (cc)
 element_holds count (x ∷ xs) values zero i item is l =
     let e : x ≡ item = cc in
     let m : i < count x = subst (λ (y : GlobalItem). i < count y) (sym e) l in
     at (0 + i) (omega arith) where
-      at : (c : ℕ) → c ≡ i → elements_in count (x ∷ xs) values c ≡ Some (values 0 i)
-      at c same = ap (λ (t : Bool). cond t (Some (values 0 c)) (elements_in count xs (λ g. values (suc g)) (c - count x))) (lt-ltb c (count x) (let e : x ≡ item = cc in let m : i < count x = subst (λ (y : GlobalItem). i < count y) (sym e) l in omega arith)) ∙ ap (λ (n : ℕ). Some (values 0 n)) same
+      at : (c : ℕ) → c ≡ i → element_values count (x ∷ xs) values c ≡ Some (values 0 i)
+      at c same = ap (λ (t : Bool). cond t (Some (values 0 c)) (element_values count xs (λ g. values (suc g)) (c - count x))) (lt-ltb c (count x) (let e : x ≡ item = cc in let m : i < count x = subst (λ (y : GlobalItem). i < count y) (sym e) l in omega arith)) ∙ ap (λ (n : ℕ). Some (values 0 n)) same
 element_holds count (x ∷ xs) values (suc g) i item is l = at _ _ (behind count x xs g i) (element_holds count xs (λ g. values (suc g)) g i item is l) where
-  at : (c d : ℕ) → c ≡ count x + d → elements_in count xs (λ g. values (suc g)) d ≡ Some (values (suc g) i) → elements_in count (x ∷ xs) values c ≡ Some (values (suc g) i)
+  at : (c d : ℕ) → c ≡ count x + d → element_values count xs (λ g. values (suc g)) d ≡ Some (values (suc g) i) → element_values count (x ∷ xs) values c ≡ Some (values (suc g) i)
   at c d e h =
-      ap (λ (t : Bool). cond t (Some (values 0 c)) (elements_in count xs (λ g. values (suc g)) (c - count x))) (le-ltb c (count x) (omega arith))
-      ∙ ap (elements_in count xs (λ g. values (suc g))) (omega arith) ∙ h
+      ap (λ (t : Bool). cond t (Some (values 0 c)) (element_values count xs (λ g. values (suc g)) (c - count x))) (le-ltb c (count x) (omega arith))
+      ∙ ap (element_values count xs (λ g. values (suc g))) (omega arith) ∙ h
 
 -- ---- writing
 
 -- values that agree at the elements of critical globals
 pub alike_elements : (count : GlobalItem → ℕ) (items : List GlobalItem) (old new : Values) → ((g i : ℕ) (item : GlobalItem) → slice_get items g ≡ Some item → i < count item → new g i ≡ old g i)
-    → (c : ℕ) → elements_in count items new c ≡ elements_in count items old c
+    → (c : ℕ) → element_values count items new c ≡ element_values count items old c
 alike_elements count [] old new same c = refl
 alike_elements count (x ∷ xs) old new same c = by (ltb c (count x)) refl (alike_elements count xs (λ g. old (suc g)) (λ g. new (suc g)) (λ g i item at l. same (suc g) i item at l) (c - count x)) where
-  by : (t : Bool) → ltb c (count x) ≡ t → elements_in count xs (λ g. new (suc g)) (c - count x) ≡ elements_in count xs (λ g. old (suc g)) (c - count x)
-      → cond t (Some (new 0 c)) (elements_in count xs (λ g. new (suc g)) (c - count x)) ≡ cond t (Some (old 0 c)) (elements_in count xs (λ g. old (suc g)) (c - count x))
+  by : (t : Bool) → ltb c (count x) ≡ t → element_values count xs (λ g. new (suc g)) (c - count x) ≡ element_values count xs (λ g. old (suc g)) (c - count x)
+      → cond t (Some (new 0 c)) (element_values count xs (λ g. new (suc g)) (c - count x)) ≡ cond t (Some (old 0 c)) (element_values count xs (λ g. old (suc g)) (c - count x))
   by true is rest = ap Some (same 0 c x refl (ltb-true c (count x) is))
   by false is rest = rest
 
@@ -64,21 +64,21 @@ is_put items old g i value = record { here = here; there = there } where
 
 -- a cell is defined
 pub element_put : (count : GlobalItem → ℕ) (items : List GlobalItem) (old new : Values) (g i value : ℕ) (item : GlobalItem) → IsPut items old new g i value → slice_get items g ≡ Some item → i < count item
-    → (c : ℕ) → defined (elements_in count items old) (sum_by count (take g items) + i) value c ≡ elements_in count items new c
+    → (c : ℕ) → defined (element_values count items old) (sum_by count (take g items) + i) value c ≡ element_values count items new c
 element_put count [] old new g i value item is at l c = absurd (cc)
 element_put count (x ∷ xs) old new zero i value item is at l c =
     let e : x ≡ item = cc in
     let m : i < count x = subst (λ (y : GlobalItem). i < count y) (sym e) l in
     by (ltb c (count x)) refl m where
       held : Option ℕ
-      held = elements_in count xs (λ g. old (suc g)) (c - count x)
+      held = element_values count xs (λ g. old (suc g)) (c - count x)
 
       inside : (t : Bool) → eqb c (0 + i) ≡ t → cond (t && true) (Some value) (Some (old 0 c)) ≡ Some (new 0 c)
       inside true same = let e : c ≡ i = omega (arith, eqb-true c (0 + i) same) in ap Some (sym is.here ∙ ap (new 0) (sym e))
       inside false other = ap Some (sym (is.there 0 c (λ h. eqb-false c (0 + i) other (let e : c ≡ i = h.1 in omega arith))))
 
       by : (t : Bool) → ltb c (count x) ≡ t → i < count x
-          → cond (eqb c (0 + i) && is_some (cond t (Some (old 0 c)) held)) (Some value) (cond t (Some (old 0 c)) held) ≡ cond t (Some (new 0 c)) (elements_in count xs (λ g. new (suc g)) (c - count x))
+          → cond (eqb c (0 + i) && is_some (cond t (Some (old 0 c)) held)) (Some value) (cond t (Some (old 0 c)) held) ≡ cond t (Some (new 0 c)) (element_values count xs (λ g. new (suc g)) (c - count x))
       by true low m = inside (eqb c (0 + i)) refl
       by false high m =
           ap (λ (t : Bool). cond (t && is_some held) (Some value) held) (ne_eqb c (0 + i) (λ e. let k : count x ≤ c = ltb-false c (count x) high in omega arith))
@@ -92,7 +92,7 @@ element_put count (x ∷ xs) old new (suc g) i value item is at l c =
       down h e = omega arith
 
       held : Option ℕ
-      held = elements_in count xs (λ g. old (suc g)) (c - count x)
+      held = element_values count xs (λ g. old (suc g)) (c - count x)
 
       shifted : (n : ℕ) → count x ≤ c → n ≡ count x + before → eqb c n ≡ eqb (c - count x) before
       shifted n low e = by (eqb (c - count x) before) refl where
@@ -101,9 +101,9 @@ element_put count (x ∷ xs) old new (suc g) i value item is at l c =
         by false other = ne_eqb c n (λ f. eqb-false (c - count x) before other (omega arith))
 
       by : (t : Bool) → ltb c (count x) ≡ t
-          → defined (elements_in count xs (λ g. old (suc g))) before value (c - count x) ≡ elements_in count xs (λ g. new (suc g)) (c - count x)
+          → defined (element_values count xs (λ g. old (suc g))) before value (c - count x) ≡ element_values count xs (λ g. new (suc g)) (c - count x)
           → cond (eqb c (sum_by count (take (suc g) (x ∷ xs)) + i) && is_some (cond t (Some (old 0 c)) held)) (Some value) (cond t (Some (old 0 c)) held)
-          ≡ cond t (Some (new 0 c)) (elements_in count xs (λ g. new (suc g)) (c - count x))
+          ≡ cond t (Some (new 0 c)) (element_values count xs (λ g. new (suc g)) (c - count x))
       by true low rest =
           ap (λ (t : Bool). cond (t && true) (Some value) (Some (old 0 c))) (ne_eqb c (sum_by count (take (suc g) (x ∷ xs)) + i) (λ e. let k : c < count x = ltb-true c (count x) low in let d : sum_by count (take (suc g) (x ∷ xs)) + i ≡ count x + (sum_by count (take g xs) + i) = behind count x xs g i in omega arith))
           ∙ ap Some (sym (is.there 0 c (λ h. let e : 0 ≡ suc g = h.0 in omega arith)))
@@ -114,26 +114,26 @@ element_put count (x ∷ xs) old new (suc g) i value item is at l c =
 -- ---- by their numbers
 
 -- what is told of a cell is what the element holds
-pub element_told : (count : GlobalItem → ℕ) (items : List GlobalItem) (values : Values) (g i : ℕ) (item : GlobalItem) → slice_get items g ≡ Some item → (c : ℕ) → element_number count items g i ≡ Some c → elements_in count items values c ≡ Some (values g i)
+pub element_told : (count : GlobalItem → ℕ) (items : List GlobalItem) (values : Values) (g i : ℕ) (item : GlobalItem) → slice_get items g ≡ Some item → (c : ℕ) → element_number count items g i ≡ Some c → element_values count items values c ≡ Some (values g i)
 element_told count items values g i item is c at =
     let h = cond_some (ltb i (of_global count (slice_get items g))) _ _ at in
     let e : of_global count (slice_get items g) ≡ count item = ap (of_global count) is in
     let l : i < of_global count (slice_get items g) = ltb-true _ _ h.0 in
-    subst (λ (n : ℕ). elements_in count items values n ≡ Some (values g i)) h.1 (element_holds count items values g i item is (omega arith))
+    subst (λ (n : ℕ). element_values count items values n ≡ Some (values g i)) h.1 (element_holds count items values g i item is (omega arith))
 
 -- a new value of a cell defines it
 pub element_stored : (count : GlobalItem → ℕ) (items : List GlobalItem) (values : Values) (g i value : ℕ) (item : GlobalItem) → slice_get items g ≡ Some item → (c : ℕ) → element_number count items g i ≡ Some c
-    → defined (elements_in count items values) c value ≡ elements_in count items (put values g i value)
+    → defined (element_values count items values) c value ≡ element_values count items (put values g i value)
 element_stored count items values g i value item is c at =
     let h = cond_some (ltb i (of_global count (slice_get items g))) _ _ at in
     let e : of_global count (slice_get items g) ≡ count item = ap (of_global count) is in
     let l : i < of_global count (slice_get items g) = ltb-true _ _ h.0 in
-    subst (λ (n : ℕ). defined (elements_in count items values) n value ≡ elements_in count items (put values g i value)) h.1
+    subst (λ (n : ℕ). defined (element_values count items values) n value ≡ element_values count items (put values g i value)) h.1
     (fun_ext (element_put count items values (put values g i value) g i value item (is_put items values g i value) is (omega arith)))
 
 -- and a new value elsewhere leaves the cells
 pub elements_stay : (count : GlobalItem → ℕ) (items : List GlobalItem) (values : Values) (g i value : ℕ) (item : GlobalItem) → slice_get items g ≡ Some item → element_number count items g i ≡ None
-    → elements_in count items values ≡ elements_in count items (put values g i value)
+    → element_values count items values ≡ element_values count items (put values g i value)
 elements_stay count items values g i value item is at = sym (fun_ext (alike_elements count items values (put values g i value) same)) where
   high : (t : Bool) (n : ℕ) → cond t (Some n) None ≡ None → t ≡ false
   high false n h = refl
@@ -219,39 +219,39 @@ cells_have_words p g i c at = by (slice_get p.globals g) refl where
       ap (slice_get (cell_words p.globals)) (sym h.1) ∙ word_of_cell p.globals g i item is (omega arith)
       ∙ sym (ap (λ (t : Bool). cond t (Some (sum_by size_in_words (take g p.globals) + i)) None) (lt-ltb i (of_global size_in_words (slice_get p.globals g)) (omega arith)))
 
-cells_by_words : (items : List GlobalItem) (values : Values) (c : ℕ) → cells_in items values c ≡ option_and_then (words_in items values) (slice_get (cell_words items) c)
+cells_by_words : (items : List GlobalItem) (values : Values) (c : ℕ) → cell_values items values c ≡ option_and_then (word_values items values) (slice_get (cell_words items) c)
 cells_by_words [] values c = refl
 cells_by_words (x ∷ xs) values c = elim (cases_lt c (size_in_cells x)) [
   | inl low ↦
       let m : size_in_cells x ≤ size_in_words x = cells_few x in
       let n : length (range_with_len 0 (size_in_cells x)) ≡ size_in_cells x = length-range_with_len 0 (size_in_cells x) in
-      ap (λ (t : Bool). cond t (Some (values 0 c)) (cells_in xs (λ g. values (suc g)) (c - size_in_cells x))) (lt-ltb c (size_in_cells x) low)
-      ∙ sym (ap (option_and_then (words_in (x ∷ xs) values)) (slice_get-left (range_with_len 0 (size_in_cells x)) _ c (omega arith) ∙ slice_get-range 0 (size_in_cells x) c low ∙ ap (λ (m : ℕ). Some m) (nothing c))
-      ∙ ap (λ (t : Bool). cond t (Some (values 0 c)) (words_in xs (λ g. values (suc g)) (c - size_in_words x))) (lt-ltb c (size_in_words x) (omega arith)))
+      ap (λ (t : Bool). cond t (Some (values 0 c)) (cell_values xs (λ g. values (suc g)) (c - size_in_cells x))) (lt-ltb c (size_in_cells x) low)
+      ∙ sym (ap (option_and_then (word_values (x ∷ xs) values)) (slice_get-left (range_with_len 0 (size_in_cells x)) _ c (omega arith) ∙ slice_get-range 0 (size_in_cells x) c low ∙ ap (λ (m : ℕ). Some m) (nothing c))
+      ∙ ap (λ (t : Bool). cond t (Some (values 0 c)) (word_values xs (λ g. values (suc g)) (c - size_in_words x))) (lt-ltb c (size_in_words x) (omega arith)))
   | inr high ↦
       let n : length (range_with_len 0 (size_in_cells x)) ≡ size_in_cells x = length-range_with_len 0 (size_in_cells x) in
-      ap (λ (t : Bool). cond t (Some (values 0 c)) (cells_in xs (λ g. values (suc g)) (c - size_in_cells x))) (le-ltb c (size_in_cells x) high)
+      ap (λ (t : Bool). cond t (Some (values 0 c)) (cell_values xs (λ g. values (suc g)) (c - size_in_cells x))) (le-ltb c (size_in_cells x) high)
       ∙ cells_by_words xs (λ g. values (suc g)) (c - size_in_cells x)
-      ∙ sym (ap (option_and_then (words_in (x ∷ xs) values))
+      ∙ sym (ap (option_and_then (word_values (x ∷ xs) values))
       (slice_get-right (range_with_len 0 (size_in_cells x)) _ c (c - size_in_cells x) (omega arith) ∙ slice_get-map (λ word. size_in_words x + word) (cell_words xs) (c - size_in_cells x))
       ∙ shifted (slice_get (cell_words xs) (c - size_in_cells x)))
 ] where
   nothing : (c : ℕ) → 0 + c ≡ c
   nothing c = omega arith
 
-  past : (w : ℕ) → words_in (x ∷ xs) values (size_in_words x + w) ≡ words_in xs (λ g. values (suc g)) w
+  past : (w : ℕ) → word_values (x ∷ xs) values (size_in_words x + w) ≡ word_values xs (λ g. values (suc g)) w
   past w =
-      ap (λ (t : Bool). cond t (Some (values 0 (size_in_words x + w))) (words_in xs (λ g. values (suc g)) (size_in_words x + w - size_in_words x))) (le-ltb (size_in_words x + w) (size_in_words x) (omega arith))
-      ∙ ap (words_in xs (λ g. values (suc g))) (omega arith)
+      ap (λ (t : Bool). cond t (Some (values 0 (size_in_words x + w))) (word_values xs (λ g. values (suc g)) (size_in_words x + w - size_in_words x))) (le-ltb (size_in_words x + w) (size_in_words x) (omega arith))
+      ∙ ap (word_values xs (λ g. values (suc g))) (omega arith)
 
-  shifted : (o : Option ℕ) → option_and_then (words_in (x ∷ xs) values) (option_map (λ word. size_in_words x + word) o) ≡ option_and_then (words_in xs (λ g. values (suc g))) o
+  shifted : (o : Option ℕ) → option_and_then (word_values (x ∷ xs) values) (option_map (λ word. size_in_words x + word) o) ≡ option_and_then (word_values xs (λ g. values (suc g))) o
   shifted None = refl
   shifted (Some w) = past w
 
 pub cells_are_words : CellsAreWords
 cells_are_words p values c = cells_by_words p.globals values c
 
-words_there : (items : List GlobalItem) (values : Values) (c word : ℕ) → slice_get (cell_words items) c ≡ Some word → (value : ℕ) × (words_in items values word ≡ Some value)
+words_there : (items : List GlobalItem) (values : Values) (c word : ℕ) → slice_get (cell_words items) c ≡ Some word → (value : ℕ) × (word_values items values word ≡ Some value)
 words_there [] values c word h = absurd (cc)
 words_there (x ∷ xs) values c word h = elim (cases_lt c (size_in_cells x)) [
   | inl low ↦
@@ -259,7 +259,7 @@ words_there (x ∷ xs) values c word h = elim (cases_lt c (size_in_cells x)) [
       let n : length (range_with_len 0 (size_in_cells x)) ≡ size_in_cells x = length-range_with_len 0 (size_in_cells x) in
       let k : Some (0 + c) ≡ Some word = sym (slice_get-left (range_with_len 0 (size_in_cells x)) (map (λ word. size_in_words x + word) (cell_words xs)) c (omega arith) ∙ slice_get-range 0 (size_in_cells x) c low) ∙ h in
       let e : 0 + c ≡ word = same_Some _ _ k in
-      (values 0 word, ap (λ (t : Bool). cond t (Some (values 0 word)) (words_in xs (λ g. values (suc g)) (word - size_in_words x))) (lt-ltb word (size_in_words x) (omega arith)))
+      (values 0 word, ap (λ (t : Bool). cond t (Some (values 0 word)) (word_values xs (λ g. values (suc g)) (word - size_in_words x))) (lt-ltb word (size_in_words x) (omega arith)))
   | inr high ↦
       let n : length (range_with_len 0 (size_in_cells x)) ≡ size_in_cells x = length-range_with_len 0 (size_in_cells x) in
       let k : option_map (λ word. size_in_words x + word) (slice_get (cell_words xs) (c - size_in_cells x)) ≡ Some word =
@@ -267,14 +267,14 @@ words_there (x ∷ xs) values c word h = elim (cases_lt c (size_in_cells x)) [
       by (slice_get (cell_words xs) (c - size_in_cells x)) refl k (λ w l. words_there xs (λ g. values (suc g)) (c - size_in_cells x) w l)
 ] where
   by : (o : Option ℕ) → slice_get (cell_words xs) (c - size_in_cells x) ≡ o → option_map (λ word. size_in_words x + word) o ≡ Some word
-      → ((w : ℕ) → slice_get (cell_words xs) (c - size_in_cells x) ≡ Some w → (value : ℕ) × (words_in xs (λ g. values (suc g)) w ≡ Some value)) → (value : ℕ) × (words_in (x ∷ xs) values word ≡ Some value)
+      → ((w : ℕ) → slice_get (cell_words xs) (c - size_in_cells x) ≡ Some w → (value : ℕ) × (word_values xs (λ g. values (suc g)) w ≡ Some value)) → (value : ℕ) × (word_values (x ∷ xs) values word ≡ Some value)
   by None is k rest = absurd (cc)
   by (Some w) is k rest =
       let r = rest w is in
       let e : size_in_words x + w ≡ word = same_Some _ _ k in (
         r.0,
-        ap (λ (t : Bool). cond t (Some (values 0 word)) (words_in xs (λ g. values (suc g)) (word - size_in_words x))) (le-ltb word (size_in_words x) (omega arith))
-            ∙ ap (words_in xs (λ g. values (suc g))) (back word w e) ∙ r.1,
+        ap (λ (t : Bool). cond t (Some (values 0 word)) (word_values xs (λ g. values (suc g)) (word - size_in_words x))) (le-ltb word (size_in_words x) (omega arith))
+            ∙ ap (word_values xs (λ g. values (suc g))) (back word w e) ∙ r.1,
       ) where
         back : (word w : ℕ) → size_in_words x + w ≡ word → word - size_in_words x ≡ w
         back word w e = omega arith

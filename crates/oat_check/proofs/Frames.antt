@@ -13,7 +13,7 @@ use Rattle.oat_ir.specs.declared.func.Ty.{Ty}
 use Rattle.oat_ir.specs.declared.instr.Instr.{Instr}
 use Rattle.oat_ir.specs.WellFormed.{IsFunc}
 use Rattle.oat_check.specs.Active.{active_of, cells_at, line_turn, operation_active}
-use Rattle.oat_check.specs.Globals.{cell_number, cells_in, length_at, put, size_in_cells}
+use Rattle.oat_check.specs.Globals.{cell_number, cell_values, length_at, put, size_in_cells}
 use Rattle.oat_check.specs.Keeping.{AreLocals, IsCaller, IsConsistent, IsFrame, IsLawful, IsValue, MayCall, item_ty}
 use Rattle.oat_check.specs.Lines.{instruction, line_in, terminator}
 use Rattle.oat_check.specs.Rules.{IsChecked, are_as, local_ty, parameters}
@@ -110,8 +110,8 @@ writes_lawful p s g low h i value item is good = record {
   passes = passing (cell_number p h i) (λ c at. element_stored size_in_cells p.globals s.globals h i value item is c at) (λ at. elements_stay size_in_cells p.globals s.globals h i value item is at);
   stacks = stacking (cell_number p h i);
 } where
-  passing : (o : Option ℕ) → ((c : ℕ) → o ≡ Some c → defined (cells_at p s) c value ≡ cells_in p.globals (put s.globals h i value)) → (o ≡ None → cells_at p s ≡ cells_in p.globals (put s.globals h i value))
-      → Passes (operation_active p s) (cells_at p s) (shows o (λ cell. event.stores cell value)) (operation_active p s) (cells_in p.globals (put s.globals h i value))
+  passing : (o : Option ℕ) → ((c : ℕ) → o ≡ Some c → defined (cells_at p s) c value ≡ cell_values p.globals (put s.globals h i value)) → (o ≡ None → cells_at p s ≡ cell_values p.globals (put s.globals h i value))
+      → Passes (operation_active p s) (cells_at p s) (shows o (λ cell. event.stores cell value)) (operation_active p s) (cell_values p.globals (put s.globals h i value))
   passing None there else_ = (refl, else_ refl)
   passing (Some c) there else_ = (refl, there c refl)
 

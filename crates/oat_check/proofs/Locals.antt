@@ -10,7 +10,7 @@ use Rattle.oat_ir.specs.declared.func.Func.{Func}
 use Rattle.oat_ir.specs.declared.func.Local.{Local}
 use Rattle.oat_ir.specs.declared.func.Ty.{Ty}
 use Rattle.oat_ir.specs.declared.func.Ty.TheVariants.{I64, Fn}
-use Rattle.oat_check.specs.Globals.{Values, first_values, of_global, put, size_in_words, start_of, words_in}
+use Rattle.oat_check.specs.Globals.{Values, first_values, of_global, put, size_in_words, start_of, word_values}
 use Rattle.oat_check.specs.Keeping.{AreGlobals, AreLocals, IsValue, ReferencesAreKnown, WordsAreTyped, item_ty, word_ty}
 use Rattle.oat_check.specs.Rules.{are_alike, are_as, hold_numbers, local_ty, parameters, passes, scalar_ty, takes_numbers}
 use Rattle.oat_check.specs.Steps.{assigned}
@@ -112,11 +112,11 @@ references_are_known p k value (inl null) = inl null
 references_are_known p k value (inr t) = inr (and_from _ _ (ap (passes (λ f. eqb f.params k)) t.is ∙ eq-eqb t.callee.params k t.params) t.referenced)
 
 typed_in : (p : Program) (items : List GlobalItem) (values : Values) → ((g : ℕ) (item : GlobalItem) → slice_get items g ≡ Some item → (i : ℕ) → IsValue p (item_ty item) (values g i))
-    → (n value : ℕ) → words_in items values n ≡ Some value → (ty : Ty) × (word_ty items n ≡ Some ty) × IsValue p ty value
+    → (n value : ℕ) → word_values items values n ≡ Some value → (ty : Ty) × (word_ty items n ≡ Some ty) × IsValue p ty value
 typed_in p [] values held n value is = absurd (cc)
 typed_in p (x ∷ xs) values held n value is = by (ltb n (size_in_words x)) (λ k. typed_in p xs (λ g. values (suc g)) (λ g item at i. held (suc g) item at i) (n - size_in_words x) value k) is where
-  by : (t : Bool) → (words_in xs (λ g. values (suc g)) (n - size_in_words x) ≡ Some value → (ty : Ty) × (word_ty xs (n - size_in_words x) ≡ Some ty) × IsValue p ty value)
-      → cond t (Some (values 0 n)) (words_in xs (λ g. values (suc g)) (n - size_in_words x)) ≡ Some value
+  by : (t : Bool) → (word_values xs (λ g. values (suc g)) (n - size_in_words x) ≡ Some value → (ty : Ty) × (word_ty xs (n - size_in_words x) ≡ Some ty) × IsValue p ty value)
+      → cond t (Some (values 0 n)) (word_values xs (λ g. values (suc g)) (n - size_in_words x)) ≡ Some value
       → (ty : Ty) × (cond t (Some (item_ty x)) (word_ty xs (n - size_in_words x)) ≡ Some ty) × IsValue p ty value
   by true rest h = let e : values 0 n ≡ value = cc in (item_ty x, refl, subst (IsValue p (item_ty x)) e (held 0 x refl n))
   by false rest h = rest h

@@ -5,7 +5,7 @@ use Rattle.oat_map.specs.Turns.{Turn, pushes, pops, stays}
 use Rattle.oat_ir.specs.declared.program.Program.{Program}
 use Rattle.oat_events.specs.Cells.{Cells}
 use Rattle.oat_events.specs.Events.{Active}
-use Rattle.oat_check.specs.Globals.{first_values, cells_in}
+use Rattle.oat_check.specs.Globals.{first_values, cell_values}
 use Rattle.oat_check.specs.Steps.{LinePlace, LineEdge, calls, icalls, returns, Frame, SourceState, line_place, operation_of}
 
 -- calls are told apart by their lines
@@ -31,7 +31,7 @@ abbrev pub operation_active : Program → SourceState → Option ℕ
 operation_active p s = option_map (λ active. active.op) (active_of p s)
 
 abbrev pub cells_at : Program → SourceState → Cells
-cells_at p s = cells_in p.globals s.globals
+cells_at p s = cell_values p.globals s.globals
 
 abbrev pub first_cells : Program → Cells
-first_cells p = cells_in p.globals (first_values p)
+first_cells p = cell_values p.globals (first_values p)

@@ -61,13 +61,13 @@ abbrev pub put : Values → ℕ → ℕ → ℕ → Values
 put values g i value = λ h j. if nat_eq h g && nat_eq j i then value else values h j
 
 -- what the elements of these globals hold, by their numbers
-abbrev pub elements_in : (GlobalItem → ℕ) → List GlobalItem → Values → ℕ → Option ℕ
-elements_in size [] values n = None
-elements_in size (item ∷ items) values n =
-    if nat_lt n (size item) then Some (values 0 n) else elements_in size items (λ g. values (suc g)) (n - size item)
+abbrev pub element_values : (GlobalItem → ℕ) → List GlobalItem → Values → ℕ → Option ℕ
+element_values size [] values n = None
+element_values size (item ∷ items) values n =
+    if nat_lt n (size item) then Some (values 0 n) else element_values size items (λ g. values (suc g)) (n - size item)
 
-abbrev pub words_in : List GlobalItem → Values → ℕ → Option ℕ
-words_in = elements_in size_in_words
+abbrev pub word_values : List GlobalItem → Values → ℕ → Option ℕ
+word_values = element_values size_in_words
 
-abbrev pub cells_in : List GlobalItem → Values → Cells
-cells_in = elements_in size_in_cells
+abbrev pub cell_values : List GlobalItem → Values → Cells
+cell_values = element_values size_in_cells

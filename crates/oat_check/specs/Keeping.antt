@@ -16,7 +16,7 @@ use Rattle.oat_ir.specs.declared.instr.Instr.TheVariants.{RefTo}
 use Rattle.oat_ir.specs.declared.instr.Term.TheVariants.{Ret}
 use Rattle.oat_events.specs.Events.{Passes, Stacks}
 use Rattle.oat_check.specs.Active.{line_turn, active_of, operation_active, cells_at}
-use Rattle.oat_check.specs.Globals.{Values, size_in_words, words_in}
+use Rattle.oat_check.specs.Globals.{Values, size_in_words, word_values}
 use Rattle.oat_check.specs.Lines.{CodeLine, terminator, is_calling}
 use Rattle.oat_check.specs.Rules.{IsChecked, is_func, local_ty, parameters, takes_numbers}
 use Rattle.oat_check.specs.Runs.{source_start}
@@ -139,5 +139,5 @@ ReferencesAreKnown = (p : Program) (k value : ℕ) → IsValue p (Fn k) value �
 -- a word of global data has a value of its type
 abbrev pub WordsAreTyped : Type 0
 WordsAreTyped =
-    (p : Program) (values : Values) → AreGlobals p values → (n value : ℕ) → words_in p.globals values n ≡ Some value
+    (p : Program) (values : Values) → AreGlobals p values → (n value : ℕ) → word_values p.globals values n ≡ Some value
     → (ty : Ty) × (word_ty p.globals n ≡ Some ty) × IsValue p ty value

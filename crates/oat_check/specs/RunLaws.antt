@@ -9,7 +9,7 @@ use Rattle.oat_events.specs.Cuts.{cut_up}
 use Rattle.oat_events.specs.Events.{Passes, Stacks, is_entered, is_left}
 use Rattle.oat_events.specs.Source.{Finish, has_completed, calls_done, stretch, path_of_call, loads_of_call, outputs_of}
 use Rattle.oat_check.specs.Active.{line_turn, active_of, operation_active, cells_at, first_cells}
-use Rattle.oat_check.specs.Globals.{Values, put, element_number, elements_in, word_number, cell_number, cell_words, words_in, cells_in}
+use Rattle.oat_check.specs.Globals.{Values, put, element_number, element_values, word_number, cell_number, cell_words, word_values, cell_values}
 use Rattle.oat_check.specs.Keeping.{IsConsistent}
 use Rattle.oat_check.specs.Rules.{IsChecked}
 use Rattle.oat_check.specs.Runs.{source_of, source_run, source_events}
@@ -62,9 +62,9 @@ RunsAreShort =
 
 -- element i of a global: what it holds is at its number, and a new value is written there alone
 pub record IsNumbered (size : GlobalItem → ℕ) (items : List GlobalItem) (values : Values) (g i : ℕ) : Type 0 where
-  pub told : (n : ℕ) → element_number size items g i ≡ Some n → elements_in size items values n ≡ Some (values g i)
-  pub stored : (n value : ℕ) → element_number size items g i ≡ Some n → defined (elements_in size items values) n value ≡ elements_in size items (put values g i value)
-  pub stays : (value : ℕ) → element_number size items g i ≡ None → elements_in size items values ≡ elements_in size items (put values g i value)
+  pub told : (n : ℕ) → element_number size items g i ≡ Some n → element_values size items values n ≡ Some (values g i)
+  pub stored : (n value : ℕ) → element_number size items g i ≡ Some n → defined (element_values size items values) n value ≡ element_values size items (put values g i value)
+  pub stays : (value : ℕ) → element_number size items g i ≡ None → element_values size items values ≡ element_values size items (put values g i value)
 
 -- of words, and of cells
 abbrev pub ElementsAreNumbered : Type 0
@@ -73,12 +73,12 @@ ElementsAreNumbered =
 
 -- each cell holds what its word holds
 abbrev pub CellsAreWords : Type 0
-CellsAreWords = (p : Program) (values : Values) (c : ℕ) → cells_in p.globals values c ≡ option_and_then (words_in p.globals values) (slice_get (cell_words p.globals) c)
+CellsAreWords = (p : Program) (values : Values) (c : ℕ) → cell_values p.globals values c ≡ option_and_then (word_values p.globals values) (slice_get (cell_words p.globals) c)
 
 -- and there is that word
 abbrev pub CellWordsAreThere : Type 0
 CellWordsAreThere =
-    (p : Program) (values : Values) (c word : ℕ) → slice_get (cell_words p.globals) c ≡ Some word → (value : ℕ) × (words_in p.globals values word ≡ Some value)
+    (p : Program) (values : Values) (c word : ℕ) → slice_get (cell_words p.globals) c ≡ Some word → (value : ℕ) × (word_values p.globals values word ≡ Some value)
 
 -- the word of an element's cell is that of the element
 abbrev pub CellsHaveWords : Type 0
