@@ -51,7 +51,11 @@ edge_over m (Some (rows.ICall at params)) pc next =
 edge_over m (Some (rows.Ret at)) pc next =
     if list_any (is_returned_to next) m.rows then Some (edges.Ret at next) else Some (edges.Stray pc next)
 edge_over m (Some (rows.Check at)) pc next = None
-edge_over m _ pc next = Some (edges.Stray pc next)
+edge_over m (Some (rows.Begin at op)) pc next = Some (edges.Stray pc next)
+edge_over m (Some (rows.End at op)) pc next = Some (edges.Stray pc next)
+edge_over m (Some (rows.UseCell at cell)) pc next = Some (edges.Stray pc next)
+edge_over m (Some (rows.DefCell at cell)) pc next = Some (edges.Stray pc next)
+edge_over m None pc next = Some (edges.Stray pc next)
 
 -- what an entry of the window shows: the edge of a transfer, the end that seals, or nothing
 abbrev pub shown_edge : Map → ℕ → Entry → Option Edge
