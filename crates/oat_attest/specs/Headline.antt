@@ -7,7 +7,7 @@ use Rattle.oat_chain.specs.Chain.{messages, DiffersAt}
 use Rattle.oat_case.specs.declared.case.Session.{Session}
 use Rattle.oat_case.specs.declared.case.Write.{Write}
 use Rattle.oat_image.specs.declared.image.Image.{Image}
-use Rattle.oat_image.specs.Grammar.{IsWellFormedImage, image_text}
+use Rattle.oat_image.specs.Grammar.{IsWellFormedImage}
 use Rattle.oat_map.specs.declared.edge.Edge.{Edge}
 use Rattle.oat_map.specs.Walk.{returns_of}
 use Rattle.oat_map.specs.declared.row.Row.{Row}
