@@ -71,7 +71,7 @@ stored r index cell p q low on memory =
 -- ---- uses
 
 -- a use whose value was loaded two instructions before
-loads_use : (image : Image) (row : Row) (load move call : Entry) (rest : List Entry) (cell value index : ℕ) → Contains image.map.rows row
+pub loads_use : (image : Image) (row : Row) (load move call : Entry) (rest : List Entry) (cell value index : ℕ) → Contains image.map.rows row
     → made_call load ≡ None → made_call move ≡ None → made_call call ≡ Some (svc.Use cell value) → slice_get image.cells cell ≡ Some index
     → NamesCell row cell → IsUseOf row call → IsLoadOf row load (global_address index) → pc_of load + 8 ≡ pc_of call → value ≡ word_in load.found.memory (global_address index)
     → AllReadByLoad image rest → AllReadByLoad image (load ∷ move ∷ call ∷ rest)

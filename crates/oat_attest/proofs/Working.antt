@@ -1,5 +1,5 @@
 -- The worked windows and paths.
-use Rattle.std.proofs.Common.{◌≡◌, ℕ, suc, zero, List, [], ◌∷◌, ◌++◌, map, Some, length, ◌≤◌, refl, sym, ap, subst, ◌∙◌, arith, inl}
+use Rattle.std.proofs.Common.{◌+◌, ◌≡◌, ℕ, suc, zero, List, [], ◌∷◌, ◌++◌, map, Some, length, ◌≤◌, refl, sym, ap, subst, ◌∙◌, arith, inl, Contains, append-nil}
 use Rattle.std.specs.List.{slice_get}
 use Rattle.std.specs.Option.{option_and_then}
 use Rattle.oat_map.specs.declared.edge.Edge.TheVariants as edges
@@ -10,9 +10,11 @@ use Rattle.oat_map.proofs.WalkLemmas.{Returns-one}
 use Rattle.oat_journal.specs.Run.{Entry, pc_of}
 use Rattle.oat_attest.specs.Headline.{IsUseOf, IsLoadOf, AllReadByLoad}
 use Rattle.oat_attest.specs.Lockstep.{Placed, placed_of, Makes, Executes, PassesCells, AllReturnsMatch}
-use Rattle.oat_a64.specs.declared.inst.Inst.TheVariants.{Movz, Ldr, Svc}
+use Rattle.oat_a64.specs.declared.inst.Inst.TheVariants.{Movz, Movk, Ldr, Svc}
 use Rattle.oat_mem.specs.DataMemory.{word_in}
 use Rattle.oat_attest.proofs.Lists.{get-contains}
+use Rattle.oat_attest.proofs.Stretches.{none_read, read_cons}
+use Rattle.oat_attest.proofs.CellCrossings.{loads_use}
 use Rattle.oat_attest.specs.Worked.{two_uses, two_uses_map, made_at, use_at, both_passed, cells_used, TwoUses, three_calls, SecondIsFalse}
 
 -- ---- two uses
@@ -103,6 +105,19 @@ other_load memory all =
     let loads = subst (λ (x : Row). IsLoadOf x r.load 0x40000000) row r.loaded in
     no_load memory r.before r.load r.stands loads.0
 
+-- the uses of a group whose row stands there
+group_read : (memory : ℕ → ℕ) (at : ℕ) (rest : List Entry) → Contains two_uses_map.rows (rows.UseCell at 0) → AllReadByLoad two_uses rest → AllReadByLoad two_uses (use_at memory at ++ rest)
+group_read memory at rest among all =
+    read_cons two_uses (made_at memory at (Movz 11 0 0)) _ (λ c v u. cc)
+    (read_cons two_uses (made_at memory (at + 4) (Movk 11 1 0x4000)) _ (λ c v u. cc)
+    (loads_use two_uses (rows.UseCell at 0) (made_at memory (at + 8) (Ldr 10 11 0)) (made_at memory (at + 12) (Movz 9 0 0)) (made_at memory (at + 16) (Svc 7)) rest
+    0 (word_in memory 0x40000000) 0 among refl refl refl refl refl refl (refl, refl, refl) (omega arith) refl all))
+
+own_load : (memory : ℕ → ℕ) → AllReadByLoad two_uses (use_at memory 0x10008 ++ use_at memory 0x1001C)
+own_load memory =
+    group_read memory 0x10008 (use_at memory 0x1001C) (1, omega arith, refl)
+    (subst (AllReadByLoad two_uses) (append-nil (use_at memory 0x1001C)) (group_read memory 0x1001C [] (2, omega arith, refl) (none_read two_uses)))
+
 same_cells : (memory : ℕ → ℕ) → PassesCells two_uses_map [] 0x10008 both_passed (cells_used (use_at memory 0x1001C ++ use_at memory 0x10008))
 same_cells memory =
     (rows.UseCell 0x10008 0, refl, 0x1001C, (refl, refl), 0 ∷ [], 0 ∷ [], (0, refl, refl), (rows.UseCell 0x1001C 0, refl, 0x10030, (refl, refl), 0 ∷ [], [], (0, refl, refl), refl, refl), refl)
@@ -113,6 +128,7 @@ two_uses_are_paired memory = record {
   apart = apart memory;
   exchanged = exchanged memory;
   same_cells = same_cells memory;
+  own_load = own_load memory;
   other_load = other_load memory;
 }
 

@@ -68,7 +68,8 @@ pub record TwoUses (memory : ℕ → ℕ) : Type 0 where
   pub exchanged : (place : ℕ) (rest : List Entry)
       → Executes two_uses 1 [] 0x10008 both_passed (use_at memory 0x1001C ++ use_at memory 0x10008) place rest → ⊥
   pub same_cells : PassesCells two_uses_map [] 0x10008 both_passed (cells_used (use_at memory 0x1001C ++ use_at memory 0x10008))
-  -- and a use isn't read by the load of the other group, though that stands two instructions before it and reads the cell's word
+  -- each use is read by the load of its own group, and not by that of the other, though it stands two instructions before and reads the cell's word
+  pub own_load : AllReadByLoad two_uses (use_at memory 0x10008 ++ use_at memory 0x1001C)
   pub other_load : AllReadByLoad two_uses (made_at memory 0x10010 (Ldr 10 11 0) ∷ made_at memory 0x10028 (Movz 9 0 0) ∷ made_at memory 0x1002C (Svc 7) ∷ []) → ⊥
 
 -- ---- three calls, of which the second returns to the first one's site again
