@@ -4,6 +4,7 @@ use Rattle.std.specs.Prelude.{Contains, ⊤}
 use Rattle.std.specs.List.{count_by, AllByRecursion}
 use Rattle.std.proofs.lemmas.List.Elements.{Contains-append_cases, Contains-append_right, Contains-append_left, All-contains, All-from_recursion}
 use Rattle.std.proofs.lemmas.List.Sums.{sum_by-append}
+use Rattle.oat_mem.specs.DataMemory.{global_address}
 use Rattle.oat_a64.specs.declared.inst.Inst.TheVariants.{Svc, Movz, Movk}
 use Rattle.oat_a64.specs.Table.{IsInRange}
 use Rattle.oat_asm.specs.declared.mark.Mark.{Mark}
@@ -11,7 +12,7 @@ use Rattle.oat_asm.specs.declared.mark.Mark.TheVariants.{Jump, Branch, Call, ICa
 use Rattle.oat_asm.specs.declared.item.Item.{Item}
 use Rattle.oat_asm.specs.declared.item.Item.TheVariants as item
 use Rattle.oat_asm.specs.Items.{is_label, StandsOnce, IsBranch, UsedLabelsStandOnce, InstructionsAreInRange, BranchesAreInRange, AddressesHaveRegisters}
-use Rattle.oat_asm.specs.Expansion.{global_word, note_of, group, expanded, expansion}
+use Rattle.oat_asm.specs.Expansion.{note_of, group, expanded, expansion}
 use Rattle.oat_asm.specs.NoteRows.{GroupsHaveTheWordsOfTheirRows}
 use Rattle.oat_asm.specs.ExpansionLaws.{IsMark, MarksAreInRange, LeadsTo, MarkedLabelsStandOnce, ExpansionLeavesNoMark, ExpansionKeepsLabels, ExpansionUsesLabelsThatStandOnce, ExpansionStaysInRange}
 use Rattle.oat_asm.proofs.Seen.{count_cons}
@@ -36,10 +37,10 @@ service n h = (h, tt)
 number : (n : ℕ) → n < 2 ^ 16 → IsInRange (Movz 9 0 n)
 number n h = (omega arith, (omega arith, (h, tt)))
 
-low : (index : ℕ) → IsInRange (Movz 11 0 (global_word index % 2 ^ 16))
+low : (index : ℕ) → IsInRange (Movz 11 0 (global_address index % 2 ^ 16))
 low index = (omega arith, (omega arith, (omega arith, tt)))
 
-high : (index : ℕ) → index < 65536 → IsInRange (Movk 11 1 (global_word index / 2 ^ 16))
+high : (index : ℕ) → index < 65536 → IsInRange (Movk 11 1 (global_address index / 2 ^ 16))
 high index h = (omega arith, (omega arith, (omega arith, tt)))
 
 -- an instruction in range, or a branch to a label to which the row leads

@@ -5,3 +5,4 @@ mod ItemWords
 mod Ranges
 mod LayoutLaws
 mod ExpansionProofs
+mod Standing

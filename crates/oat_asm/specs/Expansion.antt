@@ -1,6 +1,7 @@
 -- The expansion of items: each mark becomes the note of its row and the row's group (docs/FORMATS.md, the groups; the instructions are those of the Arm A64 manual).
 use Rattle.std.specs.Prelude.{ℕ, ◌+◌, ◌*◌, List, [], ◌∷◌, ◌++◌, map}
 use Rattle.std.specs.List.{flat_map}
+use Rattle.oat_mem.specs.DataMemory.{global_address}
 use Rattle.oat_a64.specs.declared.inst.Inst.TheVariants as inst
 use Rattle.oat_asm.specs.declared.branch_form.BranchForm.TheVariants.{B, Bl, Cbnz}
 use Rattle.oat_asm.specs.declared.mark.Mark.{Mark}
@@ -22,10 +23,6 @@ note_of (mark.End op) = note.End op
 note_of (mark.UseCell cell index) = note.UseCell cell index
 note_of (mark.DefCell cell index) = note.DefCell cell index
 
--- the address of a global word
-abbrev pub global_word : ℕ → ℕ
-global_word index = 0x4000_0000 + 8 * index
-
 -- The group of a mark's row. Registers: 9 has the bit, the target, the operation or the cell, 10 the value, 11 the cell's address, and 30 is the link register.
 abbrev pub group : Mark → List Item
 group (mark.Jump to) = item.BranchTo B to ∷ []
@@ -36,10 +33,10 @@ group mark.Ret = item.Inst (inst.Svc 5) ∷ item.Inst (inst.Ret 30) ∷ []
 group (mark.Begin op) = item.Inst (inst.Movz 9 0 op) ∷ item.Inst (inst.Svc 1) ∷ []
 group (mark.End op) = item.Inst (inst.Movz 9 0 op) ∷ item.Inst (inst.Svc 2) ∷ []
 group (mark.UseCell cell index) =
-    map item.Inst (puts 11 (global_word index))
+    map item.Inst (puts 11 (global_address index))
     ++ item.Inst (inst.Ldr 10 11 0) ∷ item.Inst (inst.Movz 9 0 cell) ∷ item.Inst (inst.Svc 7) ∷ []
 group (mark.DefCell cell index) =
-    map item.Inst (puts 11 (global_word index))
+    map item.Inst (puts 11 (global_address index))
     ++ item.Inst (inst.Movz 9 0 cell) ∷ item.Inst (inst.Str 10 11 0) ∷ item.Inst (inst.Svc 6) ∷ []
 
 abbrev pub expanded : Item → List Item

@@ -5,4 +5,5 @@ pub mod Expansion
 pub mod ExpansionLaws
 pub mod NoteRows
 pub mod Laws
+pub mod Standing
 pub mod Steps

@@ -22,6 +22,7 @@ ghost use Rattle.oat_asm.specs.ExpansionLaws.{
   ExpansionStaysInRange,
 };
 ghost use Rattle.oat_asm.specs.NoteRows.{GroupsHaveTheWordsOfTheirRows};
+ghost use Rattle.oat_asm.specs.Standing.{GroupsAreThoseOfRows};
 
 use oat_a64::laws::fetches_by_the_table;
 
@@ -119,4 +120,9 @@ pub fn expansion_stays_in_range()
 /// A mark's group has as many words as the map says of its row.
 pub fn groups_have_the_words_of_their_rows()
     ensures { GroupsHaveTheWordsOfTheirRows }
+{}
+
+/// The group of a mark stands just where the group of its row stands.
+pub fn groups_are_those_of_rows()
+    ensures { GroupsAreThoseOfRows }
 {}

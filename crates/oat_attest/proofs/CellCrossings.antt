@@ -19,7 +19,7 @@ use Rattle.oat_journal.specs.Window.{made_call, shown_edge, executed_path}
 use Rattle.oat_attest.specs.Headline.{NamesCell, IsUseOf, IsLoadOf, AllReadByLoad}
 use Rattle.oat_attest.specs.Lockstep.{Placed, placed_of, plain, calling}
 use Rattle.oat_attest.proofs.Lists.{contains-get}
-use Rattle.oat_attest.proofs.Laid.{IsLaid}
+use Rattle.oat_shape.specs.Laid.{IsLaid}
 use Rattle.oat_attest.proofs.Stretches.{Runs, last, more, machine, moved_to, entry_by, inst_is, none_read, read_behind, read_cons, Crossed, arrives, crossed_cons}
 use Rattle.oat_attest.proofs.Crossings.{lead, next_at}
 
@@ -168,7 +168,7 @@ cross_load image op at cell index among low small short has load move call r es 
 pub cross_use : (image : Image) → IsLaid image → (op at cell : ℕ) → Contains image.map.rows (rows.UseCell at cell) → (r : Regs) (es : List Entry)
     → Runs image.code op (moved_to r at) es → UsedCell image op cell at es
 cross_use image laid op at cell has r es runs =
-    let (index, cell_is, moves, load, move, call) = laid.group (rows.UseCell at cell) has in
+    let (index, cell_is, (moves, load, move, call)) = laid.group (rows.UseCell at cell) has in
     let (fits_row, short, closes) = laid.low (rows.UseCell at cell) has in
     let low = laid.cell index (contains-get image.cells cell index cell_is) in
     let r1 = with_reg r 11 (shifted_left (global_address index % 2 ^ 16) (16 * 0)) in
@@ -196,7 +196,7 @@ pub record DefinedCell (image : Image) (op cell at : ℕ) (es : List Entry) : Ty
 pub cross_define : (image : Image) → IsLaid image → (op at cell : ℕ) → Contains image.map.rows (rows.DefCell at cell) → (r : Regs) (es : List Entry)
     → Runs image.code op (moved_to r at) es → DefinedCell image op cell at es
 cross_define image laid op at cell has r es runs =
-    let (index, cell_is, moves, move, store, call) = laid.group (rows.DefCell at cell) has in
+    let (index, cell_is, (moves, move, store, call)) = laid.group (rows.DefCell at cell) has in
     let (fits_row, short, closes) = laid.low (rows.DefCell at cell) has in
     let low = laid.cell index (contains-get image.cells cell index cell_is) in
     let small = fits_row.1 in

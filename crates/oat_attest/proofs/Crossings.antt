@@ -18,7 +18,7 @@ use Rattle.oat_journal.specs.Run.{Entry}
 use Rattle.oat_journal.specs.Journal.{takes_input}
 use Rattle.oat_journal.specs.Window.{shown_edge, edge_over}
 use Rattle.oat_attest.specs.Lockstep.{plain, calling}
-use Rattle.oat_attest.proofs.Laid.{IsLaid}
+use Rattle.oat_shape.specs.Laid.{IsLaid}
 use Rattle.oat_attest.proofs.Stretches.{Runs, machine, moved_to, GoesOn, no_runs, entry_by, pop, Crossed, arrives, crossed_cons}
 
 -- ---- one instruction of a group

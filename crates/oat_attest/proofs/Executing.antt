@@ -18,7 +18,7 @@ use Rattle.oat_journal.specs.Run.{Entry}
 use Rattle.oat_a64.specs.Kinds.{is_transfer}
 use Rattle.oat_journal.specs.Window.{made_call, shown_edge, executed_path, returned, recorded_bit, recorded_target}
 use Rattle.oat_attest.specs.Lockstep.{Placed, placed_of, AreQuiet, IsGroupRun, Makes, Executes, AreUsedAt, PassesCells}
-use Rattle.oat_attest.proofs.Laid.{IsLaid}
+use Rattle.oat_shape.specs.Laid.{IsLaid}
 
 -- ---- what is seen of instructions
 
@@ -211,7 +211,7 @@ group_cells image laid (rows.Ret at) before step to group has goes made = cells_
 group_cells image laid (rows.Begin at op) before step to group has goes made = absurd goes
 group_cells image laid (rows.End at op) before step to group has goes made = absurd goes
 group_cells image laid (rows.UseCell at cell) before step to group has goes made =
-    let (index, cell_is, moves, load, move, call) = laid.group (rows.UseCell at cell) has in
+    let (index, cell_is, (moves, load, move, call)) = laid.group (rows.UseCell at cell) has in
     let (own, value, named, is) = made in
     let there : slice_get image.cells own ≡ Some index = ap (slice_get image.cells) named ∙ cell_is in
     (own, named, ap (seen_placed (used image.cells)) is ∙ ap (λ (o : Option ℕ). cons_option (option_map (λ i. own) o) []) there)

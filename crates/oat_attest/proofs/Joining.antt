@@ -29,7 +29,9 @@ use Rattle.oat_journal.proofs.Traces.{windows_are_traces, runs_report_their_wind
 use Rattle.oat_verify.specs.Verdict.{Accepts, subject_of}
 use Rattle.oat_attest.specs.Headline.{IsSetting, IsReported, calls_before}
 use Rattle.oat_attest.specs.Lockstep.{placed_of, Makes, ExecutesWalk, ExecutesUpToFirst, PassesCells, SamePath, Lockstep}
-use Rattle.oat_attest.proofs.Laid.{IsLaid, laid, end_of, IsClear}
+use Rattle.oat_shape.specs.Laid.{IsLaid}
+use Rattle.oat_shape.specs.Shape.{group_end, CutsNoGroup}
+use Rattle.oat_shape.proofs.Laid.{laid}
 use Rattle.oat_attest.proofs.Stretches.{Runs, last, more, GoesOn, moved_to, moved_itself}
 use Rattle.oat_attest.proofs.Executing.{seen, used, Agree, returns_agree, makes_path, makes_seen, makes_length, executed_seen, executed_edges, executed_leads, executed_length, executed_cells}
 use Rattle.oat_attest.proofs.Places.{called_none}
@@ -148,20 +150,20 @@ accepted image session begin_at setting bytes path accepts inputs writes n given
 
 -- where the window starts
 pub starts_at : (image : Image) → IsLaid image → (op at begin_at : ℕ) → Contains image.map.rows (Begin at op) → begin_at ≡ at + 4
-    → (next_pc begin_at ≡ after (Begin at op)) × IsClear image.map.rows (after (Begin at op))
+    → (next_pc begin_at ≡ after (Begin at op)) × CutsNoGroup image.map.rows (after (Begin at op))
 starts_at image l op at begin_at has there =
     let low = l.low (Begin at op) has in
     let small : at + 4 + 4 < 2 ^ 64 = (let short = low.1 in omega arith) in
-    let sum : at + 4 + 4 ≡ end_of (Begin at op) = omega arith in
-    (ap next_pc there ∙ mod-eq_of_lt small ∙ sum ∙ sym low.2, subst (IsClear image.map.rows) (sym low.2) (l.behind (Begin at op) has))
+    let sum : at + 4 + 4 ≡ group_end (Begin at op) = omega arith in
+    (ap next_pc there ∙ mod-eq_of_lt small ∙ sum ∙ sym low.2, subst (CutsNoGroup image.map.rows) (sym low.2) (l.behind (Begin at op) has))
 
 -- the walk starts there
 starts_there : (image : Image) → IsLaid image → (op at begin_at from : ℕ) → Contains image.map.rows (Begin at op) → begin_at ≡ at + 4 → start image.map.rows op ≡ Some from
-    → (next_pc begin_at ≡ from) × IsClear image.map.rows from
+    → (next_pc begin_at ≡ from) × CutsNoGroup image.map.rows from
 starts_there image l op at begin_at from has begins starts =
     let both : Some (after (Begin at op)) ≡ Some from = sym (l.begun at op has) ∙ starts in
     let there : after (Begin at op) ≡ from = cc in
-    subst (λ (p : ℕ). (next_pc begin_at ≡ p) × IsClear image.map.rows p) there (starts_at image l op at begin_at has begins)
+    subst (λ (p : ℕ). (next_pc begin_at ≡ p) × CutsNoGroup image.map.rows p) there (starts_at image l op at begin_at has begins)
 
 pub outcome : (image : Image) (op begin_at : ℕ) (window : List Entry) (path : List Edge) → IsAccepted image op begin_at window path
     → (steps : List Step) (walk : Walk image.map op steps) → path ≡ path_of steps

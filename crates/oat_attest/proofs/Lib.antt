@@ -1,7 +1,6 @@
 mod Lists
 mod Moves
 mod TrueReturns
-mod Laid
 mod Stretches
 mod Skips
 mod Crossings

@@ -13,9 +13,9 @@ use Rattle.oat_map.specs.declared.row.Row.TheVariants.{Jump, Branch, Call, ICall
 use Rattle.oat_map.specs.Rows.{after, entries_of, IsIndirectTarget, is_call, is_called_at, is_returned_to}
 use Rattle.oat_map.specs.Walk.{Step, passed, moved, return_site_of, Returns, RowGoes}
 use Rattle.oat_image.specs.declared.image.Image.{Image}
-use Rattle.oat_shape.specs.Shape.{IsReturnSite}
+use Rattle.oat_shape.specs.Shape.{IsReturnSite, CutsNoGroup}
 use Rattle.oat_attest.proofs.Lists.{contains-get, get-contains}
-use Rattle.oat_attest.proofs.Laid.{IsLaid, IsClear}
+use Rattle.oat_shape.specs.Laid.{IsLaid}
 
 -- ---- calls of the steps so far
 
@@ -75,19 +75,19 @@ target_entry : (functions : List Function) (params to : ℕ) → IsIndirectTarge
 target_entry functions params to t =
     subst (Contains (entries_of functions)) t.entry (contains_map (λ f. f.entry) functions t.function t.among)
 
-clear_behind : (image : Image) → IsLaid image → (row : Row) (to : ℕ) → Contains image.map.rows row → to ≡ after row → IsClear image.map.rows to
-clear_behind image laid row to has is = subst (IsClear image.map.rows) (sym (is ∙ (laid.low row has).2)) (laid.behind row has)
+clear_behind : (image : Image) → IsLaid image → (row : Row) (to : ℕ) → Contains image.map.rows row → to ≡ after row → CutsNoGroup image.map.rows to
+clear_behind image laid row to has is = subst (CutsNoGroup image.map.rows) (sym (is ∙ (laid.low row has).2)) (laid.behind row has)
 
 pub goes_clear : (image : Image) → IsLaid image → (row : Row) (before : List Step) (step : Step) (to : ℕ) → Contains image.map.rows row
-    → AreCalled image.map.rows before → RowGoes image.map row before step to → IsClear image.map.rows to
+    → AreCalled image.map.rows before → RowGoes image.map row before step to → CutsNoGroup image.map.rows to
 goes_clear image laid (Jump at target) before step to has called g =
-    subst (IsClear image.map.rows) (sym g.1) (laid.place target (inr (inl (laid.leads (Jump at target) has))))
+    subst (CutsNoGroup image.map.rows) (sym g.1) (laid.place target (inr (inl (laid.leads (Jump at target) has))))
 goes_clear image laid (Branch at taken other) before step to has called (inl g) =
-    subst (IsClear image.map.rows) (sym g.1) (laid.place taken (inr (inl (laid.leads (Branch at taken other) has).0)))
+    subst (CutsNoGroup image.map.rows) (sym g.1) (laid.place taken (inr (inl (laid.leads (Branch at taken other) has).0)))
 goes_clear image laid (Branch at taken other) before step to has called (inr g) =
-    subst (IsClear image.map.rows) (sym g.1) (laid.place other (inr (inl (laid.leads (Branch at taken other) has).1)))
+    subst (CutsNoGroup image.map.rows) (sym g.1) (laid.place other (inr (inl (laid.leads (Branch at taken other) has).1)))
 goes_clear image laid (Call at target) before step to has called g =
-    subst (IsClear image.map.rows) (sym g.1) (laid.place target (inl (laid.leads (Call at target) has)))
+    subst (CutsNoGroup image.map.rows) (sym g.1) (laid.place target (inl (laid.leads (Call at target) has)))
 goes_clear image laid (ICall at params) before step to has called g = laid.place to (inl (target_entry image.map.functions params to g.1))
 goes_clear image laid (Ret at) before step to has called g = laid.place to (inr (inr (returns_site image.map.rows before to called g.1)))
 goes_clear image laid (Begin at op) before step to has called g = absurd g

@@ -13,11 +13,11 @@ use Rattle.oat_map.specs.Rows.{address_of, after, next, IsIndirectTarget, is_cal
 use Rattle.oat_image.specs.declared.image.Image.{Image}
 use Rattle.oat_measure.specs.declared.call.MonitorCall.TheVariants as svc
 use Rattle.oat_journal.specs.Run.{Entry}
-use Rattle.oat_shape.specs.Shape.{IsReturnSite}
+use Rattle.oat_shape.specs.Shape.{IsReturnSite, CutsNoGroup}
 use Rattle.oat_journal.specs.Window.{edge_over}
 use Rattle.oat_attest.specs.Headline.{AllReadByLoad}
 use Rattle.oat_attest.specs.Lockstep.{Placed, plain, calling, IsGroupRun, Makes}
-use Rattle.oat_attest.proofs.Laid.{IsLaid, IsClear}
+use Rattle.oat_shape.specs.Laid.{IsLaid}
 use Rattle.oat_attest.proofs.Places.{branch_apart, target_any, returned_any}
 use Rattle.oat_attest.proofs.Stretches.{Runs, moved_to, runs_stand, Crossed, Skipped}
 use Rattle.oat_attest.proofs.Skips.{skip}
@@ -226,7 +226,7 @@ run_come image op from (rows.Check at) es come =
     (past image op from row [] (at + 8) es _ come (cross_check image come.laid op at come.has come.skipped.regs come.skipped.rest come.skipped.runs) refl)
 
 -- From a clear address a run comes to the next row and does what the row allows the machine.
-pub runs_row : (image : Image) → IsLaid image → (op from : ℕ) (row : Row) → IsClear image.map.rows from → next image.map.rows from ≡ Some row
+pub runs_row : (image : Image) → IsLaid image → (op from : ℕ) (row : Row) → CutsNoGroup image.map.rows from → next image.map.rows from ≡ Some row
     → (es : List Entry) (r : Regs) → Runs image.code op (moved_to r from) es → RowRuns image op from row es
 runs_row image laid op from row clear at_row es r runs =
     run_come image op from row es

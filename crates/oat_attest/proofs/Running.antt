@@ -25,7 +25,7 @@ use Rattle.oat_verify.specs.declared.verdict.Verdict.TheVariants.{Accept}
 use Rattle.oat_attest.specs.Honest.{TracesAreWalks, HonestRunsWalk, HonestRunsAreAccepted, SoundRunsAreAccepted}
 use Rattle.oat_attest.specs.Lockstep.{ExecutesWalk}
 use Rattle.oat_attest.proofs.Lists.{contains-get}
-use Rattle.oat_attest.proofs.Laid.{laid}
+use Rattle.oat_shape.proofs.Laid.{laid}
 use Rattle.oat_attest.proofs.Stretches.{Runs, moved_to}
 use Rattle.oat_attest.proofs.Places.{called_none}
 use Rattle.oat_attest.proofs.Executing.{bits_agree, targets_agree, returns_agree, executed_leads}

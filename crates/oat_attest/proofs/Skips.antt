@@ -19,7 +19,8 @@ use Rattle.oat_journal.specs.Journal.{IsMade, takes_input}
 use Rattle.oat_a64.specs.Kinds.{is_measured, is_transfer}
 use Rattle.oat_journal.specs.Window.{made_call}
 use Rattle.oat_attest.proofs.Lists.{get-contains}
-use Rattle.oat_attest.proofs.Laid.{IsLaid, IsNext, IsClear}
+use Rattle.oat_shape.specs.Laid.{IsLaid, IsNext}
+use Rattle.oat_shape.specs.Shape.{CutsNoGroup}
 use Rattle.oat_attest.proofs.Stretches.{Runs, no_runs, head_of, moved_to, moved_itself, read_cons, Skipped}
 
 -- ---- an instruction that is neither a transfer nor measured
@@ -86,7 +87,7 @@ left_pc code e made plain =
 -- ---- the way to the next row
 
 -- no group lies over an address between a clear one and the next row
-uncovered : (image : Image) → IsLaid image → (t p : ℕ) (row : Row) → IsClear image.map.rows t → IsNext image.map.rows t row
+uncovered : (image : Image) → IsLaid image → (t p : ℕ) (row : Row) → CutsNoGroup image.map.rows t → IsNext image.map.rows t row
     → t ≤ p → p < address_of row → (i : Inst) → Stands image.code p i → (is_transfer i || is_measured i) ≡ false
 uncovered image laid t p row clear is above below i stands =
     elim (cases_Bool (is_transfer i || is_measured i)) [
@@ -125,7 +126,7 @@ goes_past image op e es q plain none skipped = record {
   loads = λ all. read_cons image e es (λ cell value used. let both : None ≡ Some (svc.Use cell value) = sym none ∙ used in cc) (skipped.loads all);
 }
 
-skip_from : (image : Image) → IsLaid image → (op t : ℕ) (row : Row) → IsClear image.map.rows t → IsNext image.map.rows t row
+skip_from : (image : Image) → IsLaid image → (op t : ℕ) (row : Row) → CutsNoGroup image.map.rows t → IsNext image.map.rows t row
     → address_of row % 4 ≡ 0 → address_of row < 2 ^ 32
     → (es : List Entry) (r : Regs) (p : ℕ) → t ≤ p → p ≤ address_of row → Runs image.code op (moved_to r p) es → Skipped image op es (address_of row)
 skip_from image laid op t row clear is aligned low [] r p above below runs = absurd (no_runs image.code op (moved_to r p) runs)
@@ -164,13 +165,13 @@ group_coded image laid (ICall at params) g = laid.coded at _ g.0
 group_coded image laid (rows.Ret at) g = laid.coded at _ g.0
 group_coded image laid (Begin at op) g = laid.coded at _ g.0
 group_coded image laid (End at op) g = laid.coded at _ g.0
-group_coded image laid (UseCell at cell) g = laid.coded at _ g.2.0
-group_coded image laid (DefCell at cell) g = laid.coded at _ g.2.0
+group_coded image laid (UseCell at cell) g = laid.coded at _ g.2.0.0
+group_coded image laid (DefCell at cell) g = laid.coded at _ g.2.0.0
 group_coded image laid (Check at) (inl s, b) = laid.coded at _ s.1
 group_coded image laid (Check at) (inr s, b) = laid.coded at _ s.1
 
 -- From a clear address the run leads to the next row.
-pub skip : (image : Image) → IsLaid image → (op t : ℕ) (row : Row) → IsClear image.map.rows t → next image.map.rows t ≡ Some row
+pub skip : (image : Image) → IsLaid image → (op t : ℕ) (row : Row) → CutsNoGroup image.map.rows t → next image.map.rows t ≡ Some row
     → (es : List Entry) (r : Regs) → Runs image.code op (moved_to r t) es → Skipped image op es (address_of row)
 skip image laid op t row clear found es r runs =
     let is = laid.next_is t row found in
@@ -197,7 +198,7 @@ all_below : (rows : List Row) (t : ℕ) → next rows t ≡ None → (row : Row)
 all_below rows t none row has =
     leb-false t (address_of row) (find_none (λ (r : Row). leb t (address_of r)) rows has.0 row none (get-contains rows row has))
 
-uncovered_past : (image : Image) → IsLaid image → (t p : ℕ) → IsClear image.map.rows t → next image.map.rows t ≡ None
+uncovered_past : (image : Image) → IsLaid image → (t p : ℕ) → CutsNoGroup image.map.rows t → next image.map.rows t ≡ None
     → t ≤ p → (i : Inst) → Stands image.code p i → (is_transfer i || is_measured i) ≡ false
 uncovered_past image laid t p clear none above i stands =
     elim (cases_Bool (is_transfer i || is_measured i)) [
@@ -210,7 +211,7 @@ uncovered_past image laid t p clear none above i stands =
     ]
 
 -- Where no row is at or above a clear address, no run leads from there to the end that seals.
-pub skip_none : (image : Image) → IsLaid image → (op t : ℕ) → IsClear image.map.rows t → next image.map.rows t ≡ None
+pub skip_none : (image : Image) → IsLaid image → (op t : ℕ) → CutsNoGroup image.map.rows t → next image.map.rows t ≡ None
     → (es : List Entry) (r : Regs) (p : ℕ) → t ≤ p → Runs image.code op (moved_to r p) es → ⊥
 skip_none image laid op t clear none [] r p above runs = no_runs image.code op (moved_to r p) runs
 skip_none image laid op t clear none (e ∷ es) r p above runs =

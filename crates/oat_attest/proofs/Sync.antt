@@ -9,14 +9,14 @@ use Rattle.oat_map.specs.declared.edge.Edge.TheVariants as edges
 use Rattle.oat_map.specs.declared.row.Row.{Row}
 use Rattle.oat_map.specs.declared.row.Row.TheVariants as rows
 use Rattle.oat_map.specs.Rows.{after, next, IsIndirectTarget}
-use Rattle.oat_shape.specs.Shape.{IsReturnSite}
+use Rattle.oat_shape.specs.Shape.{IsReturnSite, CutsNoGroup}
 use Rattle.oat_map.specs.Walk.{Step, passed, moved, path_of, bit_of, bits_of, target_of, targets_of, Returns, RowGoes, Leads}
 use Rattle.oat_image.specs.declared.image.Image.{Image}
 use Rattle.oat_journal.specs.Run.{Entry}
 use Rattle.oat_journal.specs.Window.{recorded_bit, bits_of_run, recorded_target, targets_of_run}
 use Rattle.oat_attest.specs.Headline.{AllReadByLoad}
 use Rattle.oat_attest.specs.Lockstep.{IsReturn, Makes, Executes}
-use Rattle.oat_attest.proofs.Laid.{IsLaid, IsClear}
+use Rattle.oat_shape.specs.Laid.{IsLaid}
 use Rattle.oat_attest.proofs.Stretches.{Runs, moved_to}
 use Rattle.oat_attest.proofs.Places.{AreCalled, called_more, goes_site, goes_clear, returns_site}
 use Rattle.oat_attest.proofs.RowRuns.{Past, RowRuns, runs_row}
@@ -211,7 +211,7 @@ turn image op before t (rows.Check at) step to steps place finish es called f p 
 
 -- From a clear address on, a run with the records of a trail to the operation's end follows it, or they part.
 pub sync : (image : Image) → IsLaid image → (op place finish : ℕ) → next image.map.rows place ≡ Some (rows.End finish op)
-    → (steps before : List Step) (t : ℕ) → AreCalled image.map.rows before → IsClear image.map.rows t → Leads image.map before t steps place
+    → (steps before : List Step) (t : ℕ) → AreCalled image.map.rows before → CutsNoGroup image.map.rows t → Leads image.map before t steps place
     → Outcomes image op before t steps place finish
 sync image laid op place finish at_end [] before t called clear leads es r runs bits targets =
     let here : next image.map.rows t ≡ Some (rows.End finish op) = ap (next image.map.rows) leads ∙ at_end in

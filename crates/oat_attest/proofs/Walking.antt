@@ -14,7 +14,8 @@ use Rattle.oat_journal.specs.Run.{Entry}
 use Rattle.oat_journal.specs.Window.{executed_path}
 use Rattle.oat_attest.specs.Lockstep.{Makes, Executes}
 use Rattle.oat_map.specs.Turns.{GoesBack, turn_of}
-use Rattle.oat_attest.proofs.Laid.{IsLaid, IsClear}
+use Rattle.oat_shape.specs.Laid.{IsLaid}
+use Rattle.oat_shape.specs.Shape.{CutsNoGroup}
 use Rattle.oat_attest.proofs.Stretches.{Runs, no_runs, moved_to}
 use Rattle.oat_attest.proofs.Skips.{skip_none}
 use Rattle.oat_attest.proofs.Places.{AreCalled, called_more, goes_site, goes_clear}
@@ -41,7 +42,7 @@ NoneBegins es = BegunBy es → ⊥
 -- whatever was done before, from each clear address with these open calls the steps of a run are found
 abbrev pub Finds : Image → ℕ → List Entry → Type 0
 Finds image op es =
-    (before : List Step) (calls : List ℕ) (t : ℕ) (r : Regs) → IsStack before calls → AreCalled image.map.rows before → IsClear image.map.rows t
+    (before : List Step) (calls : List ℕ) (t : ℕ) (r : Regs) → IsStack before calls → AreCalled image.map.rows before → CutsNoGroup image.map.rows t
     → Runs image.code op (moved_to r t) es → NoneBegins es → GoesBack turn_of calls (executed_path image.map op es)
     → Found image op before t es
 
@@ -152,7 +153,7 @@ turn image op before calls t (rows.Check at) es f p =
 
 -- where the next row is known
 at_next : (image : Image) → IsLaid image → (op : ℕ) (es : List Entry) → ((rest : List Entry) → 1 + length rest ≤ length es → Finds image op rest)
-    → (before : List Step) (calls : List ℕ) (t : ℕ) (r : Regs) → IsStack before calls → AreCalled image.map.rows before → IsClear image.map.rows t
+    → (before : List Step) (calls : List ℕ) (t : ℕ) (r : Regs) → IsStack before calls → AreCalled image.map.rows before → CutsNoGroup image.map.rows t
     → Runs image.code op (moved_to r t) es → NoneBegins es → GoesBack turn_of calls (executed_path image.map op es)
     → (o : Option Row) → next image.map.rows t ≡ o → Found image op before t es
 at_next image laid op es on before calls t r stack called clear runs quiet back None none =

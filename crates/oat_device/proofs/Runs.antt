@@ -20,10 +20,9 @@ use Rattle.oat_measure.specs.Measurement.{State, booted, measured, sealed}
 use Rattle.oat_measure.specs.Monitored.{Monitored}
 use Rattle.oat_journal.specs.declared.end.DeviceEnd.{DeviceEnd}
 use Rattle.oat_journal.specs.declared.end.DeviceEnd.TheVariants.{OutOfSteps}
-use Rattle.oat_shape.specs.MapRules.{S7}
 use Rattle.oat_journal.specs.Run.{found, makes, poked, start_memory, turn, turn_of}
-use Rattle.oat_shape.specs.Shape.{Holds, IsShaped}
-use Rattle.oat_shape.proofs.Scans.{at_contains}
+use Rattle.oat_shape.specs.Shape.{IsShaped}
+use Rattle.oat_shape.proofs.Laid.{opens_once}
 use Rattle.oat_device.specs.declared.course.Course.{Course}
 use Rattle.oat_device.specs.Bare.{DoesFrom, running_of}
 use Rattle.oat_journal.specs.Measured.{Run, dev, start_cells, opening_of, body_of, IsSealed, IsOpenedFor}
@@ -33,26 +32,9 @@ use Rattle.oat_journal.proofs.Progress.{Ends, turns_are_the_run}
 
 -- ---- the one opening
 
-same-begin : (m : Map) (op a b : ℕ) → Holds (S7 m) → Contains m.rows (Begin a op) → Contains m.rows (Begin b op) → a ≡ b
-same-begin m op a b paired has_a has_b =
-    let i = at_contains m.rows (Begin a op) has_a in
-    let j = at_contains m.rows (Begin b op) has_b in
-    elim (cases_lt i.0 j.0) [
-      | inl before ↦ absurd (paired b j.0 (Begin b op) j.1 refl i.0 a before i.1)
-      | inr past ↦
-          elim (cases_lt j.0 i.0) [
-            | inl after ↦ absurd (paired a i.0 (Begin a op) i.1 refl j.0 b after j.1)
-            | inr again ↦
-                let one : i.0 ≡ j.0 = omega arith in
-                let both : Some (Begin a op) ≡ Some (Begin b op) = sym i.1 ∙ ap (slice_get m.rows) one ∙ j.1 in
-                cc
-          ]
-    ]
-
 pub same-opening : (image : Image) (session : Session) (o p : Opening) → IsShaped image → IsOpenedFor image session o → IsOpenedFor image session p → o ≡ p
 same-opening image session o p shaped a b =
-    let one : a.1.0 ≡ b.1.0 = same-begin image.map session.op a.1.0 b.1.0 shaped.paired a.1.1 b.1.1 in
-    let at : a.0 ≡ b.0 = a.1.2 ∙ ap (λ (k : ℕ). k + 4) one ∙ sym b.1.2 in
+    let at : a.0 ≡ b.0 = opens_once image.map session.op b.0 a.0 shaped.paired b.1 a.1 in
     a.2 ∙ ap (opening_of image session) at ∙ sym b.2
 
 -- the run of a device, with any opening that it can have

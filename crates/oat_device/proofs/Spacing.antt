@@ -16,29 +16,8 @@ use Rattle.oat_image.specs.declared.image.Image.{Image}
 use Rattle.oat_image.specs.Grammar.{IsWellFormedImage}
 use Rattle.oat_shape.specs.Groups.{Stands, IsGroup}
 use Rattle.oat_shape.specs.Shape.{IsShaped, Covers}
+use Rattle.oat_shape.proofs.Laid.{laid}
 use Rattle.oat_device.specs.Standing.{IsSpaced}
-
--- ---- instructions have addresses of code
-
-word-low : (code : List ℕ) (p word : ℕ) → length code ≤ 131072 → word_at code p ≡ Some word → (p % 4 ≡ 0) × (p < 2 ^ 32)
-word-low code p word short h =
-    elim (cases_Bool (eqb (p % 4) 0 && leb code_base p)) [
-      | inl hit ↦
-          let parts = and_parts _ _ hit in
-          let aligned = eqb-true (p % 4) 0 parts.0 in
-          let above = leb-true code_base p parts.1 in
-          let there : slice_get code ((p - code_base) / 4) ≡ Some word = rw hit at h in
-          let within = slice_get_within code ((p - code_base) / 4) word there in
-          (aligned, omega arith)
-      | inr no_word ↦ let nothing : None ≡ Some word = rw no_word at h in absurd (cc)
-    ]
-
-coded-at : (code : List ℕ) (p : ℕ) (i : Inst) (o : Option ℕ) → word_at code p ≡ o → length code ≤ 131072 → option_and_then inst_of o ≡ Some i → (p % 4 ≡ 0) × (p < 2 ^ 32)
-coded-at code p i None was short h = absurd (cc)
-coded-at code p i (Some word) was short h = word-low code p word short was
-
-pub coded : (code : List ℕ) (p : ℕ) (i : Inst) → length code ≤ 131072 → Stands code p i → (p % 4 ≡ 0) × (p < 2 ^ 32)
-coded code p i short h = coded-at code p i (word_at code p) refl short h
 
 -- ---- places in a group
 
@@ -100,17 +79,17 @@ five at pc a p above below =
     ]
 
 -- the group's first word
-at-first : (code cells : List ℕ) (row : Row) → length code ≤ 131072 → IsGroup code cells row → address_of row % 4 ≡ 0
-at-first code cells (Jump at to) short g = (coded code at _ short g.1).0
-at-first code cells (Branch at taken other) short g = (coded code at _ short g.0).0
-at-first code cells (Call at to) short g = (coded code at _ short g.1).0
-at-first code cells (ICall at params) short g = (coded code at _ short g.0).0
-at-first code cells (Ret at) short g = (coded code at _ short g.0).0
-at-first code cells (Begin at op) short g = (coded code at _ short g.0).0
-at-first code cells (End at op) short g = (coded code at _ short g.0).0
-at-first code cells (UseCell at cell) short g = (coded code at _ short g.2.0).0
-at-first code cells (DefCell at cell) short g = (coded code at _ short g.2.0).0
-at-first code cells (Check at) short g = elim g.0 [ inl test ↦ (coded code at _ short test.1).0 | inr test ↦ (coded code at _ short test.1).0 ]
+at-first : (code cells : List ℕ) (row : Row) → ((p : ℕ) (i : Inst) → Stands code p i → (p % 4 ≡ 0) × (p < 2 ^ 32)) → IsGroup code cells row → address_of row % 4 ≡ 0
+at-first code cells (Jump at to) coded g = (coded at _ g.1).0
+at-first code cells (Branch at taken other) coded g = (coded at _ g.0).0
+at-first code cells (Call at to) coded g = (coded at _ g.1).0
+at-first code cells (ICall at params) coded g = (coded at _ g.0).0
+at-first code cells (Ret at) coded g = (coded at _ g.0).0
+at-first code cells (Begin at op) coded g = (coded at _ g.0).0
+at-first code cells (End at op) coded g = (coded at _ g.0).0
+at-first code cells (UseCell at cell) coded g = (coded at _ g.2.0.0).0
+at-first code cells (DefCell at cell) coded g = (coded at _ g.2.0.0).0
+at-first code cells (Check at) coded g = elim g.0 [ inl test ↦ (coded at _ test.1).0 | inr test ↦ (coded at _ test.1).0 ]
 
 apart-from : (code cells : List ℕ) (row : Row) (pc number : ℕ) → address_of row % 4 ≡ 0 → IsGroup code cells row → Covers row pc → Twice code pc number → ⊥
 apart-from code cells (Jump at to) pc number a g c t =
@@ -150,28 +129,28 @@ apart-from code cells (UseCell at cell) pc number a g c t =
       | inl front ↦ elim front [
         | inl fore ↦ elim fore [
           | inl first ↦ elim first [
-            | inl e ↦ let same = own code pc at (Svc number) _ t.here e g.2.0 in cc
-            | inr e ↦ let same = own code pc (at + 4) (Svc number) _ t.here e g.2.1 in cc
+            | inl e ↦ let same = own code pc at (Svc number) _ t.here e g.2.0.0 in cc
+            | inr e ↦ let same = own code pc (at + 4) (Svc number) _ t.here e g.2.0.1 in cc
           ]
-          | inr e ↦ let same = own code pc (at + 8) (Svc number) _ t.here e g.3 in cc
+          | inr e ↦ let same = own code pc (at + 8) (Svc number) _ t.here e g.2.1 in cc
         ]
-        | inr e ↦ let same = own code pc (at + 12) (Svc number) _ t.here e g.4 in cc
+        | inr e ↦ let same = own code pc (at + 12) (Svc number) _ t.here e g.2.2 in cc
       ]
-      | inr e ↦ other-call code pc (at + 16) number 7 t e g.5 (inr (omega arith))
+      | inr e ↦ other-call code pc (at + 16) number 7 t e g.2.3 (inr (omega arith))
     ]
 apart-from code cells (DefCell at cell) pc number a g c t =
     elim (five at pc a t.aligned c.0 c.1) [
       | inl front ↦ elim front [
         | inl fore ↦ elim fore [
           | inl first ↦ elim first [
-            | inl e ↦ let same = own code pc at (Svc number) _ t.here e g.2.0 in cc
-            | inr e ↦ let same = own code pc (at + 4) (Svc number) _ t.here e g.2.1 in cc
+            | inl e ↦ let same = own code pc at (Svc number) _ t.here e g.2.0.0 in cc
+            | inr e ↦ let same = own code pc (at + 4) (Svc number) _ t.here e g.2.0.1 in cc
           ]
-          | inr e ↦ let same = own code pc (at + 8) (Svc number) _ t.here e g.3 in cc
+          | inr e ↦ let same = own code pc (at + 8) (Svc number) _ t.here e g.2.1 in cc
         ]
-        | inr e ↦ let same = own code pc (at + 12) (Svc number) _ t.here e g.4 in cc
+        | inr e ↦ let same = own code pc (at + 12) (Svc number) _ t.here e g.2.2 in cc
       ]
-      | inr e ↦ other-call code pc (at + 16) number 6 t e g.5 (inr (omega arith))
+      | inr e ↦ other-call code pc (at + 16) number 6 t e g.2.3 (inr (omega arith))
     ]
 apart-from code cells (Check at) pc number a g c t =
     elim (two at pc a t.aligned c.0 c.1) [
@@ -185,10 +164,11 @@ apart-from code cells (Check at) pc number a g c t =
 spaced : (image : Image) (number : ℕ) → IsWellFormedImage image → IsShaped image → 3 ≤ number → number ≤ 4
     → IsTrue (leb 1 number && leb number 7) → IsSpaced image.code number
 spaced image number fit shaped least most seen pc here next =
-    let place = coded image.code pc (Svc number) fit.code.limited here in
+    let coded = (laid image fit shaped).coded in
+    let place = coded pc (Svc number) here in
     let row = (shaped.grouped pc).transfers (Svc number) here seen in
     let group = (shaped.grouped (address_of row.0)).groups row.0 row.1 refl in
-    apart-from image.code image.cells row.0 pc number (at-first image.code image.cells row.0 fit.code.limited group) group row.2
+    apart-from image.code image.cells row.0 pc number (at-first image.code image.cells row.0 coded group) group row.2
     (record { here = here; next = next; least = least; most = most; aligned = place.0; low = place.1 })
 
 pub bits_spaced : (image : Image) → IsWellFormedImage image → IsShaped image → IsSpaced image.code 3

@@ -9,9 +9,7 @@ use Rattle.oat_a64.specs.Table.{Word}
 use Rattle.oat_a64.specs.Fetch.{inst_of}
 use Rattle.oat_a64.specs.Step.{word_at, instruction_at}
 use Rattle.oat_a64.proofs.FetchLemmas.{word_from_inst, inst_from_word}
-use Rattle.oat_map.specs.declared.row.Row.TheVariants.{UseCell, DefCell}
-use Rattle.oat_shape.specs.Groups.{Stands, IsGroup}
-use Rattle.oat_shape.specs.Parts.{IsUseGroup, IsDefineGroup}
+use Rattle.oat_shape.specs.Groups.{Stands}
 
 -- an instruction stands where its word stands
 pub stands_iff : (code : List ℕ) (address word encoded : ℕ) (inst : Inst) → word_at code address ≡ Some word → Word inst encoded
@@ -26,28 +24,17 @@ stands_iff code address word encoded inst found is =
           eq-eqb word encoded (own.1 ∙ sym is.1),
     )
 
-pub use_iff : (code cells : List ℕ) (at cell index : ℕ) (whole : Bool) → slice_get cells cell ≡ Some index
-    → (IsTrue whole ↔ IsUseGroup code at cell index) → IsTrue whole ↔ IsGroup code cells (UseCell at cell)
-use_iff code cells at cell index whole found tells = (
-  λ yes. let group = tells.0 yes in (index, found, group.0, group.1, group.2, group.3),
+-- a cell's group, of this kind for the word of global data that the cell is
+pub cell_iff : (cells : List ℕ) (cell index : ℕ) (Group : ℕ → Type 0) (whole : Bool) → slice_get cells cell ≡ Some index
+    → (IsTrue whole ↔ Group index) → IsTrue whole ↔ ((word : ℕ) × (slice_get cells cell ≡ Some word) × Group word)
+cell_iff cells cell index Group whole found tells = (
+  λ yes. (index, found, tells.0 yes),
   λ group.
       let read = group.1 in
       let same : group.0 ≡ index = cc in
-      tells.1 (subst (IsUseGroup code at cell) same (group.2, group.3, group.4, group.5)),
+      tells.1 (subst Group same group.2),
 )
 
-pub define_iff : (code cells : List ℕ) (at cell index : ℕ) (whole : Bool) → slice_get cells cell ≡ Some index
-    → (IsTrue whole ↔ IsDefineGroup code at cell index) → IsTrue whole ↔ IsGroup code cells (DefCell at cell)
-define_iff code cells at cell index whole found tells = (
-  λ yes. let group = tells.0 yes in (index, found, group.0, group.1, group.2, group.3),
-  λ group.
-      let read = group.1 in
-      let same : group.0 ≡ index = cc in
-      tells.1 (subst (IsDefineGroup code at cell) same (group.2, group.3, group.4, group.5)),
-)
-
-pub no_use : (code cells : List ℕ) (at cell : ℕ) → slice_get cells cell ≡ None → IsTrue false ↔ IsGroup code cells (UseCell at cell)
-no_use code cells at cell none = (λ yes. absurd (false≢true yes), λ group. let read = group.1 in absurd (cc))
-
-pub no_define : (code cells : List ℕ) (at cell : ℕ) → slice_get cells cell ≡ None → IsTrue false ↔ IsGroup code cells (DefCell at cell)
-no_define code cells at cell none = (λ yes. absurd (false≢true yes), λ group. let read = group.1 in absurd (cc))
+pub no_cell : (cells : List ℕ) (cell : ℕ) (Group : ℕ → Type 0) → slice_get cells cell ≡ None
+    → IsTrue false ↔ ((word : ℕ) × (slice_get cells cell ≡ Some word) × Group word)
+no_cell cells cell Group none = (λ yes. absurd (false≢true yes), λ group. let read = group.1 in absurd (cc))

@@ -7,25 +7,18 @@ use Rattle.std.proofs.Math.Nat.{mod-eq_of_lt}
 use Rattle.std.proofs.lemmas.Bool.{cases_lt, leb-true, le-leb, ltb-true, lt-ltb, ltb-false}
 use Rattle.std.proofs.lemmas.Option.{slice_get_within, slice_get-get_or, get_or_from_slice_get}
 use Rattle.oat_map.specs.declared.row.Row.{Row}
-use Rattle.oat_map.specs.declared.row.Row.TheVariants.{Jump, Branch, Call, ICall, Ret, Begin, End, UseCell, DefCell, Check}
+use Rattle.oat_map.specs.declared.row.Row.TheVariants.{Jump}
 use Rattle.oat_map.specs.Rows.{address_of, word_count, after}
-use Rattle.oat_shape.specs.Parts.{AreApart, AreWithin, EndsBelow, IsClear, IsCovered}
+use Rattle.oat_shape.specs.Parts.{AreApart, AreWithin, EndsBelow, IsCovered}
+use Rattle.oat_shape.specs.Shape.{CutsNoGroup}
 use Rattle.oat_shape.proofs.Loops.{same_item}
 use Rattle.oat_shape.proofs.Scans.{at_contains, contains_at}
 
 -- ---- one group
 
-few_words : (row : Row) → (1 ≤ word_count row) × (word_count row ≤ 5)
+pub few_words : (row : Row) → (1 ≤ word_count row) × (word_count row ≤ 5)
 few_words (Jump at to) = (omega arith, omega arith)
-few_words (Branch at taken other) = (omega arith, omega arith)
-few_words (Call at to) = (omega arith, omega arith)
-few_words (ICall at params) = (omega arith, omega arith)
-few_words (Ret at) = (omega arith, omega arith)
-few_words (Begin at op) = (omega arith, omega arith)
-few_words (End at op) = (omega arith, omega arith)
-few_words (UseCell at cell) = (omega arith, omega arith)
-few_words (DefCell at cell) = (omega arith, omega arith)
-few_words (Check at) = (omega arith, omega arith)
+few_words _ = (omega arith, omega arith)
 
 small_sum : (a n : ℕ) → a < 2 ^ 32 → n ≤ 5 → (a + 4 * n) % 2 ^ 64 ≡ a + 4 * n
 small_sum a n low few = mod-eq_of_lt (omega arith)
@@ -35,7 +28,7 @@ after_is row low = small_sum (address_of row) (word_count row) low (few_words ro
 
 -- ---- one behind the other
 
-between : (rows : List Row) → AreApart rows → AreWithin rows → (i j : ℕ) (x y : Row) → i < j
+pub between : (rows : List Row) → AreApart rows → AreWithin rows → (i j : ℕ) (x y : Row) → i < j
     → slice_get rows i ≡ Some x → slice_get rows j ≡ Some y → after x ≤ address_of y
 between rows apart within i zero x y below at_x at_y = absurd (omega arith)
 between rows apart within i (suc j) x y below at_x at_y =
@@ -115,13 +108,13 @@ ends_some rows place next end apart within many some parted is =
 
 -- ---- inside and covered
 
-pub clear_iff : (rows : List Row) (place end : ℕ) → AreWithin rows → EndsBelow rows place end → IsTrue (leb end place) ↔ IsClear rows place
+pub clear_iff : (rows : List Row) (place end : ℕ) → AreWithin rows → EndsBelow rows place end → IsTrue (leb end place) ↔ CutsNoGroup rows place
 clear_iff rows place end within ends = (
-  λ yes row has inside.
+  λ yes row has below.
       let low = leb-true end place yes in
-      let bound = ends.bounds row has inside.0 in
+      let bound = ends.bounds row has below in
       let own = after_is row (within row has) in
-      omega (arith, inside.1),
+      omega arith,
   λ clear.
       le-leb end place
       (elim ends.reached as (λ _. end ≤ place) [
@@ -131,7 +124,8 @@ clear_iff rows place end within ends = (
               | inl high ↦
                   let own = after_is last.0 (within last.0 last.1) in
                   let ends_there = last.3 in
-                  absurd (clear last.0 last.1 (last.2, omega arith))
+                  let ends_here = clear last.0 last.1 last.2 in
+                  omega arith
               | inr low ↦ low
             ]
       ]),

@@ -1,13 +1,12 @@
-pub mod Loops
-pub mod Scans
-pub mod LastGroups
-pub mod GroupLemmas
-pub mod Searches
-pub mod RowRules
-pub mod NameRules
-pub mod WorkedShapesRules
-pub mod PlaceRules
+mod Loops
+mod Scans
+mod LastGroups
+mod GroupLemmas
+mod Searches
+mod RowRules
+mod PlaceRules
+mod NameRules
+mod Operations
+mod BrokenRules
 pub mod Refusals
-pub mod Operations
-pub mod WorkedShapes
-pub mod WorkedShapesCalls
+pub mod Laid

@@ -13,7 +13,7 @@ use Rattle.oat_shape.specs.Parts.{AreWithin}
 use Rattle.oat_shape.proofs.Scans.{at_contains, contains_at}
 use Rattle.oat_shape.proofs.RowRules.{begins-true, begins-itself}
 
-found_item : {X : Type 0} (test : X → Bool) (xs : List X) (x : X) → find test xs ≡ Some x → (k : ℕ) × (slice_get xs k ≡ Some x) × (test x ≡ true)
+pub found_item : {X : Type 0} (test : X → Bool) (xs : List X) (x : X) → find test xs ≡ Some x → (k : ℕ) × (slice_get xs k ≡ Some x) × (test x ≡ true)
 found_item test [] x found = absurd (cc)
 found_item test (y ∷ xs) x found =
     elim (cases_Bool (test y)) as (λ _. (k : ℕ) × (slice_get (y ∷ xs) k ≡ Some x) × (test x ≡ true)) [
@@ -26,7 +26,7 @@ found_item test (y ∷ xs) x found =
           (suc further.0, further.1, further.2)
     ]
 
-none_passes : {X : Type 0} (test : X → Bool) (xs : List X) (k : ℕ) (x : X) → find test xs ≡ None → slice_get xs k ≡ Some x → test x ≡ true → ⊥
+pub none_passes : {X : Type 0} (test : X → Bool) (xs : List X) (k : ℕ) (x : X) → find test xs ≡ None → slice_get xs k ≡ Some x → test x ≡ true → ⊥
 none_passes test [] k x none found passes = absurd (cc)
 none_passes test (y ∷ xs) zero x none found passes =
     let same : y ≡ x = cc in

@@ -1,29 +1,32 @@
 -- Shape rules S3, S5 and S6, from what the loops over words, rows and places saw; and what well-formed images keep.
 use Rattle.std.proofs.Common.{◌≡◌, ℕ, zero, suc, ◌+◌, ◌-◌, ◌*◌, ◌/◌, ◌%◌, ◌^◌, ◌<◌, ◌≤◌, Bool, true, false, cond, ◌&&◌, eqb, leb, List, [], ◌∷◌, map, Option, Some, None, refl, sym, ◌∙◌, ap, subst, inl, inr, arith, eqb-true, eq-eqb}
 use Rattle.std.specs.Prelude.{◌⊎◌, Contains}
-use Rattle.std.specs.List.{slice_get, filter}
+use Rattle.std.specs.List.{slice_get, filter, AllByRecursion}
 use Rattle.std.specs.Option.{option_and_then}
 use Rattle.std.proofs.lemmas.Bool.{cases_Bool, leb-true, le-leb}
+use Rattle.std.proofs.lemmas.List.Elements.{All-contains, All-from_recursion}
 use Rattle.oat_a64.specs.declared.inst.Inst.{Inst}
 use Rattle.oat_a64.specs.Fetch.{inst_of}
 use Rattle.oat_a64.specs.Step.{code_base, word_at, instruction_at}
 use Rattle.oat_map.specs.declared.map.Map.{Map}
 use Rattle.oat_map.specs.declared.row.Row.{Row}
-use Rattle.oat_map.specs.declared.row.Row.TheVariants.{Jump, Branch, Call, ICall, Ret, Begin, End, UseCell, DefCell, Check}
+use Rattle.oat_map.specs.declared.row.Row.TheVariants.{Ret, Check}
 use Rattle.oat_map.specs.Rows.{address_of, after, entries_of, starts_of, is_call}
 use Rattle.oat_image.specs.declared.image.Image.{Image}
 use Rattle.oat_image.specs.Grammar.{IsWellFormedImage, IsRow}
 use Rattle.oat_shape.specs.Groups.{IsGroup}
 use Rattle.oat_shape.specs.MapRules.{S2}
-use Rattle.oat_shape.specs.Shape.{Holds, IsReturnSite, IsPlaceOrSite, S3}
+use Rattle.oat_shape.specs.Shape.{Everywhere, IsReturnSite, IsPlaceOrSite, S3}
 use Rattle.oat_shape.specs.Lowest.{Lowest, EachAt, lower}
 use Rattle.oat_shape.specs.Parts.{AreApart, AreIndices, AreWithin, IsCovered, StandsInGroup}
 use Rattle.oat_shape.proofs.Scans.{lowest_same, lowest_both, at_contains, contains_at}
-use Rattle.oat_shape.proofs.WorkedShapesRules.{of_each}
+
+pub of_each : {X : Type 0} (P : X → Type 0) (xs : List X) → AllByRecursion P xs → (x : X) → Contains xs x → P x
+of_each P xs each x has = All-contains P xs x (All-from_recursion P xs each) has
 
 -- ---- words of code
 
-abbrev Fetched : List ℕ → ℕ → ℕ → Type 0
+abbrev pub Fetched : List ℕ → ℕ → ℕ → Type 0
 Fetched code address word = (k : ℕ) × (slice_get code k ≡ Some word) × (code_base + 4 * k ≡ address)
 
 fetched_from : (code : List ℕ) (address word : ℕ) (whole above : Bool) → whole ≡ eqb (address % 4) 0 → above ≡ leb code_base address
@@ -35,7 +38,7 @@ fetched_from code address word true true is_whole is_above read =
 fetched_from code address word true false is_whole is_above read = absurd (cc)
 fetched_from code address word false above is_whole is_above read = absurd (cc)
 
-fetched : (code : List ℕ) (address word : ℕ) → word_at code address ≡ Some word → Fetched code address word
+pub fetched : (code : List ℕ) (address word : ℕ) → word_at code address ≡ Some word → Fetched code address word
 fetched code address word read = fetched_from code address word (eqb (address % 4) 0) (leb code_base address) refl refl read
 
 fetches : (code : List ℕ) (k : ℕ) → word_at code (code_base + 4 * k) ≡ slice_get code k
@@ -47,7 +50,7 @@ fetches code k =
     ∙ ap (λ (b : Bool). cond (true && b) (slice_get code ((code_base + 4 * k - code_base) / 4)) None) above
     ∙ ap (slice_get code) back
 
-decoded : (o : Option ℕ) (inst : Inst) → option_and_then inst_of o ≡ Some inst → (word : ℕ) × (o ≡ Some word) × (inst_of word ≡ Some inst)
+pub decoded : (o : Option ℕ) (inst : Inst) → option_and_then inst_of o ≡ Some inst → (word : ℕ) × (o ≡ Some word) × (inst_of word ≡ Some inst)
 decoded None inst h = absurd (cc)
 decoded (Some word) inst h = (word, refl, h)
 
@@ -178,16 +181,9 @@ places_from m Good rows entries starts sites one two three same is_entries is_st
 -- ---- well-formed images
 
 low_row : (row : Row) → IsRow row → address_of row < 2 ^ 32
-low_row (Jump at to) h = h.0
-low_row (Branch at taken other) h = h.0
-low_row (Call at to) h = h.0
-low_row (ICall at params) h = h.0
 low_row (Ret at) h = h
-low_row (Begin at op) h = h.0
-low_row (End at op) h = h.0
-low_row (UseCell at cell) h = h.0
-low_row (DefCell at cell) h = h.0
 low_row (Check at) h = h
+low_row _ h = h.0
 
 pub are_within : (i : Image) (rows : List Row) → rows ≡ i.map.rows → IsWellFormedImage i → AreWithin rows
 are_within i rows same well row has =
@@ -197,7 +193,7 @@ pub are_indices : (i : Image) (cells : List ℕ) → cells ≡ i.cells → IsWel
 are_indices i cells same well index has =
     of_each (λ n. n ≤ 65535) i.cells well.cells.each index (subst (λ (cs : List ℕ). Contains cs index) same has)
 
-pub are_apart : (i : Image) (rows : List Row) → rows ≡ i.map.rows → Holds (S2 i.map) → AreApart rows
+pub are_apart : (i : Image) (rows : List Row) → rows ≡ i.map.rows → Everywhere (S2 i.map) → AreApart rows
 are_apart i rows same rises k row found j before next there =
     let here : slice_get i.map.rows (j + 1) ≡ Some row = ap (λ rs. slice_get rs (j + 1)) (sym same) ∙ ap (slice_get rows) next ∙ found in
     rises (address_of row) j before row (ap (λ rs. slice_get rs j) (sym same) ∙ there) here refl

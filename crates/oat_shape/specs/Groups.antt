@@ -23,6 +23,15 @@ MovesAddress code at address = Stands code at (Movz 11 0 (address % 2 ^ 16)) × 
 abbrev pub SkipsOne : List ℕ → ℕ → Type 0
 SkipsOne code at = ((rt : ℕ) × Stands code at (Cbnz rt (pos 2))) ⊎ ((cond : ℕ) × Stands code at (BCond cond (pos 2)))
 
+-- the group of a use of a cell, which is this word of global data, and that of a define
+abbrev pub IsUseGroup : List ℕ → ℕ → ℕ → ℕ → Type 0
+IsUseGroup code at cell index =
+    MovesAddress code at (global_address index) × Stands code (at + 8) (Ldr 10 11 0) × Stands code (at + 12) (Movz 9 0 cell) × Stands code (at + 16) (Svc 7)
+
+abbrev pub IsDefineGroup : List ℕ → ℕ → ℕ → ℕ → Type 0
+IsDefineGroup code at cell index =
+    MovesAddress code at (global_address index) × Stands code (at + 8) (Movz 9 0 cell) × Stands code (at + 12) (Str 10 11 0) × Stands code (at + 16) (Svc 6)
+
 -- The group of a row stands at its address, in code and with the cells of an image.
 abbrev pub IsGroup : List ℕ → List ℕ → Row → Type 0
 IsGroup code cells (rows.Jump at to) = Branches code at B to
@@ -33,10 +42,6 @@ IsGroup code cells (rows.ICall at params) = Stands code at (Svc 4) × Stands cod
 IsGroup code cells (rows.Ret at) = Stands code at (Svc 5) × Stands code (at + 4) (Ret 30)
 IsGroup code cells (rows.Begin at op) = Stands code at (Movz 9 0 op) × Stands code (at + 4) (Svc 1)
 IsGroup code cells (rows.End at op) = Stands code at (Movz 9 0 op) × Stands code (at + 4) (Svc 2)
-IsGroup code cells (rows.UseCell at cell) =
-    (index : ℕ) × (slice_get cells cell ≡ Some index) × MovesAddress code at (global_address index)
-    × Stands code (at + 8) (Ldr 10 11 0) × Stands code (at + 12) (Movz 9 0 cell) × Stands code (at + 16) (Svc 7)
-IsGroup code cells (rows.DefCell at cell) =
-    (index : ℕ) × (slice_get cells cell ≡ Some index) × MovesAddress code at (global_address index)
-    × Stands code (at + 8) (Movz 9 0 cell) × Stands code (at + 12) (Str 10 11 0) × Stands code (at + 16) (Svc 6)
+IsGroup code cells (rows.UseCell at cell) = (index : ℕ) × (slice_get cells cell ≡ Some index) × IsUseGroup code at cell index
+IsGroup code cells (rows.DefCell at cell) = (index : ℕ) × (slice_get cells cell ≡ Some index) × IsDefineGroup code at cell index
 IsGroup code cells (rows.Check at) = SkipsOne code at × ((number : ℕ) × Stands code (at + 4) (Brk number))

@@ -1,7 +1,7 @@
-pub mod MapRules
-pub mod Parts
 pub mod Groups
+pub mod MapRules
 pub mod Shape
 pub mod Lowest
+pub mod Parts
 pub mod Refusal
-pub mod WorkedShapes
+pub mod Laid

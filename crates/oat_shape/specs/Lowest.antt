@@ -1,10 +1,10 @@
 -- The lowest address at which a rule fails, as it is found by a look at each item of a list (docs/FORMATS.md, "Shape").
 use Rattle.std.specs.Prelude.{◌≡◌, ◌<◌, ℕ, nat_le, Bool, if◌then◌else◌, List, slice_get, Option, Some, None}
-use Rattle.oat_shape.specs.Shape.{Holds, FailsLowest}
+use Rattle.oat_shape.specs.Shape.{Everywhere, FailsLowest}
 
 -- no address where a rule holds, and otherwise the lowest one at which it fails
 abbrev pub Lowest : (ℕ → Type 0) → Option ℕ → Type 0
-Lowest rule None = Holds rule
+Lowest rule None = Everywhere rule
 Lowest rule (Some at) = FailsLowest rule at
 
 -- what has to hold of each item at its address

@@ -5,7 +5,6 @@ use Rattle.std.specs.List.{position_or_len}
 use Rattle.std.specs.BTreeSet.{BTreeSet, contains}
 use Rattle.std.specs.Ordering.{nat_cmp}
 use Rattle.oat_a64.specs.declared.inst.Inst.{Inst}
-use Rattle.oat_a64.specs.declared.inst.Inst.TheVariants.{Movz, Ldr, Str, Svc}
 use Rattle.oat_a64.specs.Fetch.{inst_of}
 use Rattle.oat_map.specs.declared.map.Function.{Function}
 use Rattle.oat_map.specs.declared.map.Block.{Block}
@@ -13,10 +12,8 @@ use Rattle.oat_map.specs.declared.row.Row.{Row}
 use Rattle.oat_map.specs.declared.row.Row.TheVariants.{Begin, End}
 use Rattle.oat_map.specs.Rows.{address_of, after}
 use Rattle.oat_image.specs.declared.image.Image.{Image}
-use Rattle.oat_shape.specs.Groups.{Stands, MovesAddress}
-use Rattle.oat_mem.specs.DataMemory.{global_address}
 use Rattle.oat_shape.specs.MapRules.{S7, S8}
-use Rattle.oat_shape.specs.Shape.{Covers, LiesInside, Holds, S5, S6, Tests}
+use Rattle.oat_shape.specs.Shape.{Covers, Everywhere, S5, S6}
 use Rattle.oat_a64.specs.Kinds.{is_measured, is_transfer}
 
 -- ---- rows and their groups
@@ -38,9 +35,6 @@ pub record EndsBelow (rows : List Row) (place end : ℕ) : Type 0 where
   pub bounds : (row : Row) → Contains rows row → address_of row < place → after row ≤ end
   pub reached : (end ≡ 0) ⊎ ((row : Row) × Contains rows row × (address_of row < place) × (after row ≡ end))
 
-abbrev pub IsClear : List Row → ℕ → Type 0
-IsClear rows place = (row : Row) → Contains rows row → ¬ LiesInside row place
-
 abbrev pub IsCovered : List Row → ℕ → Type 0
 IsCovered rows place = (row : Row) × Contains rows row × Covers row place
 
@@ -49,15 +43,7 @@ abbrev pub StandsInGroup : List Row → ℕ → ℕ → Type 0
 StandsInGroup rows place word =
     (inst : Inst) → inst_of word ≡ Some inst → IsTrue (is_transfer inst || is_measured inst) → IsCovered rows place
 
--- ---- the groups of cells
-
-abbrev pub IsUseGroup : List ℕ → ℕ → ℕ → ℕ → Type 0
-IsUseGroup code at cell index =
-    MovesAddress code at (global_address index) × Stands code (at + 8) (Ldr 10 11 0) × Stands code (at + 12) (Movz 9 0 cell) × Stands code (at + 16) (Svc 7)
-
-abbrev pub IsDefineGroup : List ℕ → ℕ → ℕ → ℕ → Type 0
-IsDefineGroup code at cell index =
-    MovesAddress code at (global_address index) × Stands code (at + 8) (Movz 9 0 cell) × Stands code (at + 12) (Str 10 11 0) × Stands code (at + 16) (Svc 6)
+-- ---- cells
 
 abbrev pub AreIndices : List ℕ → Type 0
 AreIndices cells = (index : ℕ) → Contains cells index → index ≤ 65535
@@ -118,12 +104,7 @@ pub record LiesInFunction (entries : List ℕ) (place : ℕ) : Type 0 where
 
 -- the rules from S5 on hold
 pub record KeepsLaterRules (i : Image) : Type 0 where
-  pub apart : Holds (S5 i)
-  pub coded : Holds (S6 i)
-  pub paired : Holds (S7 i.map)
-  pub named : Holds (S8 i.map)
-
--- the first of them that fails
-abbrev pub BreaksLaterRule : Image → ℕ → ℕ → Type 0
-BreaksLaterRule i broken at =
-    Tests (S5 i) 5 (Tests (S6 i) 6 (Tests (S7 i.map) 7 (Tests (S8 i.map) 8 ⊥ broken at) broken at) broken at) broken at
+  pub apart : Everywhere (S5 i)
+  pub coded : Everywhere (S6 i)
+  pub paired : Everywhere (S7 i.map)
+  pub named : Everywhere (S8 i.map)

@@ -9,16 +9,22 @@ use Rattle.oat_map.specs.declared.row.Row.{Row}
 use Rattle.oat_map.specs.declared.row.Row.TheVariants as rows
 use Rattle.oat_map.specs.Rows.{address_of, word_count, after, entries_of, is_call, starts_of}
 use Rattle.oat_image.specs.declared.image.Image.{Image}
+use Rattle.oat_first.specs.First.{Tests}
+use Rattle.oat_shape.specs.declared.fault.Broken.{Broken}
 use Rattle.oat_shape.specs.Groups.{IsGroup}
 use Rattle.oat_shape.specs.MapRules.{S2, S4, S7, S8}
 
+-- the address behind the words of a row's group
+abbrev pub group_end : Row → ℕ
+group_end row = address_of row + 4 * word_count row
+
 -- an address lies in a row's group
 abbrev pub Covers : Row → ℕ → Type 0
-Covers row address = (address_of row ≤ address) × (address < address_of row + 4 * word_count row)
+Covers row address = (address_of row ≤ address) × (address < group_end row)
 
--- an address lies in a row's group, behind its first byte
-abbrev pub LiesInside : Row → ℕ → Type 0
-LiesInside row address = (address_of row < address) × (address < address_of row + 4 * word_count row)
+-- no group begins below an address and ends above it
+abbrev pub CutsNoGroup : List Row → ℕ → Type 0
+CutsNoGroup rows address = (row : Row) → Contains rows row → address_of row < address → group_end row ≤ address
 
 -- the address behind the group of a call
 abbrev pub IsReturnSite : List Row → ℕ → Type 0
@@ -40,45 +46,51 @@ pub record S3 (i : Image) (a : ℕ) : Type 0 where
 
 -- S5: a place or return site there lies inside no group.
 abbrev pub S5 : Image → ℕ → Type 0
-S5 i a = IsPlaceOrSite i.map a → (row : Row) → Contains i.map.rows row → ¬ LiesInside row a
+S5 i a = IsPlaceOrSite i.map a → CutsNoGroup i.map.rows a
 
 -- S6: a place or return site there is the address of a word of code.
 abbrev pub S6 : Image → ℕ → Type 0
 S6 i a = IsPlaceOrSite i.map a → IsSome (word_at i.code a)
 
--- A rule holds at every address.
-abbrev pub Holds : (ℕ → Type 0) → Type 0
-Holds rule = (a : ℕ) → rule a
+-- a rule holds at every address
+abbrev pub Everywhere : (ℕ → Type 0) → Type 0
+Everywhere rule = (a : ℕ) → rule a
 
 -- All eight rules hold.
 pub record IsShaped (i : Image) : Type 0 where
-  pub decodes : Holds (S1 i)
-  pub rises : Holds (S2 i.map)
-  pub grouped : Holds (S3 i)
-  pub leads : Holds (S4 i.map)
-  pub apart : Holds (S5 i)
-  pub coded : Holds (S6 i)
-  pub paired : Holds (S7 i.map)
-  pub named : Holds (S8 i.map)
+  pub decodes : Everywhere (S1 i)
+  pub rises : Everywhere (S2 i.map)
+  pub grouped : Everywhere (S3 i)
+  pub leads : Everywhere (S4 i.map)
+  pub apart : Everywhere (S5 i)
+  pub coded : Everywhere (S6 i)
+  pub paired : Everywhere (S7 i.map)
+  pub named : Everywhere (S8 i.map)
 
 -- the lowest address at which a rule fails
 pub record FailsLowest (rule : ℕ → Type 0) (at : ℕ) : Type 0 where
   pub fails : ¬ rule at
   pub lowest : (a : ℕ) → a < at → rule a
 
--- a rule is tested: it holds and the next rules are tested, or it is the broken one
-pub data Tests (rule : ℕ → Type 0) (number : ℕ) (rest : Type 0) (broken at : ℕ) : Type 0 where
-  holds : Holds rule → rest → Tests rule number rest broken at
-  fails : FailsLowest rule at → broken ≡ number → Tests rule number rest broken at
+-- the broken rule is the one of this number, at the lowest address at which it fails
+pub record IsBrokenRule (rule : ℕ → Type 0) (number : ℕ) (broken : Broken) : Type 0 where
+  pub lowest : FailsLowest rule broken.at
+  pub numbered : broken.number ≡ number
+
+-- a rule is tested: it is the broken one, or it holds and the next rules are tested
+abbrev pub TestsRule : (ℕ → Type 0) → ℕ → (Broken → Type 0) → Broken → Type 0
+TestsRule rule number Rest = Tests Broken (Everywhere rule) (IsBrokenRule rule number) Rest
+
+-- the first of the rules from S5 on that fails
+abbrev pub BreaksLaterRule : Image → Broken → Type 0
+BreaksLaterRule i =
+    TestsRule (S5 i) 5 (TestsRule (S6 i) 6 (TestsRule (S7 i.map) 7 (TestsRule (S8 i.map) 8 (λ none. ⊥))))
+
+-- the first rule that fails
+abbrev pub BreaksRule : Image → Broken → Type 0
+BreaksRule i =
+    TestsRule (S1 i) 1 (TestsRule (S2 i.map) 2 (TestsRule (S3 i) 3 (TestsRule (S4 i.map) 4 (BreaksLaterRule i))))
 
 -- The first rule that fails, by its number, and the lowest address at which it does.
 abbrev pub IsBroken : Image → ℕ → ℕ → Type 0
-IsBroken i broken at =
-    Tests (S1 i) 1 (
-    Tests (S2 i.map) 2 (
-    Tests (S3 i) 3 (
-    Tests (S4 i.map) 4 (
-    Tests (S5 i) 5 (
-    Tests (S6 i) 6 (
-    Tests (S7 i.map) 7 (
-    Tests (S8 i.map) 8 ⊥ broken at) broken at) broken at) broken at) broken at) broken at) broken at) broken at
+IsBroken i number at = BreaksRule i (record { number = number; at = at })

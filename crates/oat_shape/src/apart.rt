@@ -1,7 +1,8 @@
 ghost use Rattle.std.specs.Prelude.{IsSome};
 ghost use Rattle.oat_a64.specs.Step.{word_at};
 ghost use Rattle.oat_shape.specs.Lowest.{Lowest, EachAt};
-ghost use Rattle.oat_shape.specs.Parts.{AreApart, AreWithin, IsClear};
+ghost use Rattle.oat_shape.specs.Parts.{AreApart, AreWithin};
+ghost use Rattle.oat_shape.specs.Shape.{CutsNoGroup};
 
 use crate::code::has_word;
 use crate::covers::is_clear;
@@ -12,7 +13,7 @@ use oat_map::Row;
 pub(crate) fn lowest_inside(rows: &[Row], places: &[u64]) -> Option<u64>
     requires apart { AreApart rows.now }
     requires within { AreWithin rows.now }
-    ensures { Lowest (EachAt places.now (λ k place. place) (λ k place. IsClear rows.now place)) result }
+    ensures { Lowest (EachAt places.now (λ k place. place) (λ k place. CutsNoGroup rows.now place)) result }
 {
     let mut lowest = None;
     for place in places {

@@ -1,5 +1,6 @@
 ghost use Rattle.std.specs.Prelude.{◌↔◌, ◌<◌, ◌^◌, IsTrue};
-ghost use Rattle.oat_shape.specs.Parts.{AreApart, AreWithin, EndsBelow, IsClear, IsCovered};
+ghost use Rattle.oat_shape.specs.Parts.{AreApart, AreWithin, EndsBelow, IsCovered};
+ghost use Rattle.oat_shape.specs.Shape.{CutsNoGroup};
 
 use oat_map::Row;
 
@@ -7,7 +8,7 @@ use oat_map::Row;
 pub(crate) fn is_clear(rows: &[Row], place: u64) -> bool
     requires apart { AreApart rows.now }
     requires within { AreWithin rows.now }
-    ensures { IsTrue result ↔ IsClear rows.now place }
+    ensures { IsTrue result ↔ CutsNoGroup rows.now place }
 {
     end_below(rows, place) <= place
 }

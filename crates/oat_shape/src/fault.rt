@@ -1,5 +1,12 @@
 use oat_image::Image;
 
+/// A shape rule by its number, from 1 for S1 to 8 for S8, and the lowest address at which it fails.
+#[derive(Clone, Copy)]
+pub(crate) struct Broken {
+    pub(crate) number: u8,
+    pub(crate) at: u64,
+}
+
 /// Why an image is refused.
 #[derive(Clone, Copy, Debug, PartialEq, Eq)]
 pub enum ShapeFault {

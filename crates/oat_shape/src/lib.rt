@@ -21,7 +21,6 @@ mod shaped;
 #[cfg(test)]
 mod tests;
 mod transfers;
-pub mod worked;
 
 pub use fault::{ShapeFault, ShapeRefusal};
 pub use shaped::{Shaped, check_shape};

@@ -2,11 +2,12 @@ ghost use Rattle.std.specs.Prelude.{IfOk, MatchOption};
 ghost use Rattle.oat_image.specs.Grammar.{IsWellFormedImage};
 ghost use Rattle.oat_shape.specs.Lowest.{Lowest};
 ghost use Rattle.oat_shape.specs.MapRules.{S2, S4, S7, S8};
-ghost use Rattle.oat_shape.specs.Parts.{BreaksLaterRule, KeepsLaterRules};
-ghost use Rattle.oat_shape.specs.Shape.{Holds, IsBroken, IsShaped, S1, S3, S5, S6};
+ghost use Rattle.oat_shape.specs.Parts.{KeepsLaterRules};
+ghost use Rattle.oat_shape.specs.Shape.{BreaksLaterRule, BreaksRule, Everywhere, IsShaped, S1, S3, S5, S6};
 
 use crate::apart::{lowest_inside, lowest_off_code};
 use crate::decoding::lowest_undecoded;
+use crate::fault::Broken;
 use crate::groups::lowest_broken_group;
 use crate::leads::lowest_misled;
 use crate::lowest::lower;
@@ -18,17 +19,10 @@ use crate::transfers::lowest_loose_transfer;
 use oat_image::Image;
 use std::alloc::{AllocError, Global};
 
-/// A shape rule by its number, and the lowest address at which it fails.
-#[derive(Clone, Copy)]
-pub(crate) struct Broken {
-    pub(crate) number: u8,
-    pub(crate) at: u64,
-}
-
 /// The first shape rule that fails, if one does.
 pub(crate) fn first_broken(alloc: Global, image: &Image) -> Result<Option<Broken>, AllocError>
     requires { IsWellFormedImage image.now }
-    ensures { IfOk result (λ broken. MatchOption broken (IsShaped image.now) (λ b. IsBroken image.now b.number b.at)) }
+    ensures { IfOk result (λ broken. MatchOption broken (IsShaped image.now) (BreaksRule image.now)) }
 {
     match s1(image) {
         Some(at) => return Ok(Some(Broken { number: 1, at })),
@@ -52,8 +46,8 @@ pub(crate) fn first_broken(alloc: Global, image: &Image) -> Result<Option<Broken
 /// The first of the rules from S5 on that fails, if one does.
 fn later_broken(alloc: Global, image: &Image) -> Result<Option<Broken>, AllocError>
     requires well_formed { IsWellFormedImage image.now }
-    requires rises { Holds (S2 image.now.map) }
-    ensures { IfOk result (λ broken. MatchOption broken (KeepsLaterRules image.now) (λ b. BreaksLaterRule image.now b.number b.at)) }
+    requires rises { Everywhere (S2 image.now.map) }
+    ensures { IfOk result (λ broken. MatchOption broken (KeepsLaterRules image.now) (BreaksLaterRule image.now)) }
 {
     match s5(alloc, image)? {
         Some(at) => return Ok(Some(Broken { number: 5, at })),
@@ -90,7 +84,7 @@ fn s2(image: &Image) -> Option<u64>
 
 fn s3(image: &Image) -> Option<u64>
     requires well_formed { IsWellFormedImage image.now }
-    requires rises { Holds (S2 image.now.map) }
+    requires rises { Everywhere (S2 image.now.map) }
     ensures { Lowest (S3 image.now) result }
 {
     let code = image.code.as_slice();
@@ -116,7 +110,7 @@ fn s4(alloc: Global, image: &Image) -> Result<Option<u64>, AllocError>
 
 fn s5(alloc: Global, image: &Image) -> Result<Option<u64>, AllocError>
     requires well_formed { IsWellFormedImage image.now }
-    requires rises { Holds (S2 image.now.map) }
+    requires rises { Everywhere (S2 image.now.map) }
     ensures { IfOk result (λ lowest. Lowest (S5 image.now) lowest) }
 {
     let rows = image.map.rows.as_slice();

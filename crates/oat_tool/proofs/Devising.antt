@@ -13,7 +13,7 @@ use Rattle.oat_measure.specs.declared.opening.Opening.{Opening}
 use Rattle.oat_image.specs.declared.image.Image.{Image}
 use Rattle.oat_case.specs.declared.case.Case.{Case}
 use Rattle.oat_shape.specs.MapRules.{S7}
-use Rattle.oat_shape.specs.Shape.{Holds}
+use Rattle.oat_shape.specs.Shape.{Everywhere}
 use Rattle.oat_map.specs.Rows.{BeginsAt, IsOperation}
 use Rattle.oat_journal.specs.Measured.{Run, body_of, IsOpenedFor, opening_of}
 use Rattle.oat_tool.specs.Outcome.{Outcome, line}
@@ -63,11 +63,11 @@ opens image case begun = (begun.0 + 4, begins image.map case.session.op begun, r
 at_place : (rows : List Row) (row : Row) (among : Contains rows row) → slice_get rows among.0 ≡ Some row
 at_place rows row among = slice_get-get_or rows among.0 row among.1 ∙ ap (λ r. Some r) among.2
 
-never_twice : (flow : Map) (op at other k later : ℕ) → Holds (S7 flow) → slice_get flow.rows k ≡ Some (Begin at op)
+never_twice : (flow : Map) (op at other k later : ℕ) → Everywhere (S7 flow) → slice_get flow.rows k ≡ Some (Begin at op)
     → slice_get flow.rows later ≡ Some (Begin other op) → k < later → ⊥
 never_twice flow op at other k later paired first second below = paired other later (Begin other op) second refl k at below first
 
-one_begin : (flow : Map) (op one two : ℕ) → Holds (S7 flow) → BeginsAt flow op one → BeginsAt flow op two → two ≡ one
+one_begin : (flow : Map) (op one two : ℕ) → Everywhere (S7 flow) → BeginsAt flow op one → BeginsAt flow op two → two ≡ one
 one_begin flow op one two paired (at, among, is) (other, among', is') =
     let first = at_place flow.rows (Begin at op) among in
     let second = at_place flow.rows (Begin other op) among' in
@@ -97,7 +97,7 @@ one_shown o key run p q (sealed is bytes blob shown) (unsealed none shown') = ab
 one_shown o key run p q (unsealed none shown) (sealed is bytes blob shown') = absurd (none is)
 one_shown o key run p q (unsealed none shown) (unsealed none' shown') = shown ∙ sym shown'
 
-one_run : (image : Image) (case : Case) → Holds (S7 image.map) → IsOne (Runs image case)
+one_run : (image : Image) (case : Case) → Everywhere (S7 image.map) → IsOne (Runs image case)
 one_run image case paired p q one two =
     let same = one_begin image.map case.session.op one.begin_at two.begin_at paired one.begins two.begins in
     one_shown (opening_of image case.session one.begin_at) case.session.key (run_of image case one.begin_at) p q one.shown

@@ -1,20 +1,20 @@
 use Rattle.std.proofs.Common.{get_or, refl}
 use Rattle.std.proofs.lemmas.Option.{slice_get-get_or}
-use Rattle.oat_shape.specs.Parts.{IsClear}
+use Rattle.oat_shape.specs.Shape.{CutsNoGroup}
 use Rattle.oat_shape.proofs.Scans.{scan_none, scan_noted, scan_all}
 use Rattle.oat_shape.proofs.apart.lowest_inside.Goals as goal
 
 pub loop-place-init : goal.loop-place-init
-loop-place-init c = scan_none c.args.places.now (λ k place. place) (λ k place. IsClear c.args.rows.now place)
+loop-place-init c = scan_none c.args.places.now (λ k place. place) (λ k place. CutsNoGroup c.args.rows.now place)
 
 pub loop-place-preserved : goal.loop-place-preserved
 loop-place-preserved c =
     let here = slice_get-get_or c.args.places.now c.loop-place.place-index 0 c.loop-place-test.true in
-    scan_noted c.args.places.now (λ k place. place) (λ k place. IsClear c.args.rows.now place) c.loop-place.place-index
+    scan_noted c.args.places.now (λ k place. place) (λ k place. CutsNoGroup c.args.rows.now place) c.loop-place.place-index
     (get_or c.args.places.now c.loop-place.place-index 0) c.loop-place.lowest c.is_clear.result _ c.note-lowest.result here refl c.note-lowest.ensures
     c.is_clear.ensures c.loop-place.invariant
 
 pub returns : goal.returns
 returns c =
-    scan_all c.args.places.now (λ k place. place) (λ k place. IsClear c.args.rows.now place) c.loop-place.place-index c.loop-place.lowest
+    scan_all c.args.places.now (λ k place. place) (λ k place. CutsNoGroup c.args.rows.now place) c.loop-place.place-index c.loop-place.lowest
     c.loop-place-test.false c.loop-place.invariant

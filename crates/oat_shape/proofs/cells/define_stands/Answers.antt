@@ -1,5 +1,6 @@
 use Rattle.std.proofs.Common.{sym, ◌∙◌}
-use Rattle.oat_shape.proofs.GroupLemmas.{define_iff, no_define}
+use Rattle.oat_shape.specs.Groups.{IsDefineGroup}
+use Rattle.oat_shape.proofs.GroupLemmas.{cell_iff, no_cell}
 use Rattle.oat_shape.proofs.Scans.{contains_at}
 use Rattle.oat_shape.proofs.cells.define_stands.Goals as goal
 
@@ -10,8 +11,8 @@ define_of_word_stands-requires-clause-index c =
 
 pub returns-in-Some : goal.returns-in-Some
 returns-in-Some c =
-    define_iff c.args.code.now c.args.cells.now c.args.at c.args.cell c.in-Some.index c.define_of_word_stands.result (sym c.word_of_cell.ensures ∙ c.in-Some.is)
+    cell_iff c.args.cells.now c.args.cell c.in-Some.index (IsDefineGroup c.args.code.now c.args.at c.args.cell) c.define_of_word_stands.result (sym c.word_of_cell.ensures ∙ c.in-Some.is)
     c.define_of_word_stands.ensures
 
 pub returns-in-None : goal.returns-in-None
-returns-in-None c = no_define c.args.code.now c.args.cells.now c.args.at c.args.cell (sym c.word_of_cell.ensures ∙ c.in-None.is)
+returns-in-None c = no_cell c.args.cells.now c.args.cell (IsDefineGroup c.args.code.now c.args.at c.args.cell) (sym c.word_of_cell.ensures ∙ c.in-None.is)

@@ -1,5 +1,6 @@
 use Rattle.std.proofs.Common.{sym, ◌∙◌}
-use Rattle.oat_shape.proofs.GroupLemmas.{use_iff, no_use}
+use Rattle.oat_shape.specs.Groups.{IsUseGroup}
+use Rattle.oat_shape.proofs.GroupLemmas.{cell_iff, no_cell}
 use Rattle.oat_shape.proofs.Scans.{contains_at}
 use Rattle.oat_shape.proofs.cells.use_stands.Goals as goal
 
@@ -10,8 +11,8 @@ use_of_word_stands-requires-clause-index c =
 
 pub returns-in-Some : goal.returns-in-Some
 returns-in-Some c =
-    use_iff c.args.code.now c.args.cells.now c.args.at c.args.cell c.in-Some.index c.use_of_word_stands.result (sym c.word_of_cell.ensures ∙ c.in-Some.is)
+    cell_iff c.args.cells.now c.args.cell c.in-Some.index (IsUseGroup c.args.code.now c.args.at c.args.cell) c.use_of_word_stands.result (sym c.word_of_cell.ensures ∙ c.in-Some.is)
     c.use_of_word_stands.ensures
 
 pub returns-in-None : goal.returns-in-None
-returns-in-None c = no_use c.args.code.now c.args.cells.now c.args.at c.args.cell (sym c.word_of_cell.ensures ∙ c.in-None.is)
+returns-in-None c = no_cell c.args.cells.now c.args.cell (IsUseGroup c.args.code.now c.args.at c.args.cell) (sym c.word_of_cell.ensures ∙ c.in-None.is)

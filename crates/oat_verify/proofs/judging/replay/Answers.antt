@@ -1,14 +1,14 @@
 use Rattle.std.proofs.Common.{refl, subst, List, ℕ}
 use Rattle.oat_verify.specs.Verdict.{stuck, walked, Settles}
-use Rattle.oat_verify.proofs.Shaped.{IsOrdered-shaped, IsSome-start}
+use Rattle.oat_shape.proofs.Laid.{laid, starts}
 use Rattle.oat_verify.proofs.judging.replay.Goals as goal
 
 pub walk-requires-clause-ordered : goal.walk-requires-clause-ordered
 walk-requires-clause-ordered c =
-    rw c.image.ensures.same (IsOrdered-shaped c.args.shaped.now c.image.ensures.well_formed c.image.ensures.shaped)
+    rw c.image.ensures.same (laid c.args.shaped.now c.image.ensures.well_formed c.image.ensures.shaped).ordered
 
 pub walk-requires-clause-begun : goal.walk-requires-clause-begun
-walk-requires-clause-begun c = rw c.image.ensures.same (IsSome-start c.args.shaped.now.map c.args.session.now.op c.requires)
+walk-requires-clause-begun c = rw c.image.ensures.same (starts c.args.shaped.now.map c.args.session.now.op c.requires)
 
 pub returns-in-Ok : goal.returns-in-Ok
 returns-in-Ok c =

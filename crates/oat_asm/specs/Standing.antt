@@ -1,0 +1,42 @@
+-- Items in an image: where they stand, and that the group of a mark is the group of its row. So the expansion and the shape rules have one table of groups.
+use Rattle.std.specs.Prelude.{◌≡◌, ◌+◌, ◌/◌, ◌%◌, ◌^◌, ◌≤◌, ◌<◌, ◌↔◌, ℕ, List, [], ◌∷◌, Some, slice_get, ⊤}
+use Rattle.oat_a64.specs.declared.inst.Inst.TheVariants.{Movz, Movk}
+use Rattle.oat_map.specs.declared.row.Row.{Row}
+use Rattle.oat_map.specs.Rows.{address_of, row_over}
+use Rattle.oat_image.specs.declared.image.Image.{Image}
+use Rattle.oat_shape.specs.Groups.{Stands, Branches, IsGroup}
+use Rattle.oat_shape.specs.Shape.{group_end}
+use Rattle.oat_asm.specs.declared.mark.Mark.{Mark}
+use Rattle.oat_asm.specs.declared.mark.Mark.TheVariants.{UseCell, DefCell}
+use Rattle.oat_asm.specs.declared.item.Item.{Item}
+use Rattle.oat_asm.specs.declared.item.Item.TheVariants as item
+use Rattle.oat_asm.specs.Layout.{branch}
+use Rattle.oat_asm.specs.Expansion.{note_of, group}
+use Rattle.oat_asm.specs.NoteRows.{row_of}
+
+-- a row is the one over each address of its group
+abbrev pub IsOver : List Row → Row → Type 0
+IsOver rows row = (p : ℕ) → address_of row ≤ p → p < group_end row → row_over rows p ≡ Some row
+
+-- items stand in an image from an address on, by the address of each label
+abbrev pub StandsAt : Image → (ℕ → ℕ) → ℕ → List Item → Type 0
+StandsAt i label p [] = ⊤
+StandsAt i label p (item.Inst x ∷ is) = Stands i.code p x × StandsAt i label (p + 4) is
+StandsAt i label p (item.Label l ∷ is) = (label l ≡ p) × StandsAt i label p is
+StandsAt i label p (item.BranchTo form l ∷ is) = Branches i.code p (branch form) (label l) × StandsAt i label (p + 4) is
+StandsAt i label p (item.AddressOf r l ∷ is) =
+    (Stands i.code p (Movz r 0 (label l % 2 ^ 16)) × Stands i.code (p + 4) (Movk r 1 (label l / 2 ^ 16))) × StandsAt i label (p + 4 + 4) is
+StandsAt i label p (item.Mark m ∷ is) = ⊥
+StandsAt i label p (item.Note n ∷ is) = IsOver i.map.rows (row_of label p n) × StandsAt i label p is
+
+-- a mark of a cell has the cell's word
+abbrev pub HasItsWord : List ℕ → Mark → Type 0
+HasItsWord cells (UseCell cell index) = slice_get cells cell ≡ Some index
+HasItsWord cells (DefCell cell index) = slice_get cells cell ≡ Some index
+HasItsWord cells _ = ⊤
+
+-- the group of a mark stands just where the group of its row stands
+abbrev pub GroupsAreThoseOfRows : Type 0
+GroupsAreThoseOfRows =
+    (i : Image) (label : ℕ → ℕ) (p : ℕ) (m : Mark) → HasItsWord i.cells m
+    → StandsAt i label p (group m) ↔ IsGroup i.code i.cells (row_of label p (note_of m))
