@@ -18,7 +18,7 @@ use Rattle.oat_journal.specs.Run.{Entry, pc_of}
 use Rattle.oat_journal.specs.Window.{made_call, shown_edge, executed_path}
 use Rattle.oat_attest.specs.Headline.{NamesCell, IsUseOf, IsLoadOf, AllReadByLoad}
 use Rattle.oat_attest.specs.Lockstep.{Placed, placed_of, plain, calling}
-use Rattle.oat_attest.proofs.Lists.{contains-get}
+use Rattle.oat_attest.proofs.Lists.{contains_get}
 use Rattle.oat_shape.specs.Laid.{IsLaid}
 use Rattle.oat_attest.proofs.Stretches.{Runs, last, more, machine, moved_to, entry_by, inst_is, none_read, read_behind, read_cons, Crossed, arrives, crossed_cons}
 use Rattle.oat_attest.proofs.Crossings.{lead, next_at}
@@ -170,7 +170,7 @@ pub cross_use : (image : Image) → IsLaid image → (op at cell : ℕ) → Cont
 cross_use image laid op at cell has r es runs =
     let (index, cell_is, (moves, load, move, call)) = laid.group (rows.UseCell at cell) has in
     let (fits_row, short, closes) = laid.low (rows.UseCell at cell) has in
-    let low = laid.cell index (contains-get image.cells cell index cell_is) in
+    let low = laid.cell index (contains_get image.cells cell index cell_is) in
     let r1 = with_reg r 11 (shifted_left (global_address index % 2 ^ 16) (16 * 0)) in
     let a = lead image op (Movz 11 0 (global_address index % 2 ^ 16)) r at (at + 4) (λ _. r1) es moves.0 refl (λ o h. cc)
     (λ _. ap (moved_to r1) (next_at at (at + 4) refl (omega arith))) runs in
@@ -198,7 +198,7 @@ pub cross_define : (image : Image) → IsLaid image → (op at cell : ℕ) → C
 cross_define image laid op at cell has r es runs =
     let (index, cell_is, (moves, move, store, call)) = laid.group (rows.DefCell at cell) has in
     let (fits_row, short, closes) = laid.low (rows.DefCell at cell) has in
-    let low = laid.cell index (contains-get image.cells cell index cell_is) in
+    let low = laid.cell index (contains_get image.cells cell index cell_is) in
     let small = fits_row.1 in
     let r1 = with_reg r 11 (shifted_left (global_address index % 2 ^ 16) (16 * 0)) in
     let r2 = with_address r index in

@@ -14,7 +14,7 @@ use Rattle.oat_map.specs.Rows.{after, entries_of, IsIndirectTarget, is_call, is_
 use Rattle.oat_map.specs.Walk.{Step, passed, moved, return_site_of, Returns, RowGoes}
 use Rattle.oat_image.specs.declared.image.Image.{Image}
 use Rattle.oat_shape.specs.Shape.{IsReturnSite, CutsNoGroup}
-use Rattle.oat_attest.proofs.Lists.{contains-get, get-contains}
+use Rattle.oat_attest.proofs.Lists.{contains_get, get_contains}
 use Rattle.oat_shape.specs.Laid.{IsLaid}
 
 -- ---- calls of the steps so far
@@ -69,7 +69,7 @@ returns_site rows before to called r = called r.place to r.matching.call
 
 contains_map : {A B : Type 0} (f : A → B) (xs : List A) (x : A) → Contains xs x → Contains (map f xs) (f x)
 contains_map f xs x c =
-    contains-get (map f xs) c.0 (f x) (slice_get-map f xs c.0 ∙ ap (option_map f) (get-contains xs x c))
+    contains_get (map f xs) c.0 (f x) (slice_get-map f xs c.0 ∙ ap (option_map f) (get_contains xs x c))
 
 target_entry : (functions : List Function) (params to : ℕ) → IsIndirectTarget functions params to → Contains (entries_of functions) to
 target_entry functions params to t =

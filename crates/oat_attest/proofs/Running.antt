@@ -24,7 +24,7 @@ use Rattle.oat_verify.specs.Verdict.{IsVerdict, subject_of, head_of}
 use Rattle.oat_verify.specs.declared.verdict.Verdict.TheVariants.{Accept}
 use Rattle.oat_attest.specs.Honest.{TracesAreWalks, HonestRunsWalk, HonestRunsAreAccepted, SoundRunsAreAccepted}
 use Rattle.oat_attest.specs.Lockstep.{ExecutesWalk}
-use Rattle.oat_attest.proofs.Lists.{contains-get}
+use Rattle.oat_attest.proofs.Lists.{contains_get}
 use Rattle.oat_shape.proofs.Laid.{laid}
 use Rattle.oat_attest.proofs.Stretches.{Runs, moved_to}
 use Rattle.oat_attest.proofs.Places.{called_none}
@@ -143,7 +143,7 @@ sound_runs_are_accepted image session begin_at setting inputs writes n given sea
     let o = opening_of image session begin_at in
     let run = dev image o inputs writes n in
     let checked = uses_of image o run in
-    let clean = runs_report_exactly image o inputs writes n sealed ∙ none_unsound checked (λ k u at. All-contains IsSound checked u sound (contains-get checked k u at)) in
+    let clean = runs_report_exactly image o inputs writes n sealed ∙ none_unsound checked (λ k u at. All-contains IsSound checked u sound (contains_get checked k u at)) in
     let path = executed_path image.map session.op (window_of o run) in
     let accepts = honest_runs_are_accepted image session begin_at setting inputs writes n given sealed back clean few bytes blob in
     let verdict = (acceptance_at_once (subject_of image session) bytes path).1 accepts in (

@@ -18,7 +18,7 @@ use Rattle.oat_journal.specs.Run.{Entry, pc_of}
 use Rattle.oat_journal.specs.Journal.{IsMade, takes_input}
 use Rattle.oat_a64.specs.Kinds.{is_measured, is_transfer}
 use Rattle.oat_journal.specs.Window.{made_call}
-use Rattle.oat_attest.proofs.Lists.{get-contains}
+use Rattle.oat_attest.proofs.Lists.{get_contains}
 use Rattle.oat_shape.specs.Laid.{IsLaid, IsNext}
 use Rattle.oat_shape.specs.Shape.{CutsNoGroup}
 use Rattle.oat_attest.proofs.Stretches.{Runs, no_runs, head_of, moved_to, moved_itself, read_cons, Skipped}
@@ -196,7 +196,7 @@ find_none test (y ∷ ys) (suc k) x none at =
 
 all_below : (rows : List Row) (t : ℕ) → next rows t ≡ None → (row : Row) → Contains rows row → address_of row < t
 all_below rows t none row has =
-    leb-false t (address_of row) (find_none (λ (r : Row). leb t (address_of r)) rows has.0 row none (get-contains rows row has))
+    leb-false t (address_of row) (find_none (λ (r : Row). leb t (address_of r)) rows has.0 row none (get_contains rows row has))
 
 uncovered_past : (image : Image) → IsLaid image → (t p : ℕ) → CutsNoGroup image.map.rows t → next image.map.rows t ≡ None
     → t ≤ p → (i : Inst) → Stands image.code p i → (is_transfer i || is_measured i) ≡ false

@@ -12,7 +12,7 @@ use Rattle.oat_attest.specs.Headline.{IsUseOf, IsLoadOf, AllReadByLoad}
 use Rattle.oat_attest.specs.Lockstep.{Placed, placed_of, Makes, Executes, PassesCells, AllReturnsMatch}
 use Rattle.oat_a64.specs.declared.inst.Inst.TheVariants.{Movz, Movk, Ldr, Svc}
 use Rattle.oat_mem.specs.DataMemory.{word_in}
-use Rattle.oat_attest.proofs.Lists.{get-contains}
+use Rattle.oat_attest.proofs.Lists.{get_contains}
 use Rattle.oat_attest.proofs.Stretches.{none_read, read_cons}
 use Rattle.oat_attest.proofs.CellCrossings.{loads_use}
 use Rattle.oat_attest.specs.Worked.{two_uses, two_uses_map, made_at, use_at, both_passed, cells_used, TwoUses, three_calls, SecondIsFalse}
@@ -101,7 +101,7 @@ no_load memory (suc (suc (suc k))) load is there = absurd (cc)
 other_load : (memory : ℕ → ℕ) → AllReadByLoad two_uses (made_at memory 0x10010 (Ldr 10 11 0) ∷ made_at memory 0x10028 (Movz 9 0 0) ∷ made_at memory 0x1002C (Svc 7) ∷ []) → ⊥
 other_load memory all =
     let r = all 2 0 (word_in memory 0x40000000) 0 _ refl refl refl in
-    let row = use_row r.among.0 r.row _ refl (get-contains two_uses_map.rows r.row r.among) r.called in
+    let row = use_row r.among.0 r.row _ refl (get_contains two_uses_map.rows r.row r.among) r.called in
     let loads = subst (λ (x : Row). IsLoadOf x r.load 0x40000000) row r.loaded in
     no_load memory r.before r.load r.stands loads.0
 
