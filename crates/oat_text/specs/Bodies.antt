@@ -1,11 +1,12 @@
 -- The program that a text stands for, from what its lines declare, or else the first line that names something that isn't
 -- declared: the second pass (docs/FORMATS.md, "Program text").
-use Rattle.std.specs.Prelude.{ℕ, List, [], ◌∷◌, ◌++◌, length, position, drop, zip, map, nat_le, Option, None, slice_get, option_map, option_and_then, Result, Ok}
+use Rattle.std.specs.Prelude.{ℕ, zero, suc, List, [], ◌∷◌, ◌++◌, length, position, drop, zip, map, Option, None, slice_get, option_map, option_and_then, Result, Ok, Err}
 use Rattle.std.specs.Option.{ok_or}
 use Rattle.std.specs.Str.{bytes_eq}
+use Rattle.oat_lines.specs.declared.fault.Fault.TheVariants.{At}
 use Rattle.oat_lines.specs.Faults.{at}
 use Rattle.oat_lines.specs.Lines.{lines_of}
-use Rattle.oat_lines.specs.Reading.{◌>>=◌, guard}
+use Rattle.oat_lines.specs.Reading.{◌>>=◌}
 use Rattle.oat_ir.specs.declared.program.Program.{Program}
 use Rattle.oat_ir.specs.declared.program.GlobalItem.{GlobalItem}
 use Rattle.oat_ir.specs.declared.func.Func.{Func}
@@ -29,8 +30,8 @@ use Rattle.oat_text.specs.declared.head.Head.{Head}
 use Rattle.oat_text.specs.Words.{Word}
 use Rattle.oat_text.specs.Forms.{form_of}
 use Rattle.oat_text.specs.Passes.{OrFault, numbered, over}
-use Rattle.oat_text.specs.Readings.{i64_of}
-use Rattle.oat_text.specs.Outline.{Outline, itself, local_name, name_at, outline_of}
+use Rattle.oat_text.specs.Readings.{i64_of, name_at}
+use Rattle.oat_text.specs.Outline.{Outline, itself, local_name, outline_of}
 
 -- ---- names
 
@@ -51,6 +52,9 @@ global_number s words k = ok_or (option_and_then (number_of global_name s.global
 abbrev pub func_number : Scope → List Word → ℕ → Result ℕ TextFaultKind
 func_number s words k = ok_or (option_and_then (number_of itself s.funcs) (slice_get words k)) Unknown
 
+abbrev pub argument : Scope → Word → Result ℕ TextFaultKind
+argument s word = ok_or (number_of local_name s.locals word) Unknown
+
 abbrev pub local_number : Scope → List Word → ℕ → Result ℕ TextFaultKind
 local_number s words k = ok_or (option_and_then (number_of local_name s.locals) (slice_get words k)) Unknown
 
@@ -59,18 +63,38 @@ label_number s words k = ok_or (option_and_then (number_of itself s.labels) (sli
 
 -- ---- instructions and terminators
 
-unfoldable pub arguments : Scope → List Word → Result (List ℕ) TextFaultKind
-arguments s [] = Ok []
-arguments s (word ∷ words) = do
-  x ← ok_or (number_of local_name s.locals word) Unknown
-  xs ← arguments s words
+-- so many at most
+unfoldable pub arguments : Scope → ℕ → List Word → Result (List ℕ) TextFaultKind
+arguments s most [] = Ok []
+arguments s zero (word ∷ words) = Err Unknown
+arguments s (suc most) (word ∷ words) = do
+  x ← argument s word
+  xs ← arguments s most words
   Ok (x ∷ xs)
 
--- at most four
-unfoldable pub args_of : Scope → List Word → Result (List ℕ) TextFaultKind
-args_of s words = do
-  few ← guard (nat_le (length words) 4) Unknown
-  arguments s words
+unfoldable pub copy_of : Scope → List Word → Result Instr TextFaultKind
+copy_of s words = do
+  x ← local_number s words 0
+  y ← local_number s words 1
+  Ok (Copy x y)
+
+unfoldable pub load_of : Scope → List Word → Result Instr TextFaultKind
+load_of s words = do
+  x ← local_number s words 0
+  global ← global_number s words 1
+  Ok (Load x global)
+
+unfoldable pub store_of : Scope → List Word → Result Instr TextFaultKind
+store_of s words = do
+  global ← global_number s words 0
+  x ← local_number s words 1
+  Ok (Store global x)
+
+unfoldable pub ref_of : Scope → List Word → Result Instr TextFaultKind
+ref_of s words = do
+  x ← local_number s words 0
+  func ← func_number s words 1
+  Ok (RefTo x func)
 
 unfoldable pub binary_of : Scope → BinOp → List Word → Result Instr TextFaultKind
 binary_of s op words = do
@@ -103,58 +127,41 @@ unfoldable pub call_of : Scope → List Word → Result Instr TextFaultKind
 call_of s words = do
   x ← local_number s words 0
   func ← func_number s words 1
-  args ← args_of s (drop 2 words)
+  args ← arguments s 4 (drop 2 words)
   Ok (Call x func args)
 
 unfoldable pub icall_of : Scope → List Word → Result Instr TextFaultKind
 icall_of s words = do
   x ← local_number s words 0
   y ← local_number s words 1
-  args ← args_of s (drop 2 words)
+  args ← arguments s 4 (drop 2 words)
   Ok (ICall x y args)
 
 unfoldable pub instr_of : Scope → InstrForm → List Word → Result Instr TextFaultKind
 instr_of s instrs.Const words = const_of s words
-instr_of s instrs.Copy words = do
-  x ← local_number s words 0
-  y ← local_number s words 1
-  Ok (Copy x y)
+instr_of s instrs.Copy words = copy_of s words
 instr_of s (instrs.Binary op) words = binary_of s op words
-instr_of s instrs.Load words = do
-  x ← local_number s words 0
-  global ← global_number s words 1
-  Ok (Load x global)
-instr_of s instrs.Store words = do
-  global ← global_number s words 0
-  x ← local_number s words 1
-  Ok (Store global x)
+instr_of s instrs.Load words = load_of s words
+instr_of s instrs.Store words = store_of s words
 instr_of s instrs.LoadX words = loadx_of s words
 instr_of s instrs.StoreX words = storex_of s words
-instr_of s instrs.RefTo words = do
-  x ← local_number s words 0
-  func ← func_number s words 1
-  Ok (RefTo x func)
+instr_of s instrs.RefTo words = ref_of s words
 instr_of s instrs.Call words = call_of s words
 instr_of s instrs.ICall words = icall_of s words
-instr_of s instrs.Input words = do
-  x ← local_number s words 0
-  Ok (Input x)
-instr_of s instrs.Output words = do
-  x ← local_number s words 0
-  Ok (Output x)
+instr_of s instrs.Input words = local_number s words 0 >>= λ x. Ok (Input x)
+instr_of s instrs.Output words = local_number s words 0 >>= λ x. Ok (Output x)
 
-unfoldable pub term_of : Scope → TermForm → List Word → Result Term TextFaultKind
-term_of s terms.Jump words = do
-  to ← label_number s words 0
-  Ok (Jump to)
-term_of s terms.Branch words = do
+unfoldable pub branch_of : Scope → List Word → Result Term TextFaultKind
+branch_of s words = do
   x ← local_number s words 0
   first ← label_number s words 1
   second ← label_number s words 2
   Ok (Branch x first second)
-term_of s terms.Ret words = do
-  x ← local_number s words 0
-  Ok (Ret x)
+
+unfoldable pub term_of : Scope → TermForm → List Word → Result Term TextFaultKind
+term_of s terms.Jump words = label_number s words 0 >>= λ to. Ok (Jump to)
+term_of s terms.Branch words = branch_of s words
+term_of s terms.Ret words = local_number s words 0 >>= λ x. Ok (Ret x)
 term_of s terms.Halt words = Ok Halt
 
 -- ---- the text
@@ -178,30 +185,36 @@ scope_of o head = record { globals = o.globals; funcs = o.funcs; locals = head.l
 abbrev pub scope_in : Bodies → Result Scope TextFaultKind
 scope_in b = ok_or (option_map (scope_of b.outline) (slice_get b.outline.heads (length b.ended))) Unknown
 
-unfoldable pub instr_line : Bodies → InstrForm → List Word → Result Bodies TextFaultKind
-instr_line b form words = do
-  scope ← scope_in b
-  instr ← instr_of scope form words
+unfoldable pub instr_in : Bodies → InstrForm → List Word → Result Instr TextFaultKind
+instr_in b form words = scope_in b >>= λ scope. instr_of scope form words
+
+unfoldable pub term_in : Bodies → TermForm → List Word → Result Term TextFaultKind
+term_in b form words = scope_in b >>= λ scope. term_of scope form words
+
+unfoldable pub instr_line : ℕ → Bodies → InstrForm → List Word → OrFault Bodies
+instr_line n b form words = do
+  instr ← at n (instr_in b form words)
   Ok (record b { instrs = b.instrs ++ instr ∷ [] })
 
-unfoldable pub term_line : Bodies → TermForm → List Word → Result Bodies TextFaultKind
-term_line b form words = do
-  scope ← scope_in b
-  term ← term_of scope form words
-  label ← ok_or b.label Unknown
+unfoldable pub term_line : ℕ → Bodies → TermForm → List Word → OrFault Bodies
+term_line n b form words = do
+  term ← at n (term_in b form words)
+  label ← ok_or b.label (At n Unknown)
   Ok (record b { blocks = b.blocks ++ (record { label = label; instrs = b.instrs; term = term }) ∷ []; label = None; instrs = [] })
 
-unfoldable pub line_of : Bodies → LineForm → List Word → Result Bodies TextFaultKind
-line_of b line.Block words = Ok (record b { label = name_at words 0 })
-line_of b (line.Instr form) words = instr_line b form words
-line_of b (line.Term form) words = term_line b form words
-line_of b line.End words = Ok (record b { ended = b.ended ++ b.blocks ∷ []; blocks = [] })
-line_of b _ words = Ok b
+unfoldable pub fill : ℕ → Bodies → LineForm → List Word → OrFault Bodies
+fill n b line.Block words = Ok (record b { label = name_at words 0 })
+fill n b (line.Instr form) words = instr_line n b form words
+fill n b (line.Term form) words = term_line n b form words
+fill n b line.End words = Ok (record b { ended = b.ended ++ b.blocks ∷ []; blocks = [] })
+fill n b _ words = Ok b
 
 -- a line that counts, by its words
 unfoldable pub body_line : ℕ → Bodies → List Word → OrFault Bodies
 body_line n b [] = Ok b
-body_line n b (first ∷ words) = at n (ok_or (form_of first) Unknown >>= λ form. line_of b form words)
+body_line n b (first ∷ words) = do
+  form ← ok_or (form_of first) (At n Unknown)
+  fill n b form words
 
 abbrev pub bodies_of : Outline → List ℕ → OrFault Bodies
 bodies_of outline text = over body_line (no_bodies outline) (numbered 1 (lines_of text))

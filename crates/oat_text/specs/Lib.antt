@@ -6,4 +6,5 @@ pub mod Laws
 pub mod Outline
 pub mod Passes
 pub mod Readings
+pub mod Scoped
 pub mod Words

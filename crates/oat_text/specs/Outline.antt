@@ -1,6 +1,6 @@
 -- What the lines of a program text declare, or else the fault of its first bad line, but for names of nothing that is declared:
 -- the first pass (docs/FORMATS.md, "Program text"). A line's faults are looked for in the order Token, Expected, Number, Duplicate.
-use Rattle.std.specs.Prelude.{ℕ, ◌+◌, ◌==◌, ◌&&◌, Bool, true, false, not, List, [], ◌∷◌, ◌++◌, length, drop, codes, Option, slice_get, option_and_then, Result, Ok, if◌then◌else◌}
+use Rattle.std.specs.Prelude.{ℕ, ◌+◌, ◌==◌, ◌&&◌, Bool, true, false, not, List, [], ◌∷◌, ◌++◌, length, codes, Option, None, slice_get, option_map, Result, Ok, if◌then◌else◌}
 use Rattle.std.specs.List.{list_all, list_any}
 use Rattle.std.specs.Option.{ok_or}
 use Rattle.std.specs.Str.{bytes_eq}
@@ -28,8 +28,8 @@ use Rattle.oat_text.specs.declared.head.Stage.{Stage}
 use Rattle.oat_text.specs.declared.head.Stage.TheVariants.{Outside, Locals, Inside, Behind}
 use Rattle.oat_text.specs.Words.{Word}
 use Rattle.oat_text.specs.Forms.{form_of, kinds_of}
-use Rattle.oat_text.specs.Passes.{OrFault, numbered, over}
-use Rattle.oat_text.specs.Readings.{params_of, local_of, parameter_of, i64_of, count_of, begins_reference, is_printable, is_shaped, is_numbered, all_pass, has_number}
+use Rattle.oat_text.specs.Passes.{OrFault, numbered, each, over}
+use Rattle.oat_text.specs.Readings.{params_of, parameter_of, i64_of, count_of, name_at, local_in, begins_reference, is_printable, is_shaped, is_numbered, all_pass, has_number}
 
 -- what the lines so far declare
 pub record Outline : Type 0 where
@@ -92,9 +92,6 @@ itself name = name
 abbrev pub local_name : Local → Word
 local_name local = local.name
 
-abbrev pub name_at : List Word → ℕ → Option Word
-name_at words k = option_and_then read_name (slice_get words k)
-
 -- a scalar, or a scalar of references
 unfoldable pub scalar_of : Word → Word → Result GlobalItem TextFaultKind
 scalar_of name word =
@@ -114,12 +111,13 @@ global_in form words = do
   word ← ok_or (slice_get words 1) Expected
   global_of form name word
 
-unfoldable pub add_parameters : ℕ → List Local → List Word → OrFault (List Local)
-add_parameters n locals [] = Ok locals
-add_parameters n locals (word ∷ words) = do
+unfoldable pub add_parameter : ℕ → List Local → Word → OrFault (List Local)
+add_parameter n locals word = do
   parameter ← ok_or (parameter_of word) (At n Token)
-  more ← add n local_name locals parameter
-  add_parameters n more words
+  add n local_name locals parameter
+
+abbrev pub add_parameters : ℕ → List Local → List Word → OrFault (List Local)
+add_parameters n = each (add_parameter n)
 
 -- a function of this role and name, with these parameters
 unfoldable pub begin_func : ℕ → Outline → Role → Word → List Word → OrFault Outline
@@ -133,13 +131,30 @@ begin_operation n o id name words = do
   new ← guard (not (list_any (λ other. id == other) o.operations)) (At n Duplicate)
   begin_func n (record o { operations = o.operations ++ id ∷ [] }) (Operation id) name words
 
+-- the name or the number of an operation that stands first, and the words behind it
+abbrev pub name_first : List Word → Option (Word × List Word)
+name_first [] = None
+name_first (word ∷ words) = option_map (λ name. (name, words)) (read_name word)
+
+abbrev pub id_first : List Word → Option (ℕ × List Word)
+id_first [] = None
+id_first (word ∷ words) = option_map (λ id. (id, words)) (count_of 65535 word)
+
+unfoldable pub plain_line : ℕ → Outline → List Word → OrFault Outline
+plain_line n o words = do
+  named ← ok_or (name_first words) (At n Token)
+  begin_func n o Plain named.0 named.1
+
+unfoldable pub operation_line : ℕ → Outline → List Word → OrFault Outline
+operation_line n o words = do
+  numbered ← ok_or (id_first words) (At n Number)
+  named ← ok_or (name_first numbered.1) (At n Token)
+  begin_operation n o numbered.0 named.0 named.1
+
 unfoldable pub func_line : ℕ → Outline → FuncForm → List Word → OrFault Outline
-func_line n o funcs.Plain words = ok_or (name_at words 0) (At n Token) >>= λ name. begin_func n o Plain name (drop 1 words)
-func_line n o funcs.Operation words = do
-  id ← ok_or (option_and_then (count_of 65535) (slice_get words 0)) (At n Number)
-  name ← ok_or (name_at words 1) (At n Token)
-  begin_operation n o id name (drop 2 words)
-func_line n o funcs.Main words = begin_func n o Main (codes "main") []
+func_line n o funcs.Plain words = plain_line n o words
+func_line n o funcs.Operation words = operation_line n o words
+func_line n o funcs.Main words = begin_func n o Main (codes "main") words
 
 unfoldable pub global_line : ℕ → Outline → GlobalForm → List Word → OrFault Outline
 global_line n o form words = do
@@ -152,9 +167,6 @@ with_locals head locals = record head { locals = locals }
 
 abbrev pub with_labels : Head → List Word → Head
 with_labels head labels = record head { labels = labels }
-
-abbrev pub local_in : List Word → Option Local
-local_in words = option_and_then (λ name. option_and_then (local_of name) (slice_get words 1)) (slice_get words 0)
 
 unfoldable pub local_line : ℕ → Outline → List Word → OrFault Outline
 local_line n o words = do

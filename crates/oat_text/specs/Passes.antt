@@ -17,8 +17,12 @@ numbered n (line ∷ lines) =
     if is_skipped (words_of line) then numbered (n + 1) lines else (n, words_of line) ∷ numbered (n + 1) lines
 
 -- one after the other, each taken with what those before it have given
-unfoldable pub over : {S : Type 0} → (ℕ → S → List Word → OrFault S) → S → List (ℕ × List Word) → OrFault S
-over takes s [] = Ok s
-over takes s (line ∷ lines) = do
-  next ← takes line.0 s line.1
-  over takes next lines
+unfoldable pub each : {S X : Type 0} → (S → X → OrFault S) → S → List X → OrFault S
+each takes s [] = Ok s
+each takes s (x ∷ xs) = do
+  next ← takes s x
+  each takes next xs
+
+-- the same for lines and their numbers
+abbrev pub over : {S : Type 0} → (ℕ → S → List Word → OrFault S) → S → List (ℕ × List Word) → OrFault S
+over takes s lines = each (λ t line. takes line.0 t line.1) s lines

@@ -1,13 +1,13 @@
 -- What a word of a program text gives where a value of its kind is wanted, and the tests that a line's words have to pass
 -- (docs/FORMATS.md, "Program text").
-use Rattle.std.specs.Prelude.{ℕ, ℤ, ◌-◌, ◌&&◌, ◌||◌, Bool, true, List, ◌∷◌, length, take, nat_lt, codes, Option, Some, None, is_some, option_map, option_and_then, if◌then◌else◌}
+use Rattle.std.specs.Prelude.{ℕ, ℤ, ◌-◌, ◌&&◌, ◌||◌, Bool, true, List, ◌∷◌, length, take, nat_lt, codes, Option, Some, None, is_some, option_map, option_and_then, slice_get, if◌then◌else◌}
 use Rattle.std.specs.List.{list_all}
 use Rattle.std.specs.Str.{bytes_eq}
 use Rattle.oat_lines.specs.Decimal.{numeral_of}
 use Rattle.oat_lines.specs.Fields.{cut, is_visible}
 use Rattle.oat_lines.specs.Integer.{integer_of, is_i64}
 use Rattle.oat_lines.specs.Reading.{between}
-use Rattle.oat_map.specs.Name.{is_name, read_name}
+use Rattle.oat_map.specs.Name.{read_name}
 use Rattle.oat_ir.specs.declared.func.Ty.{Ty}
 use Rattle.oat_ir.specs.declared.func.Ty.TheVariants.{I64, Fn}
 use Rattle.oat_ir.specs.declared.func.Local.{Local}
@@ -47,6 +47,14 @@ i64_of word = option_and_then (λ z. if is_i64 z then Some z else None) (integer
 abbrev pub count_of : ℕ → Word → Option ℕ
 count_of most word = option_and_then (λ n. if between 1 most n then Some n else None) (numeral_of word)
 
+-- the name at a place of a line
+abbrev pub name_at : List Word → ℕ → Option Word
+name_at words k = option_and_then read_name (slice_get words k)
+
+-- the local that the first two words of a line give
+abbrev pub local_in : List Word → Option Local
+local_in words = option_and_then (λ name. option_and_then (local_of name) (slice_get words 1)) (slice_get words 0)
+
 abbrev pub begins_reference : Word → Bool
 begins_reference word = bytes_eq (take 3 word) (codes "fn/")
 
@@ -58,7 +66,7 @@ is_printable word = list_all (λ b. is_visible b && nat_lt b 127) word
 
 -- well formed, where a name, a type or a parameter is wanted
 abbrev pub is_shaped : WordKind → Word → Bool
-is_shaped kind.Named word = is_name word
+is_shaped kind.Named word = is_some (read_name word)
 is_shaped kind.Typed word = is_some (ty_of word)
 is_shaped kind.Parameter word = is_some (parameter_of word)
 is_shaped kind.Start word = if begins_reference word then is_some (ty_of word) else true

@@ -26,3 +26,20 @@ pub struct Head {
     pub locals: Table<Local>,
     pub labels: Table<Name>,
 }
+
+impl Head {
+    ghost use Rattle.std.specs.Prelude.{◌≡◌};
+    ghost use Rattle.oat_text.specs.Outline.{no_head};
+
+    /// A function that declares nothing.
+    pub fn new(alloc: Global) -> Head
+        ensures { result ≡ no_head }
+    {
+        Head {
+            role: Role::Plain,
+            params: 0,
+            locals: Table::new(alloc),
+            labels: Table::new(alloc),
+        }
+    }
+}

@@ -1,8 +1,13 @@
-use crate::{TextFault, TextFaultKind, laws};
+use crate::{TextFault, TextFaultKind, laws, read_program};
 use std::test::Fail;
 
+const IDLE: &[u8] =
+    b"operation 1 idle\nlocal z i64\nblock b0\nret z\nend\nmain\nlocal s i64\nblock b0\ncall s idle\nhalt\nend\n";
+
 #[test]
-fn faults_are_written_as_line_and_kind(rt: HostRuntime) -> Result<(), Fail> {
+fn programs_are_read(rt: HostRuntime) -> Result<(), Fail> {
+    let program = read_program(rt.alloc(), IDLE)?;
+    assert!(rt; program.well_formed());
     let fault = TextFault::At(12, TextFaultKind::Duplicate);
     let text = format!(in rt.alloc(); "{fault}")?;
     assert_eq!(rt; text.as_bytes(), b"12 Duplicate".as_slice());
