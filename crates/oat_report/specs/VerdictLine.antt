@@ -9,7 +9,7 @@ use Rattle.oat_verify.specs.declared.verdict.Cause.{Cause}
 use Rattle.oat_verify.specs.declared.verdict.Cause.TheVariants as causes
 use Rattle.oat_verify.specs.declared.verdict.Verdict.{Verdict}
 use Rattle.oat_verify.specs.declared.verdict.Verdict.TheVariants.{Accept, Refuse}
-use Rattle.oat_report.specs.PathLine.{space, address_text}
+use Rattle.oat_report.specs.PathLine.{space, address_digits}
 
 -- a value of the device as a signed number
 abbrev pub value_text : ℕ → List ℕ
@@ -18,7 +18,7 @@ value_text value = signed_decimal (cast_signed w64 value)
 abbrev pub replay_text : ReplayCause → List ℕ
 replay_text BitsEnd = codes "BitsEnd"
 replay_text TargetsEnd = codes "TargetsEnd"
-replay_text (BadTarget target) = codes "BadTarget " ++ address_text target
+replay_text (BadTarget target) = codes "BadTarget " ++ address_digits target
 replay_text Underflow = codes "Underflow"
 replay_text EndInside = codes "EndInside"
 replay_text Nested = codes "Nested"

@@ -1,10 +1,10 @@
 -- The lines of a worked path: an operation that calls a helper twice, then another function by its reference, and branches (docs/FORMATS.md).
 use Rattle.std.specs.Prelude.{◌≡◌, [], ◌∷◌, map, codes}
 use Rattle.oat_map.specs.Worked.{calls_map, calls_path}
-use Rattle.oat_report.specs.PathLine.{line_of}
+use Rattle.oat_report.specs.PathLine.{edge_line}
 
 abbrev pub WorkedLines : Type 0
-WorkedLines = map (line_of calls_map) calls_path ≡
+WorkedLines = map (edge_line calls_map) calls_path ≡
     codes "call work#0 helper" ∷
     codes "ret helper#0 work#0" ∷
     codes "call work#1 helper" ∷

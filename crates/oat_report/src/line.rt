@@ -4,10 +4,10 @@ ghost use Rattle.std.specs.Prelude.{◌≡◌, ◌++◌, ◌↔◌, IsTrue, OnOk
 ghost use Rattle.std.specs.Fmt.{decimal};
 ghost use Rattle.oat_map.specs.Rows.{address_of, is_returned_to};
 ghost use Rattle.oat_map.specs.EdgeName.{place_name, block_name, function_below, site, call_site};
-ghost use Rattle.oat_report.specs.PathLine.{place_text, site_text, space, line_of, IsOfRow};
+ghost use Rattle.oat_report.specs.PathLine.{place_text, site_text, space, address_digits, edge_line};
 
 use crate::place::{block_at, function_at, last_below, number_in_place, place_at_or_below};
-use crate::text::put_number;
+use crate::text::{put_address, put_number};
 use oat_map::{Edge, Map, Row};
 use std::alloc::{AllocError, Global};
 
@@ -108,7 +108,7 @@ fn branch_line(
     bit: bool,
     to: u64,
 ) -> Result<Vec<u8>, AllocError>
-    ensures { IfOk result (λ line. line.items ≡ line_of map.now (Edge.Branch from bit to)) }
+    ensures { IfOk result (λ line. line.items ≡ edge_line map.now (Edge.Branch from bit to)) }
 {
     let mut line = begin_line(alloc, b"branch ", map, from)?;
     line.extend_from_slice(if bit { b"1" } else { b"0" })?;
@@ -133,10 +133,19 @@ fn end_line(alloc: Global, op: u16) -> Result<Vec<u8>, AllocError>
     Ok(line)
 }
 
-/// The line of an edge that a row allows, without its line end (docs/FORMATS.md, "Path lines").
+fn stray_line(alloc: Global, from: u64, to: u64) -> Result<Vec<u8>, AllocError>
+    ensures { IfOk result (λ line. line.items ≡ codes "stray " ++ address_digits from ++ space ++ address_digits to) }
+{
+    let mut line = Vec::from_slice(alloc, b"stray ")?;
+    put_address(&mut line, from)?;
+    line.extend_from_slice(b" ")?;
+    put_address(&mut line, to)?;
+    Ok(line)
+}
+
+/// The line of an edge, without its line end (docs/FORMATS.md, "Path lines").
 pub fn path_line(alloc: Global, map: &Map, edge: &Edge) -> Result<Vec<u8>, AllocError>
-    requires { IsOfRow edge.now }
-    ensures { IfOk result (λ line. line.items ≡ line_of map.now edge.now) }
+    ensures { IfOk result (λ line. line.items ≡ edge_line map.now edge.now) }
 {
     match *edge {
         Edge::Jump { from, to } => line_to_place(alloc, b"jump ", map, from, to),
@@ -145,6 +154,6 @@ pub fn path_line(alloc: Global, map: &Map, edge: &Edge) -> Result<Vec<u8>, Alloc
         Edge::ICall { from, to } => line_to_place(alloc, b"icall ", map, from, to),
         Edge::Ret { from, to } => return_line(alloc, map, from, to),
         Edge::End { op } => end_line(alloc, op),
-        Edge::Stray { .. } => unreachable!(),
+        Edge::Stray { from, to } => stray_line(alloc, from, to),
     }
 }

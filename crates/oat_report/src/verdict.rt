@@ -2,10 +2,10 @@
 
 ghost use Rattle.std.specs.Prelude.{◌≡◌, ◌++◌, OnOk, IfOk, codes};
 ghost use Rattle.std.specs.Fmt.{decimal};
-ghost use Rattle.oat_report.specs.PathLine.{address_text};
+ghost use Rattle.oat_report.specs.PathLine.{address_digits};
 ghost use Rattle.oat_report.specs.VerdictLine.{value_text, replay_text, violation_text, cause_text, verdict_text};
 
-use crate::text::put_number;
+use crate::text::{put_address, put_number};
 use oat_blob::Violation;
 use oat_replay::ReplayCause;
 use oat_verify::{Cause, Verdict};
@@ -18,14 +18,6 @@ fn put_value(out: &mut Vec<u8>, value: u64) -> Result<(), AllocError>
     out.extend_from_slice(digits.as_bytes())
 }
 
-fn put_address(out: &mut Vec<u8>, address: u64) -> Result<(), AllocError>
-    ensures { OnOk result (out.new.items ≡ out.old.items ++ address_text address) }
-{
-    let digits = format!(in *out.allocator(); "{:X}", address)?;
-    out.extend_from_slice(&b"00000000"[digits.len().min(8)..])?;
-    out.extend_from_slice(digits.as_bytes())
-}
-
 fn put_counted(out: &mut Vec<u8>, keyword: &[u8], count: u32) -> Result<(), AllocError>
     ensures { OnOk result (out.new.items ≡ out.old.items ++ (keyword.now ++ decimal count)) }
 {
@@ -34,7 +26,7 @@ fn put_counted(out: &mut Vec<u8>, keyword: &[u8], count: u32) -> Result<(), Allo
 }
 
 fn put_bad_target(out: &mut Vec<u8>, target: u64) -> Result<(), AllocError>
-    ensures { OnOk result (out.new.items ≡ out.old.items ++ (codes "BadTarget " ++ address_text target)) }
+    ensures { OnOk result (out.new.items ≡ out.old.items ++ (codes "BadTarget " ++ address_digits target)) }
 {
     out.extend_from_slice(b"BadTarget ")?;
     put_address(out, target)

@@ -1,107 +1,86 @@
 -- What is refused before a command's own work, what is admitted, and what follows for all that comes after.
-use Rattle.std.proofs.Common.{ℕ, List}
 use Rattle.oat_image.specs.declared.image.Image.{Image}
 use Rattle.oat_image.specs.Grammar.{IsImageText}
 use Rattle.oat_shape.specs.Shape.{IsShaped}
 use Rattle.oat_map.specs.Rows.{IsOperation}
 use Rattle.oat_case.specs.declared.case.Case.{Case}
 use Rattle.oat_case.specs.Grammar.{IsCaseText}
+use Rattle.oat_first.specs.First.{fails, passes, IsOne}
+use Rattle.oat_first.proofs.FirstLaws.{First-one}
 use Rattle.oat_tool.specs.declared.page.Stop.{Stop}
-use Rattle.oat_tool.specs.Outcome.{Outcome}
-use Rattle.oat_tool.specs.Inputs.{unread, read, fails, passes}
+use Rattle.oat_tool.specs.Answer.{Answer, as_outcome}
+use Rattle.oat_tool.specs.Loads.{File}
 use Rattle.oat_tool.specs.Refusals.{RefusesImage, RefusesShape, RefusesCase, RefusesOperation}
 use Rattle.oat_tool.specs.Admits.{Admits, Rejects, AreAdmitted}
-use Rattle.oat_tool.specs.Pages.{Stops}
-use Rattle.oat_tool.specs.Laws.{IsOne}
-use Rattle.oat_tool.proofs.Loading.{Stops-weaker}
-use Rattle.oat_tool.proofs.One.{Reads-one, Tests-one}
-use Rattle.oat_tool.proofs.Settling.{Settles, Settles-refused, IsDone, refused_is_not_done}
-use Rattle.oat_tool.proofs.Refusing.{one_image, image_apart, one_image_refusal, one_case, case_apart, one_case_refusal, shape_apart, one_shape_refusal, operation_apart, one_operation_refusal}
+use Rattle.oat_tool.specs.Works.{StopsWith}
+use Rattle.oat_tool.proofs.Working.{StopsWith-more, IsDone, refused_is_not_done}
+use Rattle.oat_tool.proofs.Refusing.{image_is_decisive, shape_is_decisive, case_is_decisive, operation_is_decisive}
 
 -- ---- where the stages stop
 
-pub rejects_image : (i c it ct : List ℕ) (stop : Stop) → Stops (RefusesImage i it) stop → Stops (Rejects i c it ct) stop
-rejects_image i c it ct stop stops = Stops-weaker (RefusesImage i it) (Rejects i c it ct) stop (λ o refused. unread refused) stops
+pub rejects_image : (image case : File) (stop : Stop) → StopsWith (RefusesImage image) stop → StopsWith (Rejects image case) stop
+rejects_image image case stop stops = StopsWith-more (RefusesImage image) (Rejects image case) stop (λ a refused. fails refused) stops
 
-pub rejects_shape : (i c it ct : List ℕ) (image : Image) (stop : Stop) → IsImageText it image
-    → Stops (RefusesShape i image) stop → Stops (Rejects i c it ct) stop
-rejects_shape i c it ct image stop spelled stops =
-    Stops-weaker (RefusesShape i image) (Rejects i c it ct) stop (λ o refused. read image spelled (fails refused)) stops
+pub rejects_shape : (image case : File) (i : Image) (stop : Stop) → IsImageText image.text i
+    → StopsWith (RefusesShape image i) stop → StopsWith (Rejects image case) stop
+rejects_shape image case i stop read stops =
+    StopsWith-more (RefusesShape image i) (Rejects image case) stop (λ a refused. passes i read (fails refused)) stops
 
-pub rejects_case : (i c it ct : List ℕ) (image : Image) (stop : Stop) → IsImageText it image → IsShaped image
-    → Stops (RefusesCase c ct) stop → Stops (Rejects i c it ct) stop
-rejects_case i c it ct image stop spelled shaped stops =
-    Stops-weaker (RefusesCase c ct) (Rejects i c it ct) stop (λ o refused. read image spelled (passes shaped (unread refused))) stops
+pub rejects_case : (image case : File) (i : Image) (stop : Stop) → IsImageText image.text i → IsShaped i
+    → StopsWith (RefusesCase case) stop → StopsWith (Rejects image case) stop
+rejects_case image case i stop read shaped stops =
+    StopsWith-more (RefusesCase case) (Rejects image case) stop (λ a refused. passes i read (passes tt shaped (fails refused))) stops
 
-pub rejects_operation : (i c it ct : List ℕ) (image : Image) (case : Case) (stop : Stop) → IsImageText it image → IsShaped image
-    → IsCaseText ct case → Stops (RefusesOperation c image.map case.session.op) stop → Stops (Rejects i c it ct) stop
-rejects_operation i c it ct image case stop spelled shaped given stops =
-    Stops-weaker (RefusesOperation c image.map case.session.op) (Rejects i c it ct) stop
-    (λ o refused. read image spelled (passes shaped (read case given (fails refused)))) stops
+pub rejects_operation : (image case : File) (i : Image) (c : Case) (stop : Stop) → IsImageText image.text i → IsShaped i
+    → IsCaseText case.text c → StopsWith (RefusesOperation case i.map c.session.op) stop → StopsWith (Rejects image case) stop
+rejects_operation image case i c stop read shaped given stops =
+    StopsWith-more (RefusesOperation case i.map c.session.op) (Rejects image case) stop
+    (λ a refused. passes i read (passes tt shaped (passes c given (fails refused)))) stops
 
 -- ---- what comes after
 
-Admits-more : (i c it ct : List ℕ) (rest other : Image → Case → Type 0) (o : Outcome)
-    → ((image : Image) (case : Case) → rest image case → other image case) → Admits i c it ct rest o → Admits i c it ct other o
-Admits-more i c it ct rest other o more (unread refused) = unread refused
-Admits-more i c it ct rest other o more (read image spelled (fails refused)) = read image spelled (fails refused)
-Admits-more i c it ct rest other o more (read image spelled (passes shaped (unread refused))) =
-    read image spelled (passes shaped (unread refused))
-Admits-more i c it ct rest other o more (read image spelled (passes shaped (read case given (fails refused)))) =
-    read image spelled (passes shaped (read case given (fails refused)))
-Admits-more i c it ct rest other o more (read image spelled (passes shaped (read case given (passes begun after)))) =
-    read image spelled (passes shaped (read case given (passes begun (more image case after))))
+pub Admits-rejected : (image case : File) (Rest : Image → Case → Answer → Type 0) (a : Answer) → Rejects image case a → Admits image case Rest a
+Admits-rejected image case Rest a (fails refused) = fails refused
+Admits-rejected image case Rest a (passes i read (fails refused)) = passes i read (fails refused)
+Admits-rejected image case Rest a (passes i read (passes u shaped (fails refused))) = passes i read (passes u shaped (fails refused))
+Admits-rejected image case Rest a (passes i read (passes u shaped (passes c given (fails refused)))) =
+    passes i read (passes u shaped (passes c given (fails refused)))
+Admits-rejected image case Rest a (passes i read (passes u shaped (passes c given (passes v begun none)))) = absurd none
 
-pub Admits-rejected : (i c it ct : List ℕ) (rest : Image → Case → Type 0) (o : Outcome) → Rejects i c it ct o → Admits i c it ct rest o
-Admits-rejected i c it ct rest o rejected = Admits-more i c it ct (λ image case. ⊥) rest o (λ image case none. absurd none) rejected
+pub Admits-admitted : (image case : File) (Rest : Image → Case → Answer → Type 0) (a : Answer) (i : Image) (c : Case)
+    → AreAdmitted image case i c → Rest i c a → Admits image case Rest a
+Admits-admitted image case Rest a i c admitted after =
+    passes i admitted.image_read (passes tt admitted.shaped (passes c admitted.case_read (passes tt admitted.begun after)))
 
-pub Admits-admitted : (i c it ct : List ℕ) (rest : Image → Case → Type 0) (o : Outcome) (image : Image) (case : Case)
-    → AreAdmitted it ct image case → rest image case → Admits i c it ct rest o
-Admits-admitted i c it ct rest o image case admitted after =
-    read image admitted.image_read (passes admitted.shaped (read case admitted.case_read (passes admitted.begun after)))
-
--- ---- refusals, and one outcome
-
-pub Admits-settles : (i c it ct : List ℕ) (rest : Image → Case → Type 0) (o : Outcome)
-    → ((image : Image) (case : Case) → rest image case → Settles o) → Admits i c it ct rest o → Settles o
-Admits-settles i c it ct rest o at_rest (unread refused) = Settles-refused o _ _ refused.told
-Admits-settles i c it ct rest o at_rest (read image spelled (fails refused)) = Settles-refused o _ _ refused.told
-Admits-settles i c it ct rest o at_rest (read image spelled (passes shaped (unread refused))) = Settles-refused o _ _ refused.told
-Admits-settles i c it ct rest o at_rest (read image spelled (passes shaped (read case given (fails refused)))) =
-    Settles-refused o _ _ refused.told
-Admits-settles i c it ct rest o at_rest (read image spelled (passes shaped (read case given (passes begun after)))) =
-    at_rest image case after
-
-pub Admits-one : (i c it ct : List ℕ) (rest : Image → Case → Outcome → Type 0)
-    → ((image : Image) (case : Case) → AreAdmitted it ct image case → IsOne (rest image case))
-    → IsOne (λ o. Admits i c it ct (λ image case. rest image case o) o)
-Admits-one i c it ct rest one =
-    Reads-one Image (IsImageText it) (RefusesImage i it) _ (one_image it) (image_apart i it) (one_image_refusal i it) (λ image spelled.
-    Tests-one (IsShaped image) (RefusesShape i image) _ (shape_apart i image) (one_shape_refusal i image) (λ shaped.
-    Reads-one Case (IsCaseText ct) (RefusesCase c ct) _ (one_case ct) (case_apart c ct) (one_case_refusal c ct) (λ case given.
-    Tests-one (IsOperation image.map case.session.op) (RefusesOperation c image.map case.session.op) _
-    (operation_apart c image.map case.session.op) (one_operation_refusal c image.map case.session.op) (λ begun.
-    one image case (record { image_read = spelled; shaped = shaped; case_read = given; begun = begun })))))
+pub Admits-one : (image case : File) (Rest : Image → Case → Answer → Type 0)
+    → ((i : Image) (c : Case) → AreAdmitted image case i c → IsOne Answer (Rest i c)) → IsOne Answer (Admits image case Rest)
+Admits-one image case Rest one =
+    First-one Image Answer (IsImageText image.text) (RefusesImage image) _ (image_is_decisive image) (λ i read.
+    First-one (Unit {0}) Answer (λ u. IsShaped i) (RefusesShape image i) _ (shape_is_decisive image i) (λ u shaped.
+    First-one Case Answer (IsCaseText case.text) (RefusesCase case) _ (case_is_decisive case) (λ c given.
+    First-one (Unit {0}) Answer (λ u. IsOperation i.map c.session.op) (RefusesOperation case i.map c.session.op) (λ u. Rest i c)
+    (operation_is_decisive case i.map c.session.op) (λ v begun.
+    one i c (record { image_read = read; shaped = shaped; case_read = given; begun = begun })))))
 
 -- ---- what was done was admitted
 
-pub record Through (image_text case_text : List ℕ) (rest : Image → Case → Type 0) : Type 0 where
-  pub image : Image
-  pub case : Case
-  pub admitted : AreAdmitted image_text case_text image case
-  pub after : rest image case
+pub record Through (image case : File) (Rest : Image → Case → Answer → Type 0) (a : Answer) : Type 0 where
+  pub i : Image
+  pub c : Case
+  pub admitted : AreAdmitted image case i c
+  pub after : Rest i c a
 
-pub Admits-through : (i c it ct : List ℕ) (rest : Image → Case → Type 0) (o : Outcome) → IsDone o.status
-    → Admits i c it ct rest o → Through it ct rest
-Admits-through i c it ct rest o is_done (unread refused) = absurd (refused_is_not_done o _ _ refused.told is_done)
-Admits-through i c it ct rest o is_done (read image spelled (fails refused)) = absurd (refused_is_not_done o _ _ refused.told is_done)
-Admits-through i c it ct rest o is_done (read image spelled (passes shaped (unread refused))) =
-    absurd (refused_is_not_done o _ _ refused.told is_done)
-Admits-through i c it ct rest o is_done (read image spelled (passes shaped (read case given (fails refused)))) =
-    absurd (refused_is_not_done o _ _ refused.told is_done)
-Admits-through i c it ct rest o is_done (read image spelled (passes shaped (read case given (passes begun after)))) = record {
-  image = image;
-  case = case;
-  admitted = record { image_read = spelled; shaped = shaped; case_read = given; begun = begun };
+pub Admits-through : (image case : File) (Rest : Image → Case → Answer → Type 0) (a : Answer) → IsDone (as_outcome a).status
+    → Admits image case Rest a → Through image case Rest a
+Admits-through image case Rest a is_done (fails refused) = absurd (refused_is_not_done a _ _ refused.told is_done)
+Admits-through image case Rest a is_done (passes i read (fails refused)) = absurd (refused_is_not_done a _ _ refused.told is_done)
+Admits-through image case Rest a is_done (passes i read (passes u shaped (fails refused))) =
+    absurd (refused_is_not_done a _ _ refused.told is_done)
+Admits-through image case Rest a is_done (passes i read (passes u shaped (passes c given (fails refused)))) =
+    absurd (refused_is_not_done a _ _ refused.told is_done)
+Admits-through image case Rest a is_done (passes i read (passes u shaped (passes c given (passes v begun after)))) = record {
+  i = i;
+  c = c;
+  admitted = record { image_read = read; shaped = shaped; case_read = given; begun = begun };
   after = after;
 }

@@ -1,58 +1,99 @@
--- Loads and looks at inputs determine the outcome where what comes after them does.
-use Rattle.std.proofs.Common.{◌≡◌, ◌∙◌, ◌<◌, ℕ, List, length, Some, None, inl, inr, sym, ap, subst, arith}
+-- Loads give one list of files or fail in one way, so words and contents have one outcome where the command has one answer.
+use Rattle.std.proofs.Common.{◌≡◌, ◌∙◌, ◌<◌, ℕ, List, [], ◌∷◌, length, Some, None, refl, sym, ap, subst, arith}
 use Rattle.oat_world.specs.Outside.{Contents}
+use Rattle.oat_first.specs.First.{fails, passes, IsOne, IsDecisive}
+use Rattle.oat_first.proofs.FirstLaws.{First-one}
+use Rattle.oat_tool.specs.declared.command.Command.{Command}
 use Rattle.oat_tool.specs.Outcome.{Outcome}
-use Rattle.oat_tool.specs.Words.{Command, verify, device, words_of}
-use Rattle.oat_tool.specs.Loads.{Holds, LoadRefused, absent, long, Loads}
-use Rattle.oat_tool.specs.Inputs.{Reads, unread, read, Tests, fails, passes}
-use Rattle.oat_tool.specs.Laws.{IsOne}
+use Rattle.oat_tool.specs.Answer.{Answer, IsAnswered, as_outcome}
+use Rattle.oat_tool.specs.Loads.{Wanted, File, IsLoaded, LoadFails, absent, faulted, long, AreLoaded, LoadsFail}
+use Rattle.oat_tool.specs.Commands.{files_of}
+use Rattle.oat_tool.specs.Defined.{Does, Ends, done, other}
+use Rattle.oat_tool.specs.DefinedLaws.{OneOutcome}
+use Rattle.oat_tool.proofs.Apart.{one_command}
 
--- A load that is refused isn't refused for another reason.
-LoadRefused-one : (contents : Contents) (name : List ℕ) (limit : ℕ) → IsOne (LoadRefused contents name limit)
-LoadRefused-one contents name limit o p (absent none is) (absent none' is') = is ∙ sym is'
-LoadRefused-one contents name limit o p (absent none is) (long some is') = absurd (rw none at some)
-LoadRefused-one contents name limit o p (long some is) (absent none is') = absurd (rw none at some)
-LoadRefused-one contents name limit o p (long some is) (long some' is') = is ∙ sym is'
+abbrev made : List ℕ → ℕ → List ℕ → File
+made name limit text = record { name = name; limit = limit; text = text }
 
--- What is refused isn't held within the limit.
-LoadRefused-held : (contents : Contents) (name : List ℕ) (limit : ℕ) (o : Outcome) (bytes : List ℕ)
-    → LoadRefused contents name limit o → Holds contents name limit bytes → ⊥
-LoadRefused-held contents name limit o bytes (absent none is) holds = let same : None ≡ Some bytes = sym none ∙ holds.held in cc
-LoadRefused-held contents name limit o bytes (long some is) holds =
-    let over : limit < length bytes = rw holds.held at some in omega (arith, holds.short)
+one_file : (f g : File) → f.name ≡ g.name → f.limit ≡ g.limit → f.text ≡ g.text → f ≡ g
+one_file f g name limit text =
+    ap (λ (n : List ℕ). made n f.limit f.text) name
+    ∙ (ap (λ (l : ℕ). made g.name l f.text) limit ∙ ap (λ (t : List ℕ). made g.name g.limit t) text)
 
-pub Loads-one : (contents : Contents) (name : List ℕ) (limit : ℕ) (rest : List ℕ → Outcome → Type 0)
-    → ((bytes : List ℕ) → IsOne (rest bytes)) → IsOne (λ o. Loads contents name limit (λ bytes. rest bytes o) o)
-Loads-one contents name limit rest one o p (inl refused) (inl refused') = LoadRefused-one contents name limit o p refused refused'
-Loads-one contents name limit rest one o p (inl refused) (inr (bytes, holds, after)) =
-    absurd (LoadRefused-held contents name limit o bytes refused holds)
-Loads-one contents name limit rest one o p (inr (bytes, holds, after)) (inl refused) =
-    absurd (LoadRefused-held contents name limit p bytes refused holds)
-Loads-one contents name limit rest one o p (inr (bytes, holds, after)) (inr (bytes', holds', after')) =
-    let both : Some bytes ≡ Some bytes' = sym holds.held ∙ holds'.held in
-    let same : bytes' ≡ bytes = cc in
-    one bytes o p after (subst (λ (b : List ℕ). rest b p) same after')
+some_one : (x y : List ℕ) → Some x ≡ Some y → x ≡ y
+some_one x y same = cc
 
-pub Reads-one : (X : Type 0) (stands_for : X → Type 0) (Refused : Outcome → Type 0) (rest : X → Outcome → Type 0)
-    → ((x y : X) → stands_for x → stands_for y → y ≡ x) → ((x : X) (o : Outcome) → stands_for x → Refused o → ⊥) → IsOne Refused
-    → ((x : X) → stands_for x → IsOne (rest x)) → IsOne (λ o. Reads X stands_for Refused (λ x. rest x o) o)
-Reads-one X stands_for Refused rest same apart refusal one o p (unread refused) (unread refused') = refusal o p refused refused'
-Reads-one X stands_for Refused rest same apart refusal one o p (unread refused) (read x stands after) = absurd (apart x o stands refused)
-Reads-one X stands_for Refused rest same apart refusal one o p (read x stands after) (unread refused) = absurd (apart x p stands refused)
-Reads-one X stands_for Refused rest same apart refusal one o p (read x stands after) (read y stands' after') =
-    one x stands o p after (subst (λ (z : X). rest z p) (same x y stands stands') after')
+one_held : (contents : Contents) (wanted : Wanted) → IsOne File (IsLoaded contents wanted)
+one_held contents wanted f g one two =
+    one_file f g (one.named ∙ sym two.named) (one.limited ∙ sym two.limited) (some_one f.text g.text (sym one.held ∙ two.held))
 
-pub Tests-one : (holds : Type 0) (Refused : Outcome → Type 0) (rest : Outcome → Type 0)
-    → ((o : Outcome) → holds → Refused o → ⊥) → IsOne Refused
-    → (holds → IsOne rest) → IsOne (λ o. Tests holds Refused (rest o) o)
-Tests-one holds Refused rest apart refusal one o p (fails refused) (fails refused') = refusal o p refused refused'
-Tests-one holds Refused rest apart refusal one o p (fails refused) (passes holding after) = absurd (apart o holding refused)
-Tests-one holds Refused rest apart refusal one o p (passes holding after) (fails refused) = absurd (apart p holding refused)
-Tests-one holds Refused rest apart refusal one o p (passes holding after) (passes holding' after') = one holding o p after after'
+one_failure : (contents : Contents) (wanted : Wanted) → IsOne Outcome (LoadFails contents ⊥ wanted)
+one_failure contents wanted o p (faulted none is) second = absurd none
+one_failure contents wanted o p (absent none is) (faulted none' is') = absurd none'
+one_failure contents wanted o p (long over is) (faulted none' is') = absurd none'
+one_failure contents wanted o p (absent none is) (absent none' is') = is ∙ sym is'
+one_failure contents wanted o p (absent none is) (long over is') = absurd (rw none at over)
+one_failure contents wanted o p (long over is) (absent none is') = absurd (rw none at over)
+one_failure contents wanted o p (long over is) (long over' is') = is ∙ sym is'
 
--- Words give one command at most.
-pub words_of-one : (first second : Command) → words_of first ≡ words_of second → second ≡ first
-words_of-one (verify i c b) (verify i' c' b') same = cc
-words_of-one (verify i c b) (device i' c') same = absurd (omega (arith, ap (λ (words : List (List ℕ)). length words) same))
-words_of-one (device i c) (verify i' c' b') same = absurd (omega (arith, ap (λ (words : List (List ℕ)). length words) same))
-words_of-one (device i c) (device i' c') same = cc
+held_apart : (contents : Contents) (wanted : Wanted) (f : File) (o : Outcome) → IsLoaded contents wanted f → LoadFails contents ⊥ wanted o → ⊥
+held_apart contents wanted f o held (absent none is) = let same : None ≡ Some f.text = sym none ∙ held.held in cc
+held_apart contents wanted f o held (faulted none is) = none
+held_apart contents wanted f o held (long over is) =
+    let above : wanted.limit < length f.text = rw held.held at over in omega (arith, above, held.short)
+
+load_is_decisive : (contents : Contents) (wanted : Wanted) → IsDecisive File Outcome (IsLoaded contents wanted) (LoadFails contents ⊥ wanted)
+load_is_decisive contents wanted = record {
+  one_value = one_held contents wanted;
+  one_failure = one_failure contents wanted;
+  apart = held_apart contents wanted;
+}
+
+all_one : (contents : Contents) (wanted : List Wanted) → IsOne (List File) (AreLoaded contents wanted)
+all_one contents [] [] [] one two = refl
+all_one contents [] [] (g ∷ gs) one two = absurd two
+all_one contents [] (f ∷ fs) gs one two = absurd one
+all_one contents (w ∷ ws) [] gs one two = absurd one
+all_one contents (w ∷ ws) (f ∷ fs) [] one two = absurd two
+all_one contents (w ∷ ws) (f ∷ fs) (g ∷ gs) one two =
+    let head : f ≡ g = one_held contents w f g one.0 two.0 in
+    let rest : fs ≡ gs = all_one contents ws fs gs one.1 two.1 in cc
+
+all_failures : (contents : Contents) (wanted : List Wanted) → IsOne Outcome (LoadsFail contents ⊥ wanted)
+all_failures contents [] o p one two = absurd one
+all_failures contents (w ∷ ws) o p one two =
+    First-one File Outcome (IsLoaded contents w) (LoadFails contents ⊥ w) (λ file. LoadsFail contents ⊥ ws) (load_is_decisive contents w)
+    (λ file held. all_failures contents ws) o p one two
+
+all_apart : (contents : Contents) (wanted : List Wanted) (files : List File) (o : Outcome) → AreLoaded contents wanted files
+    → LoadsFail contents ⊥ wanted o → ⊥
+all_apart contents [] files o held none = none
+all_apart contents (w ∷ ws) [] o held failed = held
+all_apart contents (w ∷ ws) (f ∷ fs) o held (fails failed) = held_apart contents w f o held.0 failed
+all_apart contents (w ∷ ws) (f ∷ fs) o held (passes g given later) = all_apart contents ws fs o held.1 later
+
+loads_are_decisive : (contents : Contents) (wanted : List Wanted)
+    → IsDecisive (List File) Outcome (AreLoaded contents wanted) (LoadsFail contents ⊥ wanted)
+loads_are_decisive contents wanted = record {
+  one_value = all_one contents wanted;
+  one_failure = all_failures contents wanted;
+  apart = all_apart contents wanted;
+}
+
+one_answers : (Q : Answer → Type 0) → IsOne Answer Q → IsOne Outcome (IsAnswered Q)
+one_answers Q one o p first second = first.is ∙ (ap as_outcome (one first.answer second.answer first.given second.given) ∙ sym second.is)
+
+one_end : (words : List (List ℕ)) (contents : Contents) (command : Command) → ((files : List File) → IsOne Answer (Does command files))
+    → IsOne Outcome (Ends words command contents ⊥)
+one_end words contents command one =
+    First-one (List File) Outcome (AreLoaded contents (files_of words command)) (LoadsFail contents ⊥ (files_of words command))
+    (λ files. IsAnswered (Does command files)) (loads_are_decisive contents (files_of words command))
+    (λ files held. one_answers (Does command files) (one files))
+
+pub one_outcome : OneOutcome
+one_outcome words contents one o p (done given line ends) (done given' line' ends') =
+    let second = subst (λ (c : Command). Ends words c contents ⊥ p) (one_command words given given' line line') ends' in
+    one_end words contents given (one given line) o p ends second
+one_outcome words contents one o p (done given line ends) (other none is) = absurd (none given line)
+one_outcome words contents one o p (other none is) (done given line ends) = absurd (none given line)
+one_outcome words contents one o p (other none is) (other none' is') = is ∙ sym is'

@@ -1,8 +1,8 @@
 -- How pieces that were put one after another add up to a front of a text.
-use Rattle.std.proofs.Common.{◌≡◌, ◌≤◌, ◌+◌, ◌-◌, ℕ, List, [], ◌++◌, length, take, drop, Option, None, Some, Err, refl, sym, ◌∙◌, ap, subst, append_assoc, arith}
+use Rattle.std.proofs.Common.{◌≡◌, ◌+◌, ◌-◌, ℕ, List, [], ◌++◌, length, take, drop, Option, None, Some, Err, refl, sym, ◌∙◌, ap, subst, append_assoc}
 use Rattle.std.proofs.Math.Seq.{take-add}
 use Rattle.std.proofs.lemmas.List.{take-append-drop, take_rest, append-nil}
-use Rattle.oat_world.specs.Outside.{Adds, Puts}
+use Rattle.oat_world.specs.Outside.{Adds, Puts, Rose}
 use Rattle.oat_world.specs.declared.sink.SinkFault.{SinkFault}
 use Rattle.oat_world.specs.declared.sink.SinkFault.TheVariants as sink
 use Rattle.oat_tool.specs.Puts.{PutsAll, PutsFront}
@@ -26,12 +26,12 @@ Adds-more text done count old mid new so_far put =
 
 -- A put that fails leaves a front of the text.
 pub Puts-fails : (text : List ℕ) (done : ℕ) (old mid new : Option (List ℕ)) (first before now : ℕ) (fault : SinkFault)
-    → first ≤ before → before ≤ now → Adds old (take done text) mid
-    → Puts (drop done text) mid new before now (Err fault) → PutsAll text old new first now (Err fault)
-Puts-fails text done old mid new first before now sink.Failed low high so_far puts =
-    (omega (arith, puts.0), (take done text, (drop done text, sym (take-append-drop done text)), puts.1 ∙ so_far))
-Puts-fails text done old mid new first before now sink.Memory low high so_far puts =
-    (omega arith, (take done text, (drop done text, sym (take-append-drop done text)), puts.1 ∙ so_far))
+    → before ≡ first → Adds old (take done text) mid
+    → Puts (drop done text) mid new before now (Err fault) → PutsAll text (record { held = old; holds = new; before = first; after = now }) (Err fault)
+Puts-fails text done old mid new first before now sink.Failed same so_far puts =
+    (subst (λ (n : ℕ). Rose n now) same puts.0, (take done text, (drop done text, sym (take-append-drop done text)), puts.1 ∙ so_far))
+Puts-fails text done old mid new first before now sink.Memory same so_far puts =
+    (puts.0 ∙ same, (take done text, (drop done text, sym (take-append-drop done text)), puts.1 ∙ so_far))
 
 pub PutsFront-whole : (text : List ℕ) (old new : Option (List ℕ)) → Adds old text new → PutsFront text old new
 PutsFront-whole text old new added = (text, ([], sym (append-nil text)), added)
@@ -40,3 +40,24 @@ pub Adds-none : (text : List ℕ) (old new : Option (List ℕ)) → text ≡ [] 
 Adds-none text old new none added =
     let nothing : Adds old [] new = subst (λ (x : List ℕ). Adds old x new) none added in
     nothing ∙ sym (Adds-nothing old)
+
+-- ---- a text in pieces
+
+behind_front : (whole text front piece left : List ℕ) (old mid new : Option (List ℕ)) → whole ≡ front ++ text → text ≡ piece ++ left
+    → Adds old front mid → PutsFront piece mid new → PutsFront whole old new
+behind_front whole text front piece left old mid new is made so_far (part, (rest, cut), added) =
+    let pieces : piece ++ left ≡ part ++ (rest ++ left) = ap (λ x. x ++ left) cut ∙ append_assoc part rest left in (
+      front ++ part,
+      (rest ++ left, is ∙ (ap (λ x. front ++ x) (made ∙ pieces) ∙ sym (append_assoc front part (rest ++ left)))),
+      Adds-then front part old mid new so_far added,
+    )
+
+-- where a piece fails, a front of the whole text was put
+pub PutsAll-behind : (whole text front piece left : List ℕ) (old mid new : Option (List ℕ)) (first before now : ℕ) (fault : SinkFault)
+    → whole ≡ front ++ text → text ≡ piece ++ left → Adds old front mid → before ≡ first
+    → PutsAll piece (record { held = mid; holds = new; before = before; after = now }) (Err fault)
+    → PutsAll whole (record { held = old; holds = new; before = first; after = now }) (Err fault)
+PutsAll-behind whole text front piece left old mid new first before now sink.Failed is made so_far same puts =
+    (subst (λ (n : ℕ). Rose n now) same puts.0, behind_front whole text front piece left old mid new is made so_far puts.1)
+PutsAll-behind whole text front piece left old mid new first before now sink.Memory is made so_far same puts =
+    (puts.0 ∙ same, behind_front whole text front piece left old mid new is made so_far puts.1)

@@ -18,7 +18,7 @@ use Rattle.oat_journal.specs.Run.{Running, Entry, started, entry, turn, from_ent
 use Rattle.oat_journal.specs.Window.{made_call}
 use Rattle.oat_journal.specs.Measured.{dev, run_until, start_cells, body_of, opening_of}
 use Rattle.oat_device.specs.Standing.{reported}
-use Rattle.oat_tool.specs.Devises.{run_of}
+use Rattle.oat_tool.specs.Device.{run_of}
 
 -- ---- what a state holds
 

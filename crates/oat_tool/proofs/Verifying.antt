@@ -1,82 +1,180 @@
--- What holds of each answer of `verify`, and that there is one.
-use Rattle.std.proofs.Common.{◌≡◌, ◌∙◌, ℕ, List, Result, sym, ap, arith}
-use Rattle.oat_map.specs.declared.map.Map.{Map}
+-- The room of `verify`: where its work stops and goes on, that it has one answer, and what its statuses say.
+use Rattle.std.proofs.Common.{◌≡◌, ◌∙◌, ℕ, List, [], ◌∷◌, inl, inr, sym, ap, subst, arith}
+use Rattle.oat_world.specs.Outside.{Contents}
+use Rattle.oat_map.specs.declared.edge.Edge.{Edge}
 use Rattle.oat_image.specs.declared.image.Image.{Image}
 use Rattle.oat_case.specs.declared.case.Case.{Case}
+use Rattle.oat_verify.specs.declared.verdict.Cause.{Cause}
 use Rattle.oat_verify.specs.declared.verdict.Verdict.{Verdict}
 use Rattle.oat_verify.specs.declared.verdict.Verdict.TheVariants.{Accept, Refuse}
 use Rattle.oat_verify.specs.Verdict.{Subject, subject_of}
-use Rattle.oat_verify.proofs.OneVerdict.{one_verdict}
-use Rattle.oat_tool.specs.declared.page.Page.{Page}
+use Rattle.oat_verify.proofs.OneVerdict.{one_verdict, acceptance_at_once}
+use Rattle.oat_attest.proofs.Headlines.{headline}
+use Rattle.oat_first.specs.First.{First, fails, passes, IsOne}
+use Rattle.oat_first.proofs.FirstLaws.{First-one}
 use Rattle.oat_tool.specs.declared.page.Stop.{Stop}
+use Rattle.oat_tool.specs.declared.command.Command.TheVariants.{Verify}
 use Rattle.oat_tool.specs.Outcome.{Outcome}
+use Rattle.oat_tool.specs.Answer.{Answer, as_outcome}
+use Rattle.oat_tool.specs.Loads.{File, AreLoaded}
+use Rattle.oat_tool.specs.Commands.{IsLine, files_of}
 use Rattle.oat_tool.specs.BlobText.{IsBlobText}
-use Rattle.oat_tool.specs.Inputs.{Reads, unread, read}
 use Rattle.oat_tool.specs.Refusals.{RefusesBlob}
 use Rattle.oat_tool.specs.Admits.{Rejects, AreAdmitted}
 use Rattle.oat_tool.specs.Report.{report_of}
-use Rattle.oat_tool.specs.Verifies.{Verifies, Concludes}
-use Rattle.oat_tool.specs.Pages.{Stops, Works}
-use Rattle.oat_tool.specs.Laws.{IsOne}
-use Rattle.oat_tool.proofs.Loading.{Stops-weaker, Works-weaker}
-use Rattle.oat_tool.proofs.One.{Reads-one}
-use Rattle.oat_tool.proofs.Settling.{Settles, Settles-equal, Settles-refused}
-use Rattle.oat_tool.proofs.Refusing.{one_list, blob_apart, one_blob_refusal}
-use Rattle.oat_tool.proofs.Admitting.{Admits-rejected, Admits-admitted, Admits-settles, Admits-one}
+use Rattle.oat_tool.specs.Defined.{Defined}
+use Rattle.oat_tool.specs.DefinedLaws.{IsOfWork}
+use Rattle.oat_tool.specs.Verify.{Concludes, Verifies}
+use Rattle.oat_tool.specs.VerifyLaws.{IsJudged, IsReported, AcceptanceIsReported, RefusalIsReported, VerdictIsSealed, OneVerification}
+use Rattle.oat_tool.specs.Works.{StopsWith}
+use Rattle.oat_tool.specs.Shows.{Put}
+use Rattle.oat_tool.specs.Call.{Read, IsCall}
+use Rattle.oat_tool.specs.CallLaws.{ShowsJust}
+use Rattle.oat_tool.specs.Headline.{HeadlineHolds, ShowsAcceptance, IsHeadlined}
+use Rattle.oat_tool.proofs.Working.{StopsWith-more, IsDone, refused_is_not_done}
+use Rattle.oat_tool.proofs.Refusing.{blob_is_decisive}
+use Rattle.oat_tool.proofs.Admitting.{Admits-rejected, Admits-admitted, Admits-one, Admits-through}
+use Rattle.oat_tool.proofs.Setting.{work_is_done}
+use Rattle.oat_tool.proofs.Answering.{work_is_of_command}
+use Rattle.oat_tool.proofs.Following.{whole_is_put}
 
 -- what comes after an image and a case are admitted
-abbrev pub Concluding : (blob_name blob_text : List ℕ) → Image → Case → Outcome → Type 0
-Concluding b bt image case o =
-    Reads (List ℕ) (IsBlobText bt) (RefusesBlob b bt) (λ bytes. Concludes (subject_of image case.session) bytes o) o
+abbrev Judging : File → Image → Case → Answer → Type 0
+Judging blob i c = First (List ℕ) Answer (IsBlobText blob.text) (RefusesBlob blob) (λ bytes. Concludes (subject_of i c.session) bytes)
 
--- ---- where the judging of three texts stops, and where it goes on to the verdict
+-- ---- where the work stops, and where it goes on to the verdict
 
-pub stops_admitting : (i c b it ct bt : List ℕ) (stop : Stop) → Stops (Rejects i c it ct) stop → Stops (Verifies i c b it ct bt) stop
-stops_admitting i c b it ct bt stop stops =
-    Stops-weaker (Rejects i c it ct) (Verifies i c b it ct bt) stop
-    (λ o rejected. Admits-rejected i c it ct (λ image case. Concluding b bt image case o) o rejected) stops
+pub stops_admitting : (image case blob : File) (stop : Stop) → StopsWith (Rejects image case) stop → StopsWith (Verifies (image ∷ case ∷ blob ∷ [])) stop
+stops_admitting image case blob stop stops =
+    StopsWith-more (Rejects image case) (Verifies (image ∷ case ∷ blob ∷ [])) stop (λ a rejected. Admits-rejected image case (Judging blob) a rejected) stops
 
-pub stops_blob : (i c b it ct bt : List ℕ) (image : Image) (case : Case) (stop : Stop) → AreAdmitted it ct image case
-    → Stops (RefusesBlob b bt) stop → Stops (Verifies i c b it ct bt) stop
-stops_blob i c b it ct bt image case stop admitted stops =
-    Stops-weaker (RefusesBlob b bt) (Verifies i c b it ct bt) stop
-    (λ o refused. Admits-admitted i c it ct (λ image case. Concluding b bt image case o) o image case admitted (unread refused)) stops
+pub stops_blob : (image case blob : File) (i : Image) (c : Case) (stop : Stop) → AreAdmitted image case i c
+    → StopsWith (RefusesBlob blob) stop → StopsWith (Verifies (image ∷ case ∷ blob ∷ [])) stop
+stops_blob image case blob i c stop admitted stops =
+    StopsWith-more (RefusesBlob blob) (Verifies (image ∷ case ∷ blob ∷ [])) stop
+    (λ a refused. Admits-admitted image case (Judging blob) a i c admitted (fails refused)) stops
 
-pub verifies_concluded : (i c b it ct bt : List ℕ) (image : Image) (case : Case) (bytes : List ℕ) (o : Outcome)
-    → AreAdmitted it ct image case → IsBlobText bt bytes → Concludes (subject_of image case.session) bytes o
-    → Verifies i c b it ct bt o
-verifies_concluded i c b it ct bt image case bytes o admitted spelled concludes =
-    Admits-admitted i c it ct (λ image case. Concluding b bt image case o) o image case admitted (read bytes spelled concludes)
-
--- ---- statuses
-
-report_settles : (flow : Map) (verdict : Verdict) → Settles (report_of flow verdict)
-report_settles flow (Accept path) = λ above below. absurd (omega arith)
-report_settles flow (Refuse cause) = λ above below. absurd (omega arith)
-
-concluding_settles : (b bt : List ℕ) (image : Image) (case : Case) (o : Outcome) → Concluding b bt image case o → Settles o
-concluding_settles b bt image case o (unread refused) = Settles-refused o _ _ refused.told
-concluding_settles b bt image case o (read bytes spelled concludes) =
-    Settles-equal o (report_of image.map concludes.verdict) concludes.reported (report_settles image.map concludes.verdict)
-
-pub Verifies-settles : (i c b it ct bt : List ℕ) (o : Outcome) → Verifies i c b it ct bt o → Settles o
-Verifies-settles i c b it ct bt o verifies =
-    Admits-settles i c it ct (λ image case. Concluding b bt image case o) o (λ image case after. concluding_settles b bt image case o after) verifies
-
-pub Works-unfaulted : (P : Outcome → Type 0) (rose : Type 0) (answer : Result Page Stop) → ((o : Outcome) → P o → Settles o)
-    → Works P answer → Works (λ o. o.status ≡ 4 → rose) answer
-Works-unfaulted P rose answer settles works =
-    Works-weaker P (λ o. o.status ≡ 4 → rose) answer
-    (λ o does four. absurd (omega (arith, four, (settles o does (omega (arith, four)) (omega (arith, four))).0))) works
+pub verifies_concluded : (image case blob : File) (i : Image) (c : Case) (bytes : List ℕ) (a : Answer) → AreAdmitted image case i c
+    → IsBlobText blob.text bytes → Concludes (subject_of i c.session) bytes a → Verifies (image ∷ case ∷ blob ∷ []) a
+verifies_concluded image case blob i c bytes a admitted spelled concludes =
+    Admits-admitted image case (Judging blob) a i c admitted (passes bytes spelled concludes)
 
 -- ---- one answer
 
-one_report : (s : Subject) (bytes : List ℕ) → IsOne (Concludes s bytes)
-one_report s bytes o p one two =
+one_report : (s : Subject) (bytes : List ℕ) → IsOne Answer (Concludes s bytes)
+one_report s bytes a b one two =
     one.reported ∙ (ap (report_of s.map) (one_verdict s bytes one.verdict two.verdict one.right two.right) ∙ sym two.reported)
 
-pub Verifies-one : (i c b it ct bt : List ℕ) → IsOne (Verifies i c b it ct bt)
-Verifies-one i c b it ct bt =
-    Admits-one i c it ct (Concluding b bt) (λ image case admitted.
-    Reads-one (List ℕ) (IsBlobText bt) (RefusesBlob b bt) _ (one_list bt) (blob_apart b bt) (one_blob_refusal b bt)
-    (λ bytes spelled. one_report (subject_of image case.session) bytes))
+pub one_verification : OneVerification
+one_verification [] a b one two = absurd one
+one_verification (image ∷ []) a b one two = absurd one
+one_verification (image ∷ case ∷ []) a b one two = absurd one
+one_verification (image ∷ case ∷ blob ∷ []) a b one two =
+    Admits-one image case (Judging blob) (λ i c admitted.
+    First-one (List ℕ) Answer (IsBlobText blob.text) (RefusesBlob blob) (λ bytes. Concludes (subject_of i c.session) bytes) (blob_is_decisive blob)
+    (λ bytes spelled. one_report (subject_of i c.session) bytes)) a b one two
+one_verification (image ∷ case ∷ blob ∷ other ∷ files) a b one two = absurd one
+
+-- ---- what the statuses say
+
+-- A verdict was reached, whose report the answer is.
+record Reached (words : List (List ℕ)) (contents : Contents) (o : Outcome) : Type 0 where
+  verdict : Verdict
+  reported : IsReported words contents verdict o
+
+judging_reached : (words : List (List ℕ)) (contents : Contents) (image case blob : File) (a : Answer)
+    → AreLoaded contents (files_of words Verify) (image ∷ case ∷ blob ∷ []) → (i : Image) (c : Case) → AreAdmitted image case i c
+    → Judging blob i c a → IsDone (as_outcome a).status → Reached words contents (as_outcome a)
+judging_reached words contents image case blob a held i c admitted (fails refused) is_done =
+    absurd (refused_is_not_done a _ _ refused.told is_done)
+judging_reached words contents image case blob a held i c admitted (passes bytes spelled concludes) is_done = record {
+  verdict = concludes.verdict;
+  reported = record {
+    image = i;
+    judged = record {
+      image = image;
+      case = case;
+      blob = blob;
+      held = held;
+      c = c;
+      admitted = admitted;
+      bytes = bytes;
+      blob_read = spelled;
+      right = concludes.right;
+    };
+    is = ap as_outcome concludes.reported;
+  };
+}
+
+reached : (words : List (List ℕ)) (contents : Contents) (files : List File) (a : Answer) → AreLoaded contents (files_of words Verify) files
+    → Verifies files a → IsDone (as_outcome a).status → Reached words contents (as_outcome a)
+reached words contents [] a held none is_done = absurd none
+reached words contents (image ∷ []) a held none is_done = absurd none
+reached words contents (image ∷ case ∷ []) a held none is_done = absurd none
+reached words contents (image ∷ case ∷ blob ∷ []) a held verifies is_done =
+    let through = Admits-through image case (Judging blob) a is_done verifies in
+    judging_reached words contents image case blob a held through.i through.c through.admitted through.after is_done
+reached words contents (image ∷ case ∷ blob ∷ other ∷ files) a held none is_done = absurd none
+
+outcome_reached : (words : List (List ℕ)) (contents : Contents) (o : Outcome) → IsLine words Verify → Defined words contents o → IsOfWork o.status
+    → Reached words contents o
+outcome_reached words contents o asked defined work =
+    let answered = work_is_of_command words contents Verify o asked defined work in
+    subst (λ (p : Outcome). Reached words contents p) (sym answered.is)
+    (reached words contents answered.files answered.answer answered.held answered.given
+    (λ two. work_is_done o.status work (ap (λ (p : Outcome). p.status) answered.is ∙ two)))
+
+accepts : (words : List (List ℕ)) (contents : Contents) (verdict : Verdict) (o : Outcome) → IsReported words contents verdict o → o.status ≡ 0
+    → (path : List Edge) × IsReported words contents (Accept path) o
+accepts words contents (Accept path) o reported zeroth = (path, reported)
+accepts words contents (Refuse cause) o reported zeroth = absurd (omega (arith, zeroth, ap (λ (p : Outcome). p.status) reported.is))
+
+refuses : (words : List (List ℕ)) (contents : Contents) (verdict : Verdict) (o : Outcome) → IsReported words contents verdict o → o.status ≡ 1
+    → (cause : Cause) × IsReported words contents (Refuse cause) o
+refuses words contents (Accept path) o reported first = absurd (omega (arith, first, ap (λ (p : Outcome). p.status) reported.is))
+refuses words contents (Refuse cause) o reported first = (cause, reported)
+
+never_unsealed : (words : List (List ℕ)) (contents : Contents) (verdict : Verdict) (o : Outcome) → IsReported words contents verdict o → o.status ≡ 7 → ⊥
+never_unsealed words contents (Accept path) o reported seven = omega (arith, seven, ap (λ (p : Outcome). p.status) reported.is)
+never_unsealed words contents (Refuse cause) o reported seven = omega (arith, seven, ap (λ (p : Outcome). p.status) reported.is)
+
+pub acceptance_is_reported : AcceptanceIsReported
+acceptance_is_reported words contents o asked defined zeroth =
+    let all = outcome_reached words contents o asked defined (inl zeroth) in accepts words contents all.verdict o all.reported zeroth
+
+pub refusal_is_reported : RefusalIsReported
+refusal_is_reported words contents o asked defined first =
+    let all = outcome_reached words contents o asked defined (inr (inl first)) in refuses words contents all.verdict o all.reported first
+
+pub verdict_is_sealed : VerdictIsSealed
+verdict_is_sealed words contents o asked defined seven =
+    let all = outcome_reached words contents o asked defined (inr (inr seven)) in never_unsealed words contents all.verdict o all.reported seven
+
+-- ---- the headline
+
+judged_holds : (words : List (List ℕ)) (contents : Contents) (image : Image) (path : List Edge)
+    → (judged : IsJudged words contents image (Accept path)) → HeadlineHolds image judged.c.session judged.bytes path
+judged_holds words contents image path judged = λ begin_at begins.
+    headline image judged.c.session begin_at
+    (record { well_formed = judged.admitted.image_read.well_formed; shaped = judged.admitted.shaped; begins = begins })
+    judged.bytes path ((acceptance_at_once (subject_of image judged.c.session) judged.bytes path).0 judged.right)
+
+acceptance : (words : List (List ℕ)) (contents : Contents) (o : Outcome) (out err : Put) (status : ℕ) → ShowsJust o out err status
+    → (path : List Edge) × IsReported words contents (Accept path) o → ShowsAcceptance words contents out err status
+acceptance words contents o out err status just (path, reported) = record {
+  path = path;
+  shows = record {
+    image = reported.image;
+    judged = reported.judged;
+    shown = subst (λ (p : Outcome). ShowsJust p out err status) reported.is just;
+  };
+  headline = judged_holds words contents reported.image path reported.judged;
+}
+
+-- Each call carries the headline.
+pub calls_are_headlined : (words : List (List ℕ)) (files : Read) (out err : Put) (status : ℕ) → IsCall words files out err status
+    → IsHeadlined words files out err status
+calls_are_headlined words files out err status ran contents told asked zeroth =
+    let all = whole_is_put words contents files out err status told ran (inl zeroth) in
+    acceptance words contents all.outcome out err status all.shown
+    (acceptance_is_reported words contents all.outcome asked all.is_defined (sym all.shown.same_status ∙ zeroth))

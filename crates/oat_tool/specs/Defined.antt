@@ -1,46 +1,33 @@
--- Which outcome is defined for a list of words, from what each file holds alone (docs/DEFINITIONS.md).
-use Rattle.std.specs.Prelude.{◌≡◌, ◌≢◌, ℕ, List, Contains}
+-- Which outcome is defined for a list of words, from what each file holds alone, and which one a call sets out for (docs/DEFINITIONS.md).
+use Rattle.std.specs.Prelude.{◌≡◌, ℕ, List}
 use Rattle.oat_world.specs.Outside.{Contents}
+use Rattle.oat_first.specs.First.{First}
+use Rattle.oat_tool.specs.declared.command.Command.{Command}
+use Rattle.oat_tool.specs.declared.command.Command.TheVariants.{Verify, Device}
 use Rattle.oat_tool.specs.Outcome.{Outcome}
-use Rattle.oat_tool.specs.Words.{Command, verify, device, words_of, files_of}
-use Rattle.oat_tool.specs.Texts.{usage, read_fault}
-use Rattle.oat_tool.specs.Loads.{Loads}
-use Rattle.oat_tool.specs.Verifies.{Verifies}
-use Rattle.oat_tool.specs.Devises.{Devises}
+use Rattle.oat_tool.specs.Texts.{usage}
+use Rattle.oat_tool.specs.Answer.{Answer, IsAnswered}
+use Rattle.oat_tool.specs.Loads.{File, AreLoaded, LoadsFail}
+use Rattle.oat_tool.specs.Commands.{IsLine, files_of}
+use Rattle.oat_tool.specs.Verify.{Verifies}
+use Rattle.oat_tool.specs.Device.{Runs}
 
-abbrev pub image_limit : ℕ
-image_limit = 16777216
+-- what a command answers to its files
+abbrev pub Does : Command → List File → Answer → Type 0
+Does Verify = Verifies
+Does Device = Runs
 
-abbrev pub case_limit : ℕ
-case_limit = 4194304
+-- The first load that fails decides, and else the command's answer; a load may fail where the count of faults rose.
+abbrev pub Ends : List (List ℕ) → Command → Contents → (rose : Type 0) → Outcome → Type 0
+Ends words command contents rose =
+    First (List File) Outcome (AreLoaded contents (files_of words command)) (LoadsFail contents rose (files_of words command))
+    (λ files. IsAnswered (Does command files))
 
-abbrev pub blob_limit : ℕ
-blob_limit = 41943040
+-- What a call sets out for: the end of the command that the words are of, or usage.
+pub data SetsOut (words : List (List ℕ)) (contents : Contents) (rose : Type 0) (o : Outcome) : Type 0 where
+  done : (command : Command) → IsLine words command → Ends words command contents rose o → SetsOut words contents rose o
+  other : ((command : Command) → ¬ IsLine words command) → o ≡ usage → SetsOut words contents rose o
 
--- What a command does where no load fails.
-abbrev pub Does : Command → Contents → Outcome → Type 0
-Does (verify image_name case_name blob_name) contents o =
-    Loads contents image_name image_limit (λ image.
-    Loads contents case_name case_limit (λ case.
-    Loads contents blob_name blob_limit (λ blob. Verifies image_name case_name blob_name image case blob o) o) o) o
-Does (device image_name case_name) contents o =
-    Loads contents image_name image_limit (λ image.
-    Loads contents case_name case_limit (λ case. Devises image_name case_name image case o) o) o
-
--- The defined outcome: that of the command, or usage where the words are of no command.
-pub data Defined (words : List (List ℕ)) (contents : Contents) (o : Outcome) : Type 0 where
-  done : (command : Command) → words ≡ words_of command → Does command contents o → Defined words contents o
-  other : ((command : Command) → words ≢ words_of command) → o ≡ usage → Defined words contents o
-
--- A read fault of one of these files.
-pub record FaultOf (names : List (List ℕ)) (o : Outcome) : Type 0 where
-  pub name : List ℕ
-  pub loaded : Contains names name
-  pub told : o ≡ read_fault name
-
--- The outcome that a call sets out for: the defined one, or a read fault of one of the command's files
--- where the files' count of faults rose.
-pub data Ending (words : List (List ℕ)) (contents : Contents) (files_rose : Type 0) (o : Outcome) : Type 0 where
-  defined : Defined words contents o → Ending words contents files_rose o
-  fault_told : files_rose → (command : Command) → words ≡ words_of command → FaultOf (files_of command) o
-      → Ending words contents files_rose o
+-- The defined outcome: no count rises.
+abbrev pub Defined : List (List ℕ) → Contents → Outcome → Type 0
+Defined words contents = SetsOut words contents ⊥

@@ -1,20 +1,49 @@
 -- Loads in the order of the words: each file is held within its limit, or the first that isn't decides (docs/FORMATS.md).
-use Rattle.std.specs.Prelude.{◌≡◌, ◌<◌, ◌≤◌, ◌⊎◌, ℕ, List, length, Some, None, IsSomeAnd}
+use Rattle.std.specs.Prelude.{◌≡◌, ◌<◌, ◌≤◌, ℕ, List, [], ◌∷◌, length, Some, None, IsSomeAnd}
 use Rattle.oat_world.specs.Outside.{Contents}
+use Rattle.oat_first.specs.First.{First}
 use Rattle.oat_tool.specs.Outcome.{Outcome}
 use Rattle.oat_tool.specs.Texts.{read_fault, too_long}
 
--- A name holds these bytes, no more than its limit.
-pub record Holds (contents : Contents) (name : List ℕ) (limit : ℕ) (bytes : List ℕ) : Type 0 where
-  pub held : contents name ≡ Some bytes
-  pub short : length bytes ≤ limit
+-- a file that a command asks for
+pub record Wanted : Type 0 where
+  pub name : List ℕ
+  pub limit : ℕ
 
--- A load is refused: the name isn't held, or holds too much.
-pub data LoadRefused (contents : Contents) (name : List ℕ) (limit : ℕ) (o : Outcome) : Type 0 where
-  absent : contents name ≡ None → o ≡ read_fault name → LoadRefused contents name limit o
-  long : IsSomeAnd (contents name) (λ bytes. limit < length bytes) → o ≡ too_long name limit → LoadRefused contents name limit o
+-- a file of a command: the word that names it, the most bytes that it may have, and its text
+pub record File : Type 0 where
+  pub name : List ℕ
+  pub limit : ℕ
+  pub text : List ℕ
 
--- A load, and what comes after it: the order of refusals is the nesting.
-abbrev pub Loads : Contents → List ℕ → ℕ → (List ℕ → Type 0) → Outcome → Type 0
-Loads contents name limit next o =
-    LoadRefused contents name limit o ⊎ ((bytes : List ℕ) × Holds contents name limit bytes × next bytes)
+-- the names with their limits, in order
+abbrev pub wanted_of : List (List ℕ) → List ℕ → List Wanted
+wanted_of [] limits = []
+wanted_of (name ∷ names) [] = []
+wanted_of (name ∷ names) (limit ∷ limits) = record { name = name; limit = limit } ∷ wanted_of names limits
+
+-- The file is held, with no more than its limit.
+pub record IsLoaded (contents : Contents) (wanted : Wanted) (file : File) : Type 0 where
+  pub named : file.name ≡ wanted.name
+  pub limited : file.limit ≡ wanted.limit
+  pub held : contents wanted.name ≡ Some file.text
+  pub short : length file.text ≤ wanted.limit
+
+-- The file isn't loaded: it isn't held, a read failed and the count rose, or it is too long.
+pub data LoadFails (contents : Contents) (rose : Type 0) (wanted : Wanted) (o : Outcome) : Type 0 where
+  absent : contents wanted.name ≡ None → o ≡ read_fault wanted.name → LoadFails contents rose wanted o
+  faulted : rose → o ≡ read_fault wanted.name → LoadFails contents rose wanted o
+  long : IsSomeAnd (contents wanted.name) (λ bytes. wanted.limit < length bytes) → o ≡ too_long wanted.name wanted.limit
+      → LoadFails contents rose wanted o
+
+abbrev pub AreLoaded : Contents → List Wanted → List File → Type 0
+AreLoaded contents [] [] = Unit {0}
+AreLoaded contents [] (file ∷ files) = ⊥
+AreLoaded contents (wanted ∷ more) [] = ⊥
+AreLoaded contents (wanted ∷ more) (file ∷ files) = IsLoaded contents wanted file × AreLoaded contents more files
+
+-- The first of these files that isn't loaded decides.
+abbrev pub LoadsFail : Contents → (rose : Type 0) → List Wanted → Outcome → Type 0
+LoadsFail contents rose [] o = ⊥
+LoadsFail contents rose (wanted ∷ more) o =
+    First File Outcome (IsLoaded contents wanted) (LoadFails contents rose wanted) (λ file. LoadsFail contents rose more) o

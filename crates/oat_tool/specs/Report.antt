@@ -1,23 +1,45 @@
 -- What a verdict puts: its line, and after an acceptance the lines of the path (docs/FORMATS.md).
-use Rattle.std.specs.Prelude.{ℕ, List, [], ◌++◌}
-use Rattle.std.specs.List.{flat_map, AllByRecursion}
+use Rattle.std.specs.Prelude.{ℕ, Bool, List, [], ◌++◌, ◌+◌, ◌-◌, length, drop, if◌then◌else◌}
+use Rattle.std.specs.List.{flat_map}
 use Rattle.oat_map.specs.declared.map.Map.{Map}
 use Rattle.oat_map.specs.declared.edge.Edge.{Edge}
-use Rattle.oat_report.specs.PathLine.{line_of, IsOfRow}
+use Rattle.oat_report.specs.PathLine.{edge_line}
 use Rattle.oat_report.specs.VerdictLine.{verdict_text}
 use Rattle.oat_verify.specs.declared.verdict.Verdict.{Verdict}
 use Rattle.oat_verify.specs.declared.verdict.Verdict.TheVariants.{Accept, Refuse}
-use Rattle.oat_tool.specs.Outcome.{Outcome, line}
+use Rattle.oat_image.specs.declared.image.Image.{Image}
+use Rattle.oat_tool.specs.declared.page.Ended.{Ended}
+use Rattle.oat_tool.specs.declared.page.Ended.TheVariants.{Done, Rejected}
+use Rattle.oat_tool.specs.Outcome.{line}
+use Rattle.oat_tool.specs.Answer.{Answer, shows}
 
 -- the lines of a path
 abbrev pub path_text : Map → List Edge → List ℕ
-path_text flow path = flat_map (λ edge. line (line_of flow edge)) path
+path_text flow path = flat_map (λ edge. line (edge_line flow edge)) path
 
-abbrev pub report_of : Map → Verdict → Outcome
-report_of flow (Accept path) = record { status = 0; out = line (verdict_text (Accept path)) ++ path_text flow path; err = [] }
-report_of flow (Refuse cause) = record { status = 1; out = line (verdict_text (Refuse cause)); err = [] }
+-- the path of an acceptance
+abbrev pub path_in : Verdict → List Edge
+path_in (Accept path) = path
+path_in (Refuse cause) = []
 
--- A verdict on a path of rows' edges, the only ones of a walk.
-abbrev pub IsReportable : Verdict → Type 0
-IsReportable (Accept path) = AllByRecursion IsOfRow path
-IsReportable (Refuse cause) = Unit {0}
+abbrev pub ended_of : Verdict → Ended
+ended_of (Accept path) = Done
+ended_of (Refuse cause) = Rejected
+
+abbrev pub report_of : Map → Verdict → Answer
+report_of flow verdict = shows (ended_of verdict) (line (verdict_text verdict) ++ path_text flow (path_in verdict)) []
+
+-- a report of which the lines before a place were made
+pub record Left : Type 0 where
+  pub image : Image
+  pub verdict : Verdict
+  pub is_begun : Bool
+  pub at : ℕ
+
+abbrev pub text_left : Left → List ℕ
+text_left left =
+    if left.is_begun then path_text left.image.map (drop left.at (path_in left.verdict))
+    else line (verdict_text left.verdict) ++ path_text left.image.map (drop left.at (path_in left.verdict))
+
+abbrev pub turns_left : Left → ℕ
+turns_left left = (if left.is_begun then 0 else 1) + (length (path_in left.verdict) - left.at)

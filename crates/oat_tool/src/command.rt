@@ -1,39 +1,42 @@
-ghost use Rattle.std.specs.Prelude.{map};
-ghost use Rattle.std.specs.String.{string_bytes};
-ghost use Rattle.oat_tool.specs.Commands.{AsksFor};
+ghost use Rattle.std.specs.Prelude.{◌≡◌, map};
+ghost use Rattle.oat_tool.specs.Commands.{fixed_of, limits_of};
 
-/// What the words of a call ask for.
-#[derive(Clone, Copy, Debug)]
-pub enum Request<'a> {
-    /// Judge a blob against an image and a case.
-    Verify {
-        image: &'a str,
-        case: &'a str,
-        blob: &'a str,
-    },
-    /// Run a case on an image, measured.
-    Device {
-        image: &'a str,
-        case: &'a str,
-    },
-    /// The words are of no command.
-    Usage,
+const IMAGE_LIMIT: usize = 16_777_216;
+
+const CASE_LIMIT: usize = 4_194_304;
+
+const BLOB_LIMIT: usize = 41_943_040;
+
+/// A command of the program.
+#[derive(Clone, Copy, Debug, PartialEq, Eq)]
+pub enum Command {
+    /// Judges a blob against an image and a case.
+    Verify,
+    /// Runs a case on an image, measured.
+    Device,
 }
 
-/// Reads the words of a call.
-pub fn read_words(words: &[String]) -> Request<'_>
-    ensures { AsksFor (map string_bytes words.now) result }
-{
-    match words {
-        [verb, image, case, blob] if verb.as_str() == "verify" => Request::Verify {
-            image: image.as_str(),
-            case: case.as_str(),
-            blob: blob.as_str(),
-        },
-        [verb, image, case] if verb.as_str() == "device" => Request::Device {
-            image: image.as_str(),
-            case: case.as_str(),
-        },
-        _ => Request::Usage,
+impl Command {
+    /// The words that it begins with.
+    pub fn fixed(self) -> &'static [&'static str]
+        ensures { map (λ word. word.now) result.now ≡ fixed_of self }
+    {
+        match self {
+            Command::Verify => &["verify"],
+            Command::Device => &["device"],
+        }
+    }
+
+    /// The most bytes of each of its files.
+    pub fn limits(self) -> &'static [usize]
+        ensures { result.now ≡ limits_of self }
+    {
+        match self {
+            Command::Verify => &[IMAGE_LIMIT, CASE_LIMIT, BLOB_LIMIT],
+            Command::Device => &[IMAGE_LIMIT, CASE_LIMIT],
+        }
     }
 }
+
+/// The commands of the program.
+pub const COMMANDS: [Command; 2] = [Command::Verify, Command::Device];

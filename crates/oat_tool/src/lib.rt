@@ -3,21 +3,25 @@
 //! Three things are kept apart. What is *defined* for a list of words follows from what the files hold
 //! alone. Which outcome a call *sets out for* depends on whether a load failed or memory was wanting
 //! besides. And *how it was put* is what two outputs took of it.
+//!
+//! A command is one room: its words and the limits of its files in the table of commands, what it
+//! answers to them, its work and its laws. What all commands share speaks of none of them.
 #![tactic(auto)]
 
 mod admit;
+mod asked;
+mod blob_line;
 mod blob_text;
 mod command;
 mod device;
-mod devise;
+mod files;
 mod inputs;
-mod judge;
 pub mod laws;
-mod load;
 mod page;
+mod pieces;
 mod put;
 mod report;
-mod run_text;
+mod run_lines;
 mod texts;
 mod top_call;
 mod verify;

@@ -1,53 +1,55 @@
 use std::alloc::{AllocError, AllocFailed};
 
-/// The status of a page that is put whole.
+/// How work that was done ended.
 #[derive(Clone, Copy, Debug, PartialEq, Eq)]
-pub enum Status {
-    /// The verdict accepts, or the run sealed.
+pub enum Ended {
+    /// The verdict accepts, or the work is done.
     Done,
-    /// The verdict refuses.
-    Refused,
-    /// An input is refused.
-    Input,
-    /// The words are of no command.
-    Usage,
-    /// A load failed.
-    ReadFault,
+    /// The verdict rejects.
+    Rejected,
     /// The run isn't sealed after its last step.
     Unsealed,
 }
 
-impl Status {
+impl Ended {
     ghost use Rattle.std.specs.Prelude.{◌≡◌};
-    ghost use Rattle.oat_tool.specs.Pages.{number_of};
+    ghost use Rattle.oat_tool.specs.Answer.{status_of};
 
-    pub fn code(self) -> u8
-        ensures { result ≡ number_of self }
+    pub fn status(self) -> u8
+        ensures { result ≡ status_of self }
     {
         match self {
-            Status::Done => 0,
-            Status::Refused => 1,
-            Status::Input => 2,
-            Status::Usage => 3,
-            Status::ReadFault => 4,
-            Status::Unsealed => 7,
+            Ended::Done => 0,
+            Ended::Rejected => 1,
+            Ended::Unsealed => 7,
         }
     }
 }
 
-/// What a call sets out to put on each output, and the status with which it then ends.
+/// What a command sets out to put: a text in pieces on the first output, and one on the second.
 #[derive(Debug, Drop)]
-pub struct Page {
-    pub status: Status,
-    pub out: Vec<u8>,
+pub struct Page<P> {
+    pub ended: Ended,
+    pub pieces: P,
     pub err: Vec<u8>,
 }
 
-/// Why work stops before its end.
+/// Why the work of a command stops before its end.
 #[derive(Debug, Drop)]
 pub enum Stop {
-    /// The answer is known.
-    Ends(Page),
+    /// An input is refused by this line.
+    Refused(Vec<u8>),
+    /// There was no memory.
+    Starved,
+}
+
+/// Why loads stop.
+#[derive(Debug, Drop)]
+pub enum Halt {
+    /// A load failed, as this line says.
+    ReadFault(Vec<u8>),
+    /// A file is refused by this line.
+    Refused(Vec<u8>),
     /// There was no memory.
     Starved,
 }
@@ -69,7 +71,29 @@ impl<T: Drop> From<AllocFailed<T>> for Stop {
 
     ghost from_gives = { λ _ stop. stop ≡ Starved };
 
-    fn from(_error: AllocFailed<T>) -> Stop {
+    fn from(_failed: AllocFailed<T>) -> Stop {
         Stop::Starved
+    }
+}
+
+impl From<AllocError> for Halt {
+    ghost use Rattle.std.specs.Prelude.{◌≡◌};
+    ghost use Rattle.oat_tool.specs.declared.page.Halt.TheVariants.{Starved};
+
+    ghost from_gives = { λ _ halt. halt ≡ Starved };
+
+    fn from(_error: AllocError) -> Halt {
+        Halt::Starved
+    }
+}
+
+impl<T: Drop> From<AllocFailed<T>> for Halt {
+    ghost use Rattle.std.specs.Prelude.{◌≡◌};
+    ghost use Rattle.oat_tool.specs.declared.page.Halt.TheVariants.{Starved};
+
+    ghost from_gives = { λ _ halt. halt ≡ Starved };
+
+    fn from(_failed: AllocFailed<T>) -> Halt {
+        Halt::Starved
     }
 }

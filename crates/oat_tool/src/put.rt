@@ -1,12 +1,19 @@
-ghost use Rattle.std.specs.Prelude.{◌≡◌, ◌≤◌, ◌⊎◌};
+ghost use Rattle.std.specs.Prelude.{◌≡◌, ◌≢◌, ◌<◌, ◌⊎◌};
 ghost use Rattle.oat_world.specs.Outside.{Rose};
-ghost use Rattle.oat_tool.specs.Puts.{PutsAll, Says};
-ghost use Rattle.oat_tool.specs.Ends.{Shows};
+ghost use Rattle.oat_tool.specs.Outcome.{says};
 ghost use Rattle.oat_tool.specs.Texts.{starved};
-ghost use Rattle.oat_tool.specs.Pages.{outcome_of};
+ghost use Rattle.oat_tool.specs.Answer.{shows, as_outcome};
+ghost use Rattle.oat_tool.specs.Puts.{PutsAll, SaysLast};
+ghost use Rattle.oat_tool.specs.Shows.{Shows};
+ghost use Rattle.oat_tool.specs.Call.{put};
+ghost use Rattle.oat_tool.specs.Works.{IsOutcomeOf};
 
-use crate::page::Page;
+use crate::page::{Page, Stop};
+use crate::pieces::Pieces;
 use oat_world::{Sink, SinkFault};
+use std::alloc::Global;
+
+const INPUT: u8 = 2;
 
 const WRITE_FAULT: u8 = 5;
 
@@ -14,9 +21,9 @@ const NO_MEMORY: u8 = 6;
 
 const STARVED: &[u8] = b"want of memory\n";
 
-/// Puts a whole text, piece after piece, until a put fails.
+/// Puts a whole text, one front after another, until a put fails.
 fn put_all<S: Sink>(sink: &mut S, text: &[u8]) -> Result<(), SinkFault>
-    ensures { PutsAll text.now (S.told sink.old) (S.told sink.new) (S.faults sink.old) (S.faults sink.new) result }
+    ensures { PutsAll text.now (put S.told S.faults sink.old sink.new) result }
 {
     let mut done = 0;
     while done < text.len() {
@@ -25,11 +32,30 @@ fn put_all<S: Sink>(sink: &mut S, text: &[u8]) -> Result<(), SinkFault>
     Ok(())
 }
 
+/// Puts a text piece by piece, until a put fails or memory is wanting for a piece.
+fn put_pieces<S: Sink, P: Pieces + Drop>(
+    alloc: Global,
+    sink: &mut S,
+    pieces: P,
+) -> Result<(), SinkFault>
+    ensures { PutsAll (P.text pieces) (put S.told S.faults sink.old sink.new) result }
+{
+    let mut rest = pieces;
+    loop {
+        match rest.next(alloc) {
+            Ok(Some(piece)) => put_all(sink, piece.as_slice())?,
+            Ok(None) => return Ok(()),
+            Err(_) => return Err(SinkFault::Memory),
+        }
+    }
+}
+
 /// Puts the last text of a call, and answers the call's status.
-fn say<E: Sink>(err: &mut E, text: &[u8], status: u8) -> u8
-    ensures says { Says text.now (E.told err.old) (E.told err.new)
-        (Rose (E.faults err.old) (E.faults err.new)) status result }
+pub fn say<E: Sink>(err: &mut E, text: &[u8], status: u8) -> u8
+    ensures says { SaysLast text.now (put E.told E.faults err.old err.new) status result }
     ensures write_fault { result ≡ 5 → (status ≡ 5) ⊎ Rose (E.faults err.old) (E.faults err.new) }
+    ensures raised { E.faults err.old < E.faults err.new → result ≡ 5 }
+    ensures read_fault { result ≡ 4 → status ≡ 4 }
 {
     match put_all(err, text) {
         Ok(()) => status,
@@ -38,26 +64,52 @@ fn say<E: Sink>(err: &mut E, text: &[u8], status: u8) -> u8
     }
 }
 
-/// Puts both texts of a page, and answers the call's status.
-pub fn put_page<O: Sink, E: Sink>(page: &Page, out: &mut O, err: &mut E) -> u8
-    ensures shows { Shows (λ o. o ≡ outcome_of page.now)
-        (O.told out.old) (O.told out.new) (E.told err.old) (E.told err.new)
-        (Rose (O.faults out.old) (O.faults out.new)) (Rose (E.faults err.old) (E.faults err.new)) result }
-    ensures write_fault { result ≡ 5 → Rose (O.faults out.old) (O.faults out.new) ⊎ Rose (E.faults err.old) (E.faults err.new) }
-    ensures read_fault { result ≡ 4 → (outcome_of page.now).status ≡ 4 }
+/// SaysLast that memory is wanting.
+pub fn say_starved<E: Sink>(err: &mut E) -> u8
+    ensures says { SaysLast starved.err (put E.told E.faults err.old err.new) starved.status result }
+    ensures write_fault { result ≡ 5 → Rose (E.faults err.old) (E.faults err.new) }
+    ensures raised { E.faults err.old < E.faults err.new → result ≡ 5 }
+    ensures no_fault { result ≢ 4 }
 {
-    match put_all(out, page.out.as_slice()) {
-        Ok(()) => say(err, page.err.as_slice(), page.status.code()),
+    say(err, STARVED, NO_MEMORY)
+}
+
+/// Puts both texts of a page, and answers the call's status.
+fn put_page<P: Pieces + Drop, O: Sink, E: Sink>(
+    alloc: Global,
+    page: Page<P>,
+    out: &mut O,
+    err: &mut E,
+) -> u8
+    ensures shows { Shows (λ o. o ≡ as_outcome (shows page.ended (P.text page.pieces) page.err.items))
+        (put O.told O.faults out.old out.new) (put E.told E.faults err.old err.new) result }
+    ensures write_fault { result ≡ 5 → Rose (O.faults out.old) (O.faults out.new) ⊎ Rose (E.faults err.old) (E.faults err.new) }
+    ensures raised { (O.faults out.old < O.faults out.new) ⊎ (E.faults err.old < E.faults err.new) → result ≡ 5 }
+    ensures no_fault { result ≢ 4 }
+{
+    match put_pieces(alloc, out, page.pieces) {
+        Ok(()) => say(err, page.err.as_slice(), page.ended.status()),
         Err(SinkFault::Failed) => WRITE_FAULT,
-        Err(SinkFault::Memory) => say(err, STARVED, NO_MEMORY),
+        Err(SinkFault::Memory) => say_starved(err),
     }
 }
 
-/// Says that memory is wanting, where nothing else was put.
-pub fn put_starved<E: Sink>(err: &mut E) -> u8
-    ensures says { Says starved.err (E.told err.old) (E.told err.new)
-        (Rose (E.faults err.old) (E.faults err.new)) starved.status result }
-    ensures write_fault { result ≡ 5 → Rose (E.faults err.old) (E.faults err.new) }
+/// Puts what the work of a command ended with, and answers the call's status.
+pub fn finish<P: Pieces + Drop, O: Sink, E: Sink>(
+    alloc: Global,
+    work: Result<Page<P>, Stop>,
+    out: &mut O,
+    err: &mut E,
+) -> u8
+    ensures shows { Shows (IsOutcomeOf P.text work)
+        (put O.told O.faults out.old out.new) (put E.told E.faults err.old err.new) result }
+    ensures write_fault { result ≡ 5 → Rose (O.faults out.old) (O.faults out.new) ⊎ Rose (E.faults err.old) (E.faults err.new) }
+    ensures raised { (O.faults out.old < O.faults out.new) ⊎ (E.faults err.old < E.faults err.new) → result ≡ 5 }
+    ensures no_fault { result ≢ 4 }
 {
-    say(err, STARVED, NO_MEMORY)
+    match work {
+        Ok(page) => put_page(alloc, page, out, err),
+        Err(Stop::Refused(line)) => say(err, line.as_slice(), INPUT),
+        Err(Stop::Starved) => say_starved(err),
+    }
 }

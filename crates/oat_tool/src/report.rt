@@ -1,61 +1,94 @@
-ghost use Rattle.std.specs.Prelude.{◌≡◌, ◌++◌, ◌∷◌, [], IfOk, OnOk};
-ghost use Rattle.std.specs.List.{AllByRecursion};
-ghost use Rattle.oat_report.specs.PathLine.{IsOfRow};
-ghost use Rattle.oat_tool.specs.Report.{report_of, path_text, IsReportable};
-ghost use Rattle.oat_tool.specs.Pages.{outcome_of};
+ghost use Rattle.std.specs.Prelude.{◌≡◌, ◌∷◌, [], IfOk};
+ghost use Rattle.oat_tool.specs.Report.{path_text, path_in, ended_of, text_left, turns_left};
 
-use crate::page::{Page, Status};
+use crate::page::Ended;
+use crate::pieces::Pieces;
 use oat_map::{Edge, Map};
 use oat_report::{path_line, verdict_line};
+use oat_shape::Shaped;
 use oat_verify::Verdict;
 use std::alloc::{AllocError, Global};
+use std::marker::Model;
 
-/// Adds the line of one edge.
-fn put_edge(out: &mut Vec<u8>, map: &Map, edge: &Edge) -> Result<(), AllocError>
-    requires { IsOfRow edge.now }
-    ensures { OnOk result (out.new.items ≡ out.old.items ++ path_text map.now (edge.now ∷ [])) }
-{
-    let line = path_line(*out.allocator(), map, edge)?;
-    out.extend_from_slice(line.as_slice())?;
-    out.extend_from_slice(b"\n")
+/// The lines of a report: the verdict's, and after an acceptance those of the path, each made as it is put.
+#[derive(Debug, Drop)]
+pub struct ReportLines {
+    shaped: Shaped,
+    verdict: Verdict,
+    is_begun: bool,
+    at: usize,
 }
 
-/// Adds the lines of a path.
-fn put_path(out: &mut Vec<u8>, map: &Map, path: &[Edge]) -> Result<(), AllocError>
-    requires { AllByRecursion IsOfRow path.now }
-    ensures { OnOk result (out.new.items ≡ out.old.items ++ path_text map.now path.now) }
-{
-    for edge in path {
-        put_edge(out, map, edge)?;
-    }
-    Ok(())
+impl Model for ReportLines {
+    ghost use Rattle.oat_tool.specs.Report as reports;
+
+    ghost Value = { reports.Left };
+
+    ghost view = { λ lines. record { image = lines.shaped; verdict = lines.verdict; is_begun = lines.is_begun; at = lines.at } };
 }
 
-/// A page whose only text is this one, on the first output.
-fn page(alloc: Global, status: Status, out: Vec<u8>) -> Page
-    ensures status_kept { result.status ≡ status }
-    ensures out_kept { result.out.items ≡ out.items }
-    ensures err_empty { result.err.items ≡ [] }
+/// The path of an acceptance.
+fn path_of(verdict: &Verdict) -> &[Edge]
+    ensures { result.now ≡ path_in verdict.now }
 {
-    Page {
-        status,
-        out,
-        err: Vec::new(alloc),
-    }
-}
-
-/// The page of a verdict: its line, and after an acceptance the lines of the path.
-pub fn report_page(alloc: Global, map: &Map, verdict: &Verdict) -> Result<Page, AllocError>
-    requires { IsReportable verdict.now }
-    ensures { IfOk result (λ page. outcome_of page ≡ report_of map.now verdict.now) }
-{
-    let mut out = verdict_line(alloc, verdict)?;
-    out.extend_from_slice(b"\n")?;
     match verdict {
-        Verdict::Accept(path) => {
-            put_path(&mut out, map, path.as_slice())?;
-            Ok(page(alloc, Status::Done, out))
+        Verdict::Accept(path) => path.as_slice(),
+        Verdict::Refuse(_) => &[],
+    }
+}
+
+/// The line of one edge.
+fn edge_line(alloc: Global, map: &Map, edge: &Edge) -> Result<Vec<u8>, AllocError>
+    ensures { IfOk result (λ text. text.items ≡ path_text map.now (edge.now ∷ [])) }
+{
+    let mut text = path_line(alloc, map, edge)?;
+    text.extend_from_slice(b"\n")?;
+    Ok(text)
+}
+
+/// How a verdict ends the work.
+pub fn ended(verdict: &Verdict) -> Ended
+    ensures { result ≡ ended_of verdict.now }
+{
+    match verdict {
+        Verdict::Accept(_) => Ended::Done,
+        Verdict::Refuse(_) => Ended::Rejected,
+    }
+}
+
+impl ReportLines {
+    ghost use Rattle.std.specs.Prelude.{◌≡◌, false};
+
+    pub fn of(shaped: Shaped, verdict: Verdict) -> ReportLines
+        ensures { result ≡ record { image = shaped; verdict = verdict; is_begun = false; at = 0 } }
+    {
+        ReportLines {
+            shaped,
+            verdict,
+            is_begun: false,
+            at: 0,
         }
-        Verdict::Refuse(_) => Ok(page(alloc, Status::Refused, out)),
+    }
+}
+
+impl Pieces for ReportLines {
+    ghost text = { text_left };
+
+    ghost turns = { turns_left };
+
+    fn next(&mut self, alloc: Global) -> Result<Option<Vec<u8>>, AllocError> {
+        if !self.is_begun {
+            let mut line = verdict_line(alloc, &self.verdict)?;
+            line.extend_from_slice(b"\n")?;
+            self.is_begun = true;
+            return Ok(Some(line));
+        }
+        let path = path_of(&self.verdict);
+        if self.at < path.len() {
+            let line = edge_line(alloc, &self.shaped.image().map, &path[self.at])?;
+            self.at += 1;
+            return Ok(Some(line));
+        }
+        Ok(None)
     }
 }

@@ -1,41 +1,49 @@
-ghost use Rattle.std.specs.Prelude.{◌≡◌, ◌≤◌, [], ◌∷◌, None, Some};
-ghost use Rattle.oat_world.specs.Outside.{Contents, Rose};
-ghost use Rattle.oat_tool.specs.Words.{verify};
-ghost use Rattle.oat_tool.specs.Defined.{Does};
-ghost use Rattle.oat_tool.specs.Pages.{Works, Meets};
+ghost use Rattle.std.specs.Prelude.{◌≡◌, map, IfOk};
+ghost use Rattle.oat_map.specs.Rows.{IsOperation};
+ghost use Rattle.oat_verify.specs.Verdict.{subject_of};
+ghost use Rattle.oat_tool.specs.declared.command.Command.TheVariants.{Verify};
+ghost use Rattle.oat_tool.specs.Commands.{limits_of};
+ghost use Rattle.oat_tool.specs.Works.{Works, answer_in};
+ghost use Rattle.oat_tool.specs.Verify.{Concludes, Verifies};
 
-use crate::judge::judge;
-use crate::load::{CASE_LIMIT, IMAGE_LIMIT, fetch};
+use crate::admit::{Admitted, admit};
+use crate::files::File;
+use crate::inputs::blob_of;
 use crate::page::{Page, Stop};
-use oat_world::Files;
-use std::alloc::Global;
+use crate::pieces::Pieces;
+use crate::report::{ReportLines, ended};
+use oat_case::Session;
+use oat_shape::Shaped;
+use std::alloc::{AllocError, Global};
 
-const BLOB_LIMIT: usize = 41_943_040;
-
-/// Loads the three files in the order of the words, and judges the blob.
-pub fn verify_files<F: Files>(
+/// The verdict on a blob's bytes, to be reported.
+fn conclude(
     alloc: Global,
-    files: &mut F,
-    image: &str,
-    case: &str,
-    blob: &str,
-) -> Result<Page, Stop>
-    ensures works { (contents : Contents) → F.told files.old ≡ Some contents → Works
-        (Meets (Does (verify image.now case.now blob.now) contents) (Rose (F.faults files.old) (F.faults files.new))
-        (image.now ∷ case.now ∷ blob.now ∷ [])) result }
-    ensures faulted { F.told files.old ≡ None → Works
-        (λ o. o.status ≡ 4 → Rose (F.faults files.old) (F.faults files.new)) result }
+    shaped: Shaped,
+    session: &Session,
+    bytes: &[u8],
+) -> Result<Page<ReportLines>, AllocError>
+    requires { IsOperation shaped.map session.now.op }
+    ensures { IfOk result (λ page. Concludes (subject_of shaped session.now) bytes.now (answer_in ⟦<ReportLines as Pieces>⟧.text page)) }
 {
-    let image_text = fetch(alloc, files, image, IMAGE_LIMIT)?;
-    let case_text = fetch(alloc, files, case, CASE_LIMIT)?;
-    let blob_text = fetch(alloc, files, blob, BLOB_LIMIT)?;
-    judge(
-        alloc,
-        image,
-        case,
-        blob,
-        image_text.as_slice(),
-        case_text.as_slice(),
-        blob_text.as_slice(),
-    )
+    let verdict = oat_verify::verify(alloc, &shaped, session, bytes)?;
+    Ok(Page {
+        ended: ended(&verdict),
+        pieces: ReportLines::of(shaped, verdict),
+        err: Vec::new(alloc),
+    })
+}
+
+/// Judges the blob of the third file against the image and the case of the first two.
+pub fn verify(alloc: Global, files: &[File]) -> Result<Page<ReportLines>, Stop>
+    requires { map (λ file. file.limit) files.now ≡ limits_of Verify }
+    ensures { Works ⟦<ReportLines as Pieces>⟧.text (Verifies files.now) result }
+{
+    let image = &files[0];
+    let case = &files[1];
+    let blob = &files[2];
+    let admitted = admit(alloc, image, case)?;
+    let bytes = blob_of(alloc, blob)?;
+    let Admitted { shaped, case } = admitted;
+    Ok(conclude(alloc, shaped, &case.session, bytes.as_slice())?)
 }

@@ -13,56 +13,55 @@ use Rattle.oat_verify.specs.declared.verdict.Cause.{Cause}
 use Rattle.oat_verify.specs.declared.verdict.Cause.TheVariants as causes
 use Rattle.oat_verify.specs.declared.verdict.Verdict.{Verdict}
 use Rattle.oat_verify.specs.declared.verdict.Verdict.TheVariants.{Accept, Refuse}
-use Rattle.oat_verify.specs.Verdict.{Subject, Looks, fails, passes, Settles, Replays, stuck, walked, Judges, IsVerdict, blob, form, Accepts, AcceptanceAtOnce, OneVerdict}
+use Rattle.oat_verify.specs.Verdict.{Subject, Looks, Settles, Replays, stuck, walked, Judges, IsVerdict, blob, form, Accepts, AcceptanceAtOnce, OneVerdict}
 use Rattle.oat_replay.proofs.OneStuck.{one_stuck}
+use Rattle.oat_first.specs.First.{fails, passes, IsOne, IsDecisive}
+use Rattle.oat_first.proofs.FirstLaws.{First-one, Tests-decisive}
 
 -- ---- one verdict
 
-looks-one : (holds : Type 0) (cause : Cause) (rest others : Type 0) (v w : Verdict)
-    → Looks holds cause rest v → Looks holds cause others w → (rest → others → v ≡ w) → v ≡ w
-looks-one holds cause rest others v w (fails unheld is) (fails unheld_too is') both = is ∙ sym is'
-looks-one holds cause rest others v w (fails unheld is) (passes held more) both = absurd (unheld held)
-looks-one holds cause rest others v w (passes held more) (fails unheld is) both = absurd (unheld held)
-looks-one holds cause rest others v w (passes held more) (passes held_too more') both = both more more'
+looks_decisive : (holds : Type 0) (cause : Cause) → IsDecisive (Unit {0}) Verdict (λ u. holds) (λ v. ¬ holds × (v ≡ Refuse cause))
+looks_decisive holds cause =
+    Tests-decisive Verdict holds (λ v. ¬ holds × (v ≡ Refuse cause)) (λ v w one two. one.1 ∙ sym two.1) (λ v held failed. failed.0 held)
 
-reports-one : (violation : Option Violation) (path : List Edge) (v w : Verdict)
+looks_one : (holds : Type 0) (cause : Cause) (rest : Verdict → Type 0) → IsOne Verdict rest → IsOne Verdict (Looks holds cause rest)
+looks_one holds cause rest one =
+    First-one (Unit {0}) Verdict (λ u. holds) (λ v. ¬ holds × (v ≡ Refuse cause)) (λ u. rest) (looks_decisive holds cause) (λ u held. one)
+
+reports_one : (violation : Option Violation) (path : List Edge) (v w : Verdict)
     → MatchOption violation (v ≡ Accept path) (λ x. v ≡ Refuse (causes.Critical x))
     → MatchOption violation (w ≡ Accept path) (λ x. w ≡ Refuse (causes.Critical x)) → v ≡ w
-reports-one None path v w is is' = is ∙ sym is'
-reports-one (Some x) path v w is is' = is ∙ sym is'
+reports_one None path v w is is' = is ∙ sym is'
+reports_one (Some x) path v w is is' = is ∙ sym is'
 
-settles-one : (head : List ℕ) (body : Body) (path : List Edge) (v w : Verdict)
-    → Settles head body path v → Settles head body path w → v ≡ w
-settles-one head body path v w one two = looks-one _ _ _ _ v w one two (reports-one body.head.violation path v w)
+settles_one : (head : List ℕ) (body : Body) (path : List Edge) → IsOne Verdict (Settles head body path)
+settles_one head body path = looks_one _ causes.Hash _ (reports_one body.head.violation path)
 
-replays-one : (s : Subject) (body : Body) (v w : Verdict) → Replays s body v → Replays s body w → v ≡ w
-replays-one s body v w (stuck cause turn gets is) (stuck other next gets' is') =
+replays_one : (s : Subject) (body : Body) → IsOne Verdict (Replays s body)
+replays_one s body v w (stuck cause turn gets is) (stuck other next gets' is') =
     let one = one_stuck s.map s.session.op body.bits body.targets cause other turn next gets gets' in
     is ∙ (rw (one.0, one.1) (sym is'))
-replays-one s body v w (stuck cause turn gets is) (walked path walks settles) =
+replays_one s body v w (stuck cause turn gets is) (walked path walks settles) =
     absurd (never_both s.map s.session.op body.bits body.targets path cause turn walks gets)
-replays-one s body v w (walked path walks settles) (stuck cause turn gets is) =
+replays_one s body v w (walked path walks settles) (stuck cause turn gets is) =
     absurd (never_both s.map s.session.op body.bits body.targets path cause turn walks gets)
-replays-one s body v w (walked path walks settles) (walked other walks' settles') =
+replays_one s body v w (walked path walks settles) (walked other walks' settles') =
     let same : path ≡ other = one_path s.map s.session.op body.bits body.targets path other walks walks' in
-    settles-one _ body path v w settles (rw same settles')
+    settles_one _ body path v w settles (rw same settles')
 
-judges-one : (s : Subject) (body : Body) (mac : List ℕ) (v w : Verdict) → Judges s body mac v → Judges s body mac w → v ≡ w
-judges-one s body mac v w one two =
-    looks-one _ _ _ _ v w one two (λ a b.
-    looks-one _ _ _ _ v w a b (λ c d.
-    looks-one _ _ _ _ v w c d (λ e f.
-    looks-one _ _ _ _ v w e f (replays-one s body v w))))
+judges_one : (s : Subject) (body : Body) (mac : List ℕ) → IsOne Verdict (Judges s body mac)
+judges_one s body mac =
+    looks_one _ causes.Mac _ (looks_one _ causes.Nonce _ (looks_one _ causes.Operation _ (looks_one _ causes.Image _ (replays_one s body))))
 
-offset-below : (bytes : List ℕ) (one two : ℕ) → IsFormOffset bytes one → IsFormOffset bytes two → one < two → ⊥
-offset-below bytes one two first second below = first.longest two below second.within second.begins
+offset_below : (bytes : List ℕ) (one two : ℕ) → IsFormOffset bytes one → IsFormOffset bytes two → one < two → ⊥
+offset_below bytes one two first second below = first.longest two below second.within second.begins
 
-offset-one : (bytes : List ℕ) (one two : ℕ) → IsFormOffset bytes one → IsFormOffset bytes two → one ≡ two
-offset-one bytes one two first second =
+offset_one : (bytes : List ℕ) (one two : ℕ) → IsFormOffset bytes one → IsFormOffset bytes two → one ≡ two
+offset_one bytes one two first second =
     elim (cases_lt one two) [
-      | inl below ↦ absurd (offset-below bytes one two first second below)
+      | inl below ↦ absurd (offset_below bytes one two first second below)
       | inr above ↦ elim (cases_lt two one) [
-        | inl below ↦ absurd (offset-below bytes two one second first below)
+        | inl below ↦ absurd (offset_below bytes two one second first below)
         | inr same ↦ omega (arith, above, same)
       ]
     ]
@@ -70,11 +69,11 @@ offset-one bytes one two first second =
 pub one_verdict : OneVerdict
 one_verdict s bytes v w (blob body mac is judges) (blob other other_mac is' judges') =
     let same = one_body bytes body other mac other_mac is is' in
-    judges-one s body mac v w judges (rw (same.0, same.1) judges')
+    judges_one s body mac v w judges (rw (same.0, same.1) judges')
 one_verdict s bytes v w (blob body mac is judges) (form offset at is') = absurd (at.no_blob body mac is)
 one_verdict s bytes v w (form offset at is') (blob body mac is judges) = absurd (at.no_blob body mac is)
 one_verdict s bytes v w (form offset at is) (form other at' is') =
-    is ∙ ap (λ place. Refuse (causes.Form place)) (offset-one bytes offset other at at') ∙ sym is'
+    is ∙ ap (λ place. Refuse (causes.Form place)) (offset_one bytes offset other at at') ∙ sym is'
 
 -- ---- an acceptance
 
@@ -84,9 +83,9 @@ never_refused path cause same = cc
 accepted_path : (path other : List Edge) → Accept path ≡ Accept other → path ≡ other
 accepted_path path other same = cc
 
-looked : (holds : Type 0) (cause : Cause) (rest : Type 0) (path : List Edge) → Looks holds cause rest (Accept path) → holds × rest
-looked holds cause rest path (fails unheld is) = absurd (never_refused path cause is)
-looked holds cause rest path (passes held more) = (held, more)
+looked : (holds : Type 0) (cause : Cause) (rest : Verdict → Type 0) (path : List Edge) → Looks holds cause rest (Accept path) → holds × rest (Accept path)
+looked holds cause rest path (fails failed) = absurd (never_refused path cause failed.1)
+looked holds cause rest path (passes u held more) = (held, more)
 
 reported : (violation : Option Violation) (path accepted : List Edge)
     → MatchOption violation (Accept accepted ≡ Accept path) (λ x. Accept accepted ≡ Refuse (causes.Critical x))
@@ -131,8 +130,8 @@ unreported violation path none = rw none refl
 
 is_accepted : (s : Subject) (bytes : List ℕ) (path : List Edge) → Accepts s bytes path → IsVerdict s bytes (Accept path)
 is_accepted s bytes path a =
-    blob a.body a.mac a.is_blob (passes a.right_mac (passes a.nonce (passes a.operation (passes a.image
-    (walked path a.walked (passes a.hash (unreported a.body.head.violation path a.clean)))))))
+    blob a.body a.mac a.is_blob (passes tt a.right_mac (passes tt a.nonce (passes tt a.operation (passes tt a.image
+    (walked path a.walked (passes tt a.hash (unreported a.body.head.violation path a.clean)))))))
 
 pub acceptance_at_once : AcceptanceAtOnce
 acceptance_at_once s bytes path = (accepts s bytes path, is_accepted s bytes path)

@@ -18,6 +18,7 @@ use Rattle.oat_verify.specs.declared.verdict.Cause.{Cause}
 use Rattle.oat_verify.specs.declared.verdict.Cause.TheVariants as causes
 use Rattle.oat_verify.specs.declared.verdict.Verdict.{Verdict}
 use Rattle.oat_verify.specs.declared.verdict.Verdict.TheVariants.{Accept, Refuse}
+use Rattle.oat_first.specs.First.{Tests}
 
 -- what a verdict is about, beside the bytes of the blob
 pub record Subject : Type 0 where
@@ -34,9 +35,8 @@ abbrev pub head_of : Subject → List ℕ
 head_of s = begin_record s.session.nonce s.session.op s.digest
 
 -- One thing that is looked at: where it fails its cause is the verdict, and else the rest decides.
-pub data Looks (holds : Type 0) (cause : Cause) (rest : Type 0) (v : Verdict) : Type 0 where
-  fails : ¬ holds → v ≡ Refuse cause → Looks holds cause rest v
-  passes : holds → rest → Looks holds cause rest v
+abbrev pub Looks : (holds : Type 0) → Cause → (Verdict → Type 0) → Verdict → Type 0
+Looks holds cause = Tests Verdict holds (λ v. ¬ holds × (v ≡ Refuse cause))
 
 -- The device reports no violation, or the first one.
 abbrev pub Reports : Body → List Edge → Verdict → Type 0
@@ -44,7 +44,7 @@ Reports body path v = MatchOption body.head.violation (v ≡ Accept path) (λ vi
 
 -- What is looked at once the replay has found a path: its returns, and then the report.
 abbrev pub Settles : List ℕ → Body → List Edge → Verdict → Type 0
-Settles head body path v = Looks (body.head.hash ≡ chain head (returns_of path)) causes.Hash (Reports body path v) v
+Settles head body path = Looks (body.head.hash ≡ chain head (returns_of path)) causes.Hash (Reports body path)
 
 -- The replay finds the path that has the blob's records, or gets stuck.
 pub data Replays (s : Subject) (body : Body) (v : Verdict) : Type 0 where
@@ -55,12 +55,12 @@ pub data Replays (s : Subject) (body : Body) (v : Verdict) : Type 0 where
 
 -- What is looked at in a blob, in this order: its MAC, nonce, operation and image, and then the replay.
 abbrev pub Judges : Subject → Body → List ℕ → Verdict → Type 0
-Judges s body mac v =
+Judges s body mac =
     Looks (mac ≡ hmac s.session.key (covered_of body)) causes.Mac (
     Looks (body.head.nonce ≡ s.session.nonce) causes.Nonce (
     Looks (body.head.op ≡ s.session.op) causes.Operation (
     Looks (body.head.digest ≡ s.digest) causes.Image (
-    Replays s body v) v) v) v) v
+    Replays s body))))
 
 -- The verdict on bytes: on the blob that they are, or where they stop to be one.
 pub data IsVerdict (s : Subject) (bytes : List ℕ) (v : Verdict) : Type 0 where

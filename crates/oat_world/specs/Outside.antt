@@ -38,7 +38,9 @@ LoadsUntold limit before now taken_before taken_now (Err load.Memory) = Unit {0}
 abbrev pub Adds : Option (List ℕ) → List ℕ → Option (List ℕ) → Type 0
 Adds old bytes new = new ≡ option_map (λ before. before ++ bytes) old
 
+-- A put takes a front of the piece, or nothing. The count of faults rises where it failed, and nowhere else.
 abbrev pub Puts : List ℕ → Option (List ℕ) → Option (List ℕ) → ℕ → ℕ → Result ℕ SinkFault → Type 0
-Puts piece old new before now (Ok count) = (count ≤ length piece) × (0 < length piece → 0 < count) × Adds old (take count piece) new
+Puts piece old new before now (Ok count) =
+    (count ≤ length piece) × (0 < length piece → 0 < count) × Adds old (take count piece) new × (now ≡ before)
 Puts piece old new before now (Err sink.Failed) = Rose before now × (new ≡ old)
 Puts piece old new before now (Err sink.Memory) = (now ≡ before) × (new ≡ old)

@@ -13,7 +13,7 @@ pub enum SinkFault {
 /// A place to put bytes, one piece after another.
 ///
 /// It means the bytes put so far, where that is told, and a count of faults
-/// that never falls.
+/// that never falls, and rises at the puts that answer `Failed` alone.
 pub trait Sink {
     ghost told: { Self → Option (List ℕ) };
 

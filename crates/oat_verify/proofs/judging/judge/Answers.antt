@@ -1,10 +1,10 @@
-use Rattle.std.proofs.Common.{rules, ◌≡◌, ◌∙◌}
+use Rattle.std.proofs.Common.{rules, ◌≡◌, ◌∙◌, refl}
 use Rattle.std.proofs.lemmas.Result.{IfOk-weaker}
 use Rattle.sha2.specs.Sha256.{sha256}
 use Rattle.oat_image.specs.Grammar.{image_text}
 use Rattle.oat_hmac.specs.Hmac.{hmac}
 use Rattle.oat_blob.specs.Layout.{covered_of}
-use Rattle.oat_verify.specs.Verdict.{passes}
+use Rattle.oat_first.specs.First.{fails, passes}
 use Rattle.oat_verify.proofs.judging.judge.Goals as goal
 
 pub returns : goal.returns
@@ -14,4 +14,13 @@ returns c =
     let op : c.args.blob.now.body.head.op ≡ c.args.session.now.op = search rules in
     let carried : c.args.blob.now.body.head.digest ≡ c.digest.result = search rules in
     let image : c.args.blob.now.body.head.digest ≡ sha256 (image_text c.args.shaped.now) = carried ∙ c.digest.ensures in
-    IfOk-weaker c.replay.result _ _ (λ v replays. passes right_mac (passes nonce (passes op (passes image replays)))) c.replay.ensures
+    IfOk-weaker c.replay.result _ _ (λ v replays. passes tt right_mac (passes tt nonce (passes tt op (passes tt image replays)))) c.replay.ensures
+
+pub returns-then-ne : goal.returns-then-ne
+returns-then-ne c = passes tt (search rules) (fails (search rules, refl))
+
+pub returns-then-head-session : goal.returns-then-head-session
+returns-then-head-session c = passes tt (search rules) (passes tt (search rules) (fails (search rules, refl)))
+
+pub returns-then-ne-2 : goal.returns-then-ne-2
+returns-then-ne-2 c = passes tt (search rules) (passes tt (search rules) (passes tt (search rules) (fails (search rules, refl))))

@@ -1,0 +1,155 @@
+-- The room of `device`: where its work stops and goes on, that it has one answer, and what its statuses say.
+use Rattle.std.proofs.Common.{◌≡◌, ◌↔◌, ◌<◌, ◌+◌, ◌++◌, ◌∙◌, ◌⊎◌, ℕ, List, [], ◌∷◌, Some, Contains, inl, inr, refl, sym, ap, subst, codes, arith}
+use Rattle.std.specs.List.{slice_get}
+use Rattle.std.proofs.lemmas.Bool.{cases_lt}
+use Rattle.std.proofs.lemmas.Option.{slice_get-get_or}
+use Rattle.oat_world.specs.Outside.{Contents}
+use Rattle.oat_map.specs.declared.map.Map.{Map}
+use Rattle.oat_map.specs.declared.row.Row.{Row}
+use Rattle.oat_map.specs.declared.row.Row.TheVariants.{Begin}
+use Rattle.oat_blob.specs.Layout.{IsBlobOf}
+use Rattle.oat_blob.specs.Body.{Body}
+use Rattle.oat_measure.specs.declared.opening.Opening.{Opening}
+use Rattle.oat_image.specs.declared.image.Image.{Image}
+use Rattle.oat_case.specs.declared.case.Case.{Case}
+use Rattle.oat_shape.specs.MapRules.{S7}
+use Rattle.oat_shape.specs.Shape.{Everywhere}
+use Rattle.oat_map.specs.Rows.{BeginsAt, IsOperation}
+use Rattle.oat_journal.specs.Measured.{Run, IsSealed, body_of, IsOpenedFor, opening_of}
+use Rattle.oat_first.specs.First.{IsOne}
+use Rattle.oat_tool.specs.declared.page.Stop.{Stop}
+use Rattle.oat_tool.specs.declared.page.Ended.TheVariants.{Done, Unsealed}
+use Rattle.oat_tool.specs.declared.command.Command.TheVariants.{Device}
+use Rattle.oat_tool.specs.Outcome.{Outcome, line}
+use Rattle.oat_tool.specs.Answer.{Answer, shows, as_outcome}
+use Rattle.oat_tool.specs.Loads.{File, AreLoaded}
+use Rattle.oat_tool.specs.Commands.{files_of}
+use Rattle.oat_tool.specs.Admits.{Rejects, AreAdmitted}
+use Rattle.oat_tool.specs.Device.{Runs, RunsCase, ShowsRun, sealed, unsealed, run_of, run_lines}
+use Rattle.oat_tool.specs.DeviceLaws.{IsMeasuredRun, RunIsShown, RunIsNotRejected, OneDeviceAnswer}
+use Rattle.oat_tool.specs.BlobLine.{blob_line}
+use Rattle.oat_tool.specs.Works.{StopsWith}
+use Rattle.oat_tool.proofs.Working.{StopsWith-more, IsDone}
+use Rattle.oat_tool.proofs.Admitting.{Admits-rejected, Admits-admitted, Admits-one, Admits-through}
+use Rattle.oat_tool.proofs.Setting.{work_is_done}
+use Rattle.oat_tool.proofs.Answering.{work_is_of_command}
+
+-- ---- where the work stops, and where it goes on to the run
+
+pub stops_rejecting : (image case : File) (stop : Stop) → StopsWith (Rejects image case) stop → StopsWith (Runs (image ∷ case ∷ [])) stop
+stops_rejecting image case stop stops =
+    StopsWith-more (Rejects image case) (Runs (image ∷ case ∷ [])) stop (λ a rejected. Admits-rejected image case RunsCase a rejected) stops
+
+pub runs_admitted : (image case : File) (i : Image) (c : Case) (a : Answer) → AreAdmitted image case i c → RunsCase i c a → Runs (image ∷ case ∷ []) a
+runs_admitted image case i c a admitted runs = Admits-admitted image case RunsCase a i c admitted runs
+
+-- ---- where the window opens
+
+pub begins : (flow : Map) (op : ℕ) → (begun : IsOperation flow op) → BeginsAt flow op (begun.0 + 4)
+begins flow op begun = (begun.0, begun.1, refl)
+
+pub opens : (image : Image) (case : Case) → (begun : IsOperation image.map case.session.op)
+    → IsOpenedFor image case.session (opening_of image case.session (begun.0 + 4))
+opens image case begun = (begun.0 + 4, begins image.map case.session.op begun, refl)
+
+at_place : (rows : List Row) (row : Row) (among : Contains rows row) → slice_get rows among.0 ≡ Some row
+at_place rows row among = slice_get-get_or rows among.0 row among.1 ∙ ap (λ r. Some r) among.2
+
+never_twice : (flow : Map) (op at other k later : ℕ) → Everywhere (S7 flow) → slice_get flow.rows k ≡ Some (Begin at op)
+    → slice_get flow.rows later ≡ Some (Begin other op) → k < later → ⊥
+never_twice flow op at other k later paired first second below = paired other later (Begin other op) second refl k at below first
+
+one_begin : (flow : Map) (op one two : ℕ) → Everywhere (S7 flow) → BeginsAt flow op one → BeginsAt flow op two → two ≡ one
+one_begin flow op one two paired (at, among, is) (other, among', is') =
+    let first = at_place flow.rows (Begin at op) among in
+    let second = at_place flow.rows (Begin other op) among' in
+    elim (cases_lt among.0 among'.0) [
+      | inl before ↦ absurd (never_twice flow op at other among.0 among'.0 paired first second before)
+      | inr not_before ↦ elim (cases_lt among'.0 among.0) [
+        | inl behind ↦ absurd (never_twice flow op other at among'.0 among.0 paired second first behind)
+        | inr not_behind ↦
+            let same : among.0 ≡ among'.0 = omega (arith, not_before, not_behind) in
+            let third : slice_get flow.rows among.0 ≡ Some (Begin other op) = subst (λ (k : ℕ). slice_get flow.rows k ≡ Some (Begin other op)) (sym same) second in
+            let rows : Begin at op ≡ Begin other op = cc in
+            let places : at ≡ other = cc in
+            omega (arith, is, is', places)
+      ]
+    ]
+
+-- ---- one answer
+
+one_blob : (body : Body) (key one two : List ℕ) → IsBlobOf body key one → IsBlobOf body key two → one ≡ two
+one_blob body key one two first second = first.layout ∙ sym second.layout
+
+one_shown : (o : Opening) (key : List ℕ) (run : Run) → IsOne Answer (ShowsRun o key run)
+one_shown o key run a b (sealed is bytes blob shown) (sealed is' bytes' blob' shown') =
+    shown ∙ (ap (λ bytes. shows Done (run_lines run ++ blob_line bytes) [])
+    (one_blob (body_of o run.state) key bytes bytes' blob blob') ∙ sym shown')
+one_shown o key run a b (sealed is bytes blob shown) (unsealed none shown') = absurd (none is)
+one_shown o key run a b (unsealed none shown) (sealed is bytes blob shown') = absurd (none is)
+one_shown o key run a b (unsealed none shown) (unsealed none' shown') = shown ∙ sym shown'
+
+one_run : (image : Image) (case : Case) → Everywhere (S7 image.map) → IsOne Answer (RunsCase image case)
+one_run image case paired a b one two =
+    let same = one_begin image.map case.session.op one.begin_at two.begin_at paired one.begins two.begins in
+    one_shown (opening_of image case.session one.begin_at) case.session.key (run_of image case one.begin_at) a b one.shown
+    (subst (λ (at : ℕ). ShowsRun (opening_of image case.session at) case.session.key (run_of image case at) b) same two.shown)
+
+pub one_device_answer : OneDeviceAnswer
+one_device_answer [] a b one two = absurd one
+one_device_answer (image ∷ []) a b one two = absurd one
+one_device_answer (image ∷ case ∷ []) a b one two =
+    Admits-one image case RunsCase (λ i c admitted. one_run i c admitted.shaped.paired) a b one two
+one_device_answer (image ∷ case ∷ other ∷ files) a b one two = absurd one
+
+-- ---- what the statuses say
+
+as_told : (o p : Outcome) (X : Type 0) → o ≡ p → (p.status ≡ 0 ↔ X) × (p.status ≡ 7 ↔ ¬ X) → (o.status ≡ 0 ↔ X) × (o.status ≡ 7 ↔ ¬ X)
+as_told o p X same told = subst (λ (q : Outcome). (q.status ≡ 0 ↔ X) × (q.status ≡ 7 ↔ ¬ X)) (sym same) told
+
+statuses : (o : Opening) (key : List ℕ) (run : Run) (a : Answer) → ShowsRun o key run a
+    → ((as_outcome a).status ≡ 0 ↔ IsSealed run) × ((as_outcome a).status ≡ 7 ↔ ¬ IsSealed run)
+statuses o key run a (sealed is bytes blob shown) =
+    as_told (as_outcome a) (as_outcome (shows Done (run_lines run ++ blob_line bytes) [])) (IsSealed run) (ap as_outcome shown)
+    ((λ zeroth. is, λ all. refl), (λ seven. absurd (omega (arith, seven)), λ none. absurd (none is)))
+statuses o key run a (unsealed none shown) =
+    as_told (as_outcome a) (as_outcome (shows Unsealed (run_lines run) (line (codes "no blob")))) (IsSealed run) (ap as_outcome shown)
+    ((λ zeroth. absurd (omega (arith, zeroth)), λ all. absurd (none all)), (λ seven. none, λ is. refl))
+
+run_shown : (words : List (List ℕ)) (contents : Contents) (files : List File) (a : Answer) → AreLoaded contents (files_of words Device) files
+    → Runs files a → IsDone (as_outcome a).status → IsMeasuredRun words contents (as_outcome a)
+run_shown words contents [] a held none is_done = absurd none
+run_shown words contents (image ∷ []) a held none is_done = absurd none
+run_shown words contents (image ∷ case ∷ []) a held runs is_done =
+    let through = Admits-through image case RunsCase a is_done runs in
+    let told = statuses _ _ _ a through.after.shown in
+    record {
+      image = image;
+      case = case;
+      held = held;
+      i = through.i;
+      c = through.c;
+      admitted = through.admitted;
+      answer = a;
+      runs = through.after;
+      is = refl;
+      seals = told.0;
+      leaves_unsealed = told.1;
+    }
+run_shown words contents (image ∷ case ∷ other ∷ files) a held none is_done = absurd none
+
+pub run_is_shown : RunIsShown
+run_is_shown words contents o asked defined work =
+    let answered = work_is_of_command words contents Device o asked defined work in
+    subst (λ (p : Outcome). IsMeasuredRun words contents p) (sym answered.is)
+    (run_shown words contents answered.files answered.answer answered.held answered.given
+    (λ two. work_is_done o.status work (ap (λ (p : Outcome). p.status) answered.is ∙ two)))
+
+never_rejected : (status : ℕ) (X : Type 0) → (status ≡ 0 ↔ X) → (status ≡ 7 ↔ ¬ X) → status ≡ 1 → ⊥
+never_rejected status X seals others first =
+    let never : ¬ X = λ all. omega (arith, first, seals.1 all) in omega (arith, first, others.1 never)
+
+pub run_is_not_rejected : RunIsNotRejected
+run_is_not_rejected words contents o asked defined first =
+    let run = run_is_shown words contents o asked defined (inr (inl first)) in
+    never_rejected o.status _ run.seals run.leaves_unsealed first

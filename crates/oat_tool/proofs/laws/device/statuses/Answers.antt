@@ -1,0 +1,5 @@
+use Rattle.oat_tool.proofs.Running.{run_is_shown, run_is_not_rejected}
+use Rattle.oat_tool.proofs.laws.device.statuses.Goals as goal
+
+pub returns : goal.returns
+returns c = record { ran = run_is_shown; not_rejected = run_is_not_rejected }

@@ -1,0 +1,5 @@
+use Rattle.oat_tool.proofs.Verifying as room
+use Rattle.oat_tool.proofs.laws.verify.one_verification.Goals as goal
+
+pub returns : goal.returns
+returns c = room.one_verification

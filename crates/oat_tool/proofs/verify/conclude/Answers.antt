@@ -1,0 +1,9 @@
+use Rattle.std.proofs.Common.{refl}
+use Rattle.oat_tool.proofs.verify.conclude.Goals as goal
+
+pub returns : goal.returns
+returns c = record {
+  verdict = c.in_ok-verdict.verdict;
+  right = c.in_ok-verdict.ensures;
+  reported = rw (c.of.ensures, c.ended.ensures, c.new.ensures.items) refl;
+}

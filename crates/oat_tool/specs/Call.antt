@@ -1,0 +1,29 @@
+-- A call of the program, as its caller sees it: its words, what it did to the files and to the two sinks, and its status.
+use Rattle.std.specs.Prelude.{◌≡◌, ℕ, List, Option, Some, map}
+use Rattle.std.specs.String.{string_bytes}
+use Rattle.std.specs.declared.string.String.{String}
+use Rattle.std.specs.declared.alloc.Global.{Global}
+use Rattle.oat_world.specs.Outside.{Contents, Rose}
+use Rattle.oat_tool.specs.Shows.{Put, Shows}
+use Rattle.oat_tool.specs.Defined.{SetsOut}
+
+-- what a call did to the files: what they tell, and the count of faults before and after
+pub record Read : Type 0 where
+  pub told : Option Contents
+  pub before : ℕ
+  pub after : ℕ
+
+abbrev pub read : {F : Type 0} → (F → Option Contents) → (F → ℕ) → F → F → Read
+read told faults old new = record { told = told old; before = faults old; after = faults new }
+
+abbrev pub put : {S : Type 0} → (S → Option (List ℕ)) → (S → ℕ) → S → S → Put
+put told faults old new = record { held = told old; holds = told new; before = faults old; after = faults new }
+
+-- Where contents are told, the call shows the outcome that it set out for.
+abbrev pub IsCall : List (List ℕ) → Read → Put → Put → ℕ → Type 0
+IsCall words files out err status =
+    (contents : Contents) → files.told ≡ Some contents
+    → Shows (SetsOut words contents (Rose files.before files.after)) out err status
+
+abbrev pub Ran : List (String Global) → Read → Put → Put → ℕ → Type 0
+Ran words = IsCall (map string_bytes words)

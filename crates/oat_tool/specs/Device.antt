@@ -1,0 +1,40 @@
+-- `device IMAGE CASE`: the first refusal of an input, or the lines of the measured run, with the blob of its body where
+-- it sealed (docs/FORMATS.md).
+use Rattle.std.specs.Prelude.{◌≡◌, ℕ, List, [], ◌∷◌, ◌++◌, codes}
+use Rattle.oat_measure.specs.declared.opening.Opening.{Opening}
+use Rattle.oat_blob.specs.Layout.{IsBlobOf}
+use Rattle.oat_image.specs.declared.image.Image.{Image}
+use Rattle.oat_map.specs.Rows.{BeginsAt}
+use Rattle.oat_case.specs.declared.case.Case.{Case}
+use Rattle.oat_journal.specs.Measured.{Run, dev, opening_of, IsSealed, body_of}
+use Rattle.oat_device.specs.Standing.{end_of}
+use Rattle.oat_tool.specs.declared.page.Ended.TheVariants.{Done, Unsealed}
+use Rattle.oat_tool.specs.Outcome.{line}
+use Rattle.oat_tool.specs.Answer.{Answer, shows}
+use Rattle.oat_tool.specs.Loads.{File}
+use Rattle.oat_tool.specs.RunText.{run_text}
+use Rattle.oat_tool.specs.BlobLine.{blob_line}
+use Rattle.oat_tool.specs.Admits.{Admits}
+
+-- the measured run of a case
+abbrev pub run_of : Image → Case → ℕ → Run
+run_of image case begin_at = dev image (opening_of image case.session begin_at) case.inputs case.writes case.steps
+
+abbrev pub run_lines : Run → List ℕ
+run_lines run = run_text run.running.outputs (end_of run)
+
+-- A run that sealed puts its blob behind its lines; of another one it is said that there is none.
+pub data ShowsRun (o : Opening) (key : List ℕ) (run : Run) (a : Answer) : Type 0 where
+  sealed : IsSealed run → (bytes : List ℕ) → IsBlobOf (body_of o run.state) key bytes
+      → a ≡ shows Done (run_lines run ++ blob_line bytes) [] → ShowsRun o key run a
+  unsealed : ¬ IsSealed run → a ≡ shows Unsealed (run_lines run) (line (codes "no blob")) → ShowsRun o key run a
+
+-- The run of the case on the image is shown.
+pub record RunsCase (image : Image) (case : Case) (a : Answer) : Type 0 where
+  pub begin_at : ℕ
+  pub begins : BeginsAt image.map case.session.op begin_at
+  pub shown : ShowsRun (opening_of image case.session begin_at) case.session.key (run_of image case begin_at) a
+
+abbrev pub Runs : List File → Answer → Type 0
+Runs (image ∷ case ∷ []) a = Admits image case RunsCase a
+Runs _ a = ⊥

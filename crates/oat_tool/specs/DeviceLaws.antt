@@ -1,0 +1,44 @@
+-- What the statuses of `device` say of the defined outcome (docs/PROMISES.md).
+use Rattle.std.specs.Prelude.{◌≡◌, ◌≢◌, ◌↔◌, ℕ, List, [], ◌∷◌}
+use Rattle.oat_world.specs.Outside.{Contents}
+use Rattle.oat_image.specs.declared.image.Image.{Image}
+use Rattle.oat_case.specs.declared.case.Case.{Case}
+use Rattle.oat_journal.specs.Measured.{IsSealed}
+use Rattle.oat_first.specs.First.{IsOne}
+use Rattle.oat_tool.specs.declared.command.Command.TheVariants.{Device}
+use Rattle.oat_tool.specs.Outcome.{Outcome}
+use Rattle.oat_tool.specs.Answer.{Answer, as_outcome}
+use Rattle.oat_tool.specs.Loads.{File, AreLoaded}
+use Rattle.oat_tool.specs.Commands.{IsLine, files_of}
+use Rattle.oat_tool.specs.Admits.{AreAdmitted}
+use Rattle.oat_tool.specs.Defined.{Defined}
+use Rattle.oat_tool.specs.DefinedLaws.{IsOfWork}
+use Rattle.oat_tool.specs.Device.{Runs, RunsCase, run_of}
+
+-- The files that the words name hold a shaped image and a case for one of its operations, and the outcome is what is
+-- defined of the case's measured run on the image: with status 0 where it sealed, and else with status 7.
+pub record IsMeasuredRun (words : List (List ℕ)) (contents : Contents) (o : Outcome) : Type 0 where
+  pub image : File
+  pub case : File
+  pub held : AreLoaded contents (files_of words Device) (image ∷ case ∷ [])
+  pub i : Image
+  pub c : Case
+  pub admitted : AreAdmitted image case i c
+  pub answer : Answer
+  pub runs : RunsCase i c answer
+  pub is : o ≡ as_outcome answer
+  pub seals : o.status ≡ 0 ↔ IsSealed (run_of i c runs.begin_at)
+  pub leaves_unsealed : o.status ≡ 7 ↔ ¬ IsSealed (run_of i c runs.begin_at)
+
+-- A status of work is that of the measured run.
+abbrev pub RunIsShown : Type 0
+RunIsShown = (words : List (List ℕ)) (contents : Contents) (o : Outcome) → IsLine words Device → Defined words contents o
+    → IsOfWork o.status → IsMeasuredRun words contents o
+
+-- A run isn't rejected.
+abbrev pub RunIsNotRejected : Type 0
+RunIsNotRejected = (words : List (List ℕ)) (contents : Contents) (o : Outcome) → IsLine words Device → Defined words contents o → o.status ≢ 1
+
+-- Files have one answer.
+abbrev pub OneDeviceAnswer : Type 0
+OneDeviceAnswer = (files : List File) → IsOne Answer (Runs files)

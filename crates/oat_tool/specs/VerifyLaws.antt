@@ -1,0 +1,58 @@
+-- What the statuses of `verify` say of the defined outcome (docs/PROMISES.md).
+use Rattle.std.specs.Prelude.{◌≡◌, ◌≢◌, ℕ, List, [], ◌∷◌}
+use Rattle.oat_world.specs.Outside.{Contents}
+use Rattle.oat_image.specs.declared.image.Image.{Image}
+use Rattle.oat_map.specs.declared.edge.Edge.{Edge}
+use Rattle.oat_case.specs.declared.case.Case.{Case}
+use Rattle.oat_verify.specs.declared.verdict.Verdict.{Verdict}
+use Rattle.oat_verify.specs.declared.verdict.Verdict.TheVariants.{Accept, Refuse}
+use Rattle.oat_verify.specs.declared.verdict.Cause.{Cause}
+use Rattle.oat_verify.specs.Verdict.{subject_of, IsVerdict}
+use Rattle.oat_first.specs.First.{IsOne}
+use Rattle.oat_tool.specs.declared.command.Command.TheVariants.{Verify}
+use Rattle.oat_tool.specs.Outcome.{Outcome}
+use Rattle.oat_tool.specs.Answer.{Answer, as_outcome}
+use Rattle.oat_tool.specs.Loads.{File, AreLoaded}
+use Rattle.oat_tool.specs.Commands.{IsLine, files_of}
+use Rattle.oat_tool.specs.BlobText.{IsBlobText}
+use Rattle.oat_tool.specs.Admits.{AreAdmitted}
+use Rattle.oat_tool.specs.Report.{report_of}
+use Rattle.oat_tool.specs.Defined.{Defined}
+use Rattle.oat_tool.specs.Verify.{Verifies}
+
+-- The files that the words name hold a shaped image, a case for one of its operations and a blob, and the verdict on
+-- the blob is this one.
+pub record IsJudged (words : List (List ℕ)) (contents : Contents) (i : Image) (verdict : Verdict) : Type 0 where
+  pub image : File
+  pub case : File
+  pub blob : File
+  pub held : AreLoaded contents (files_of words Verify) (image ∷ case ∷ blob ∷ [])
+  pub c : Case
+  pub admitted : AreAdmitted image case i c
+  pub bytes : List ℕ
+  pub blob_read : IsBlobText blob.text bytes
+  pub right : IsVerdict (subject_of i c.session) bytes verdict
+
+-- A verdict was reached, and the outcome is its report.
+pub record IsReported (words : List (List ℕ)) (contents : Contents) (verdict : Verdict) (o : Outcome) : Type 0 where
+  pub image : Image
+  pub judged : IsJudged words contents image verdict
+  pub is : o ≡ as_outcome (report_of image.map verdict)
+
+-- Status 0 is an acceptance.
+abbrev pub AcceptanceIsReported : Type 0
+AcceptanceIsReported = (words : List (List ℕ)) (contents : Contents) (o : Outcome) → IsLine words Verify → Defined words contents o
+    → o.status ≡ 0 → (path : List Edge) × IsReported words contents (Accept path) o
+
+-- Status 1 is a verdict that refuses.
+abbrev pub RefusalIsReported : Type 0
+RefusalIsReported = (words : List (List ℕ)) (contents : Contents) (o : Outcome) → IsLine words Verify → Defined words contents o
+    → o.status ≡ 1 → (cause : Cause) × IsReported words contents (Refuse cause) o
+
+-- A verdict doesn't end with status 7.
+abbrev pub VerdictIsSealed : Type 0
+VerdictIsSealed = (words : List (List ℕ)) (contents : Contents) (o : Outcome) → IsLine words Verify → Defined words contents o → o.status ≢ 7
+
+-- Files have one answer.
+abbrev pub OneVerification : Type 0
+OneVerification = (files : List File) → IsOne Answer (Verifies files)

@@ -1,0 +1,51 @@
+-- What the work of a command, and the loads before it, end with (docs/DEFINITIONS.md).
+use Rattle.std.specs.Prelude.{◌≡◌, ℕ, List, Result, Ok, Err}
+use Rattle.std.specs.declared.alloc.AllocError.{AllocError}
+use Rattle.oat_tool.specs.declared.page.Page.{Page}
+use Rattle.oat_tool.specs.declared.page.Stop.{Stop}
+use Rattle.oat_tool.specs.declared.page.Stop.TheVariants as stop
+use Rattle.oat_tool.specs.declared.page.Halt.{Halt}
+use Rattle.oat_tool.specs.declared.page.Halt.TheVariants as halt
+use Rattle.oat_tool.specs.Outcome.{Outcome, says}
+use Rattle.oat_tool.specs.Answer.{Answer, shows, refuses, refused, as_outcome}
+
+-- Work that stops early refuses an input so, or memory was wanting.
+abbrev pub StopsWith : (Answer → Type 0) → Stop → Type 0
+StopsWith Q (stop.Refused text) = Q (refuses text.items)
+StopsWith Q stop.Starved = Unit {0}
+
+-- Work ends with one of these answers, or for want of memory; its text is what its pieces make.
+abbrev pub Works : {P : Type 0} → (P → List ℕ) → (Answer → Type 0) → Result (Page P) Stop → Type 0
+Works text Q (Ok page) = Q (shows page.ended (text page.pieces) page.err.items)
+Works text Q (Err stop) = StopsWith Q stop
+
+-- the outcome that finished work stands for
+abbrev pub IsOutcomeOf : {P : Type 0} → (P → List ℕ) → Result (Page P) Stop → Outcome → Type 0
+IsOutcomeOf text (Ok page) o = o ≡ as_outcome (shows page.ended (text page.pieces) page.err.items)
+IsOutcomeOf text (Err (stop.Refused said)) o = o ≡ says 2 said.items
+IsOutcomeOf text (Err stop.Starved) o = ⊥
+
+-- Loads that don't go through end so, or memory was wanting.
+abbrev pub HaltsWith : (Outcome → Type 0) → Halt → Type 0
+HaltsWith Q (halt.ReadFault text) = Q (says 4 text.items)
+HaltsWith Q (halt.Refused text) = Q (says 2 text.items)
+HaltsWith Q halt.Starved = Unit {0}
+
+abbrev pub IsReadFault : Halt → Type 0
+IsReadFault (halt.ReadFault text) = Unit {0}
+IsReadFault (halt.Refused text) = ⊥
+IsReadFault halt.Starved = ⊥
+
+-- the answer that a page stands for
+abbrev pub answer_in : {P : Type 0} → (P → List ℕ) → Page P → Answer
+answer_in text page = shows page.ended (text page.pieces) page.err.items
+
+-- The stop refuses an input so, or memory was wanting.
+abbrev pub RefusesWith : Answer → Result Stop AllocError → Type 0
+RefusesWith a (Ok (stop.Refused text)) = a ≡ refuses text.items
+RefusesWith a (Ok stop.Starved) = ⊥
+RefusesWith a (Err starved) = Unit {0}
+
+-- The stop refuses the file of this name for this reason.
+abbrev pub IsRefusal : List ℕ → List ℕ → Result Stop AllocError → Type 0
+IsRefusal file reason = RefusesWith (refused file reason)

@@ -1,0 +1,55 @@
+ghost use Rattle.std.specs.Prelude.{◌≡◌, ℕ, List, []};
+ghost use Rattle.oat_tool.specs.Pieces.{Makes, text_of_some, turns_of_some, text_of_both, turns_of_both};
+
+use std::alloc::{AllocError, Global};
+
+/// A text that is made piece by piece, each as it is put.
+pub trait Pieces {
+    /// The text that is left.
+    ghost text: { Self → List ℕ };
+
+    /// No fewer than the pieces that are left.
+    ghost turns: { Self → ℕ };
+
+    /// The next piece, if there is one.
+    fn next(&mut self, alloc: Global) -> Result<Option<Vec<u8>>, AllocError>
+        ensures { Makes (text self.old) (text self.new) (turns self.old) (turns self.new) result };
+}
+
+/// A text that may be there.
+impl<P: Pieces + Drop> Pieces for Option<P> {
+    ghost text = { λ some. text_of_some P.text some };
+
+    ghost turns = { λ some. turns_of_some P.turns some };
+
+    fn next(&mut self, alloc: Global) -> Result<Option<Vec<u8>>, AllocError> {
+        match self {
+            Some(pieces) => pieces.next(alloc),
+            None => Ok(None),
+        }
+    }
+}
+
+/// One text and then another.
+#[derive(Debug, Drop)]
+pub struct Then<P, Q> {
+    pub first: P,
+    pub second: Q,
+    pub is_behind: bool,
+}
+
+impl<P: Pieces + Drop, Q: Pieces + Drop> Pieces for Then<P, Q> {
+    ghost text = { λ both. text_of_both both.is_behind (P.text both.first) (Q.text both.second) };
+
+    ghost turns = { λ both. turns_of_both both.is_behind (P.turns both.first) (Q.turns both.second) };
+
+    fn next(&mut self, alloc: Global) -> Result<Option<Vec<u8>>, AllocError> {
+        if !self.is_behind {
+            if let Some(piece) = self.first.next(alloc)? {
+                return Ok(Some(piece));
+            }
+            self.is_behind = true;
+        }
+        self.second.next(alloc)
+    }
+}
