@@ -6,16 +6,16 @@ use Rattle.std.specs.List.{position_or_len}
 use Rattle.oat_a64.specs.Table.{word_of}
 use Rattle.oat_asm.specs.declared.item.Item.{Item}
 use Rattle.oat_asm.specs.declared.item.Item.TheVariants as item
-use Rattle.oat_asm.specs.Items.{word_count, words_needed, place_of, address, code_limit, is_label, StandsOnce, UsedLabelsStandOnce, InstructionsAreInRange, BranchesAreInRange, AddressesHaveRegisters}
+use Rattle.oat_asm.specs.Items.{item_words, words_needed, label_place, address, code_limit, is_label, StandsOnce, UsedLabelsStandOnce, InstructionsAreInRange, BranchesAreInRange, AddressesHaveRegisters}
 use Rattle.oat_asm.specs.Layout.{branch, distance, puts, words_of_item}
-use Rattle.oat_asm.specs.Steps.{place_in, HasPlaces, HasWords}
+use Rattle.oat_asm.specs.Steps.{known_place, HasPlaces, HasWords}
 use Rattle.oat_asm.proofs.Giving.{before_within}
 
-within : (items : List Item) (places : BTreeMap ℕ ℕ) (label : ℕ) → words_needed items ≤ code_limit → HasPlaces items places → StandsOnce items label → place_in places label ≤ code_limit
+within : (items : List Item) (places : BTreeMap ℕ ℕ) (label : ℕ) → words_needed items ≤ code_limit → HasPlaces items places → StandsOnce items label → known_place places label ≤ code_limit
 within items places label small has once =
-    omega (arith, has label once, before_within word_count items (position_or_len (is_label label) items))
+    omega (arith, has label once, before_within item_words items (position_or_len (is_label label) items))
 
-pub has_words : (items : List Item) (places : BTreeMap ℕ ℕ) → UsedLabelsStandOnce items → InstructionsAreInRange items → BranchesAreInRange items → AddressesHaveRegisters items → words_needed items ≤ code_limit → HasPlaces items places → (i : Item) → Contains items i → HasWords (place_in places) i
+pub has_words : (items : List Item) (places : BTreeMap ℕ ℕ) → UsedLabelsStandOnce items → InstructionsAreInRange items → BranchesAreInRange items → AddressesHaveRegisters items → words_needed items ≤ code_limit → HasPlaces items places → (i : Item) → Contains items i → HasWords (known_place places) i
 has_words items places once insts branches registers small has (item.Inst inst) here = insts inst here
 has_words items places once insts branches registers small has (item.BranchTo form label) here =
     (branches form label here, within items places label small has (once.branches form label here))
@@ -23,7 +23,7 @@ has_words items places once insts branches registers small has (item.AddressOf r
     (registers register label here, within items places label small has (once.addresses register label here))
 has_words items places once insts branches registers small has _ here = tt
 
-pub same_words : (items : List Item) (places : BTreeMap ℕ ℕ) (base here : ℕ) → UsedLabelsStandOnce items → HasPlaces items places → (i : Item) → Contains items i → words_of_item (place_in places) base here i ≡ words_of_item (place_of items) base here i
+pub same_words : (items : List Item) (places : BTreeMap ℕ ℕ) (base here : ℕ) → UsedLabelsStandOnce items → HasPlaces items places → (i : Item) → Contains items i → words_of_item (known_place places) base here i ≡ words_of_item (label_place items) base here i
 same_words items places base here once has (item.BranchTo form label) among =
     ap (λ to. word_of (branch form (distance here to)) ∷ []) (has label (once.branches form label among))
 same_words items places base here once has (item.AddressOf register label) among =

@@ -16,7 +16,7 @@ use Rattle.oat_asm.specs.declared.item.Item.TheVariants as item
 use Rattle.oat_asm.specs.declared.note.Note.{Note}
 use Rattle.oat_asm.specs.declared.assembled.LabelAt.{LabelAt}
 use Rattle.oat_asm.specs.declared.assembled.NoteAt.{NoteAt}
-use Rattle.oat_asm.specs.Items.{word_count, words_needed, place, place_of, address, code_limit, is_label, StandsOnce}
+use Rattle.oat_asm.specs.Items.{item_words, words_needed, place, label_place, address, code_limit, is_label, StandsOnce}
 use Rattle.oat_asm.specs.Layout.{branch, distance, words_of_item, labels_of_item, notes_of_item, items_give}
 use Rattle.oat_asm.specs.Laws.{code_of, item_address, ItemsFollowOneAnother, PlacesRise, LayoutsAreOfTwo, LabelsHaveThePlacesOfTheirItems, LabelsStandBehindOthers, WordsStandAtTheirPlaces, BranchesReachPlaces, InstructionsStandAtTheirAddresses, BranchesLeadToTheirLabels, AddressesArePut, LabelsAreListed, NotesAreListed, NotesAreInOrder}
 use Rattle.oat_asm.proofs.Giving.{before_next, before_grows, before_within, gives-append, GivenBy, given_by, gives_at, reads_at}
@@ -28,14 +28,14 @@ use Rattle.oat_asm.proofs.Seen.{count_cons, place_of_cons}
 pub follow : ItemsFollowOneAnother
 follow items k i at =
     let e : k + 1 ≡ suc k = omega arith in
-    ap (place items) e ∙ before_next word_count items k i at
+    ap (place items) e ∙ before_next item_words items k i at
 
 pub rise : PlacesRise
-rise items j k less = (before_grows word_count items j k less, before_within word_count items k)
+rise items j k less = (before_grows item_words items j k less, before_within item_words items k)
 
 pub of_two : LayoutsAreOfTwo
-of_two place_of base =
-    (gives-append word_count (words_of_item place_of base), gives-append word_count (labels_of_item base), gives-append word_count (notes_of_item base))
+of_two label_place base =
+    (gives-append item_words (words_of_item label_place base), gives-append item_words (labels_of_item base), gives-append item_words (notes_of_item base))
 
 -- ---- the place of a label
 
@@ -48,22 +48,22 @@ counted (i ∷ items) zero label h =
     omega (arith, count_cons label i items, c)
 counted (i ∷ items) (suc k) label h = omega (arith, count_cons label i items, counted items k label h)
 
-later_place : (i : Item) (items : List Item) (k label : ℕ) (b : Bool) → is_label label i ≡ b → cond b 1 0 + count_by (is_label label) items ≡ 1 → 1 ≤ count_by (is_label label) items → (StandsOnce items label → place_of items label ≡ place items k) → place_of (i ∷ items) label ≡ word_count i + place items k
+later_place : (i : Item) (items : List Item) (k label : ℕ) (b : Bool) → is_label label i ≡ b → cond b 1 0 + count_by (is_label label) items ≡ 1 → 1 ≤ count_by (is_label label) items → (StandsOnce items label → label_place items label ≡ place items k) → label_place (i ∷ items) label ≡ item_words i + place items k
 later_place i items k label true e once more rest = absurd (omega arith)
 later_place i items k label false e once more rest =
-    place_of_cons i items label false e ∙ ap (λ n. word_count i + n) (rest (omega arith))
+    place_of_cons i items label false e ∙ ap (λ n. item_words i + n) (rest (omega arith))
 
-pub label_place : LabelsHaveThePlacesOfTheirItems
-label_place [] k label once h = absurd cc
-label_place (i ∷ items) zero label once h =
+pub label_placed : LabelsHaveThePlacesOfTheirItems
+label_placed [] k label once h = absurd cc
+label_placed (i ∷ items) zero label once h =
     let e : i ≡ item.Label label = cc in
     place_of_cons i items label true (ap (is_label label) e ∙ eq-eqb label label refl)
-label_place (i ∷ items) (suc k) label once h =
-    later_place i items k label (is_label label i) refl (sym (count_cons label i items) ∙ once) (counted items k label h) (λ o. label_place items k label o h)
+label_placed (i ∷ items) (suc k) label once h =
+    later_place i items k label (is_label label i) refl (sym (count_cons label i items) ∙ once) (counted items k label h) (λ o. label_placed items k label o h)
 
 skipped_by : (x : Item) (xs ys : List Item) (label : ℕ) (b : Bool) → is_label label x ≡ b → cond b 1 0 + count_by (is_label label) xs ≡ 0
-    → (count_by (is_label label) xs ≡ 0 → place_of (xs ++ ys) label ≡ words_needed xs + place_of ys label)
-    → place_of (x ∷ (xs ++ ys)) label ≡ words_needed (x ∷ xs) + place_of ys label
+    → (count_by (is_label label) xs ≡ 0 → label_place (xs ++ ys) label ≡ words_needed xs + label_place ys label)
+    → label_place (x ∷ (xs ++ ys)) label ≡ words_needed (x ∷ xs) + label_place ys label
 skipped_by x xs ys label true e none rest = absurd (omega arith)
 skipped_by x xs ys label false e none rest =
     let later = rest (omega arith) in
@@ -76,11 +76,11 @@ skipped (x ∷ xs) ys label none =
 
 -- ---- words, and the instructions that they encode
 
-words_are_counted : (place_of : ℕ → ℕ) (base here : ℕ) (i : Item) → length (words_of_item place_of base here i) ≡ word_count i
-words_are_counted place_of base here (item.Inst i) = refl
-words_are_counted place_of base here (item.BranchTo form label) = refl
-words_are_counted place_of base here (item.AddressOf register label) = refl
-words_are_counted place_of base here _ = refl
+words_are_counted : (label_place : ℕ → ℕ) (base here : ℕ) (i : Item) → length (words_of_item label_place base here i) ≡ item_words i
+words_are_counted label_place base here (item.Inst i) = refl
+words_are_counted label_place base here (item.BranchTo form label) = refl
+words_are_counted label_place base here (item.AddressOf register label) = refl
+words_are_counted label_place base here _ = refl
 
 pub word_at_place : WordsStandAtTheirPlaces
 word_at_place code p =
@@ -94,10 +94,10 @@ stands fetches code p i range at =
     ap (option_and_then inst_of) (word_at_place code p ∙ at) ∙ (fetches i (word_of i)).1 (range, refl)
 
 -- the r-th instruction of item k
-stands_in : FetchesByTheTable → (items : List Item) (k r : ℕ) (i : Item) (x : Inst) → IsInRange x → slice_get items k ≡ Some i → slice_get (words_of_item (place_of items) code_base (place items k) i) r ≡ Some (word_of x) → instruction_at (code_of items) (address code_base (place items k + r)) ≡ Some x
+stands_in : FetchesByTheTable → (items : List Item) (k r : ℕ) (i : Item) (x : Inst) → IsInRange x → slice_get items k ≡ Some i → slice_get (words_of_item (label_place items) code_base (place items k) i) r ≡ Some (word_of x) → instruction_at (code_of items) (address code_base (place items k + r)) ≡ Some x
 stands_in fetches items k r i x range at has =
     stands fetches (code_of items) (place items k + r) x range
-    (reads_at word_count (words_of_item (place_of items) code_base) (words_are_counted (place_of items) code_base) 0 items k i (place items k) r (place items k + r) (word_of x) at (omega arith) refl has)
+    (reads_at item_words (words_of_item (label_place items) code_base) (words_are_counted (label_place items) code_base) 0 items k i (place items k) r (place items k + r) (word_of x) at (omega arith) refl has)
 
 first_place : (items : List Item) (k : ℕ) → address code_base (place items k + 0) ≡ item_address items k
 first_place items k = omega arith
@@ -125,18 +125,18 @@ pub branches_lead : FetchesByTheTable → BranchesLeadToTheirLabels
 branches_lead fetches items k j form label is_branch once small at labelled =
     let from = place items k in
     let to = place items j in
-    let from_small : from ≤ code_limit = omega (arith, before_within word_count items k) in
-    let to_small : to ≤ code_limit = omega (arith, before_within word_count items j) in
+    let from_small : from ≤ code_limit = omega (arith, before_within item_words items k) in
+    let to_small : to ≤ code_limit = omega (arith, before_within item_words items j) in
     let offset = distance from to in
     let reach = branches_reach form from to is_branch from_small to_small in
-    let word = ap (λ p. Some (word_of (branch form (distance from p)))) (label_place items j label once labelled) in
+    let word = ap (λ p. Some (word_of (branch form (distance from p)))) (label_placed items j label once labelled) in
     let here = stands_in fetches items k 0 (item.BranchTo form label) (branch form offset) reach.0 at word in
     (offset, subst (λ a. instruction_at (code_of items) a ≡ Some (branch form offset)) (first_place items k) here, reach.1)
 
 pub addresses_put : FetchesByTheTable → AddressesArePut
 addresses_put fetches items k j register label few once small at labelled =
-    let to_small : place items j ≤ code_limit = omega (arith, before_within word_count items j) in
-    let e = label_place items j label once labelled in
+    let to_small : place items j ≤ code_limit = omega (arith, before_within item_words items j) in
+    let e = label_placed items j label once labelled in
     let i = item.AddressOf register label in
     let low_range : IsInRange (Movz register 0 (item_address items j % 2 ^ 16)) = (omega arith, (omega arith, (omega arith, tt))) in
     let high_range : IsInRange (Movk register 1 (item_address items j / 2 ^ 16)) = (omega arith, (omega arith, (omega arith, tt))) in
@@ -171,26 +171,26 @@ own_note base here _ n has = absurd (omega (arith, has.1))
 pub labels_listed : LabelsAreListed
 labels_listed items base label at = (
   λ has.
-      let f : GivenBy word_count (labels_of_item base) 0 items (label_at label at) = given_by word_count (labels_of_item base) 0 items (label_at label at) has in
+      let f : GivenBy item_words (labels_of_item base) 0 items (label_at label at) = given_by item_words (labels_of_item base) 0 items (label_at label at) has in
       let own = own_label base f.there f.thing (label_at label at) f.has in
       let there = f.is in
       let placed = own.1 in
       (f.k, f.at ∙ ap Some own.0, omega arith),
   λ listed.
-      gives_at word_count (labels_of_item base) 0 items listed.0 (item.Label label) (place items listed.0) (label_at label at) listed.1 (omega arith)
+      gives_at item_words (labels_of_item base) 0 items listed.0 (item.Label label) (place items listed.0) (label_at label at) listed.1 (omega arith)
       (subst (λ a. Contains (label_at label a ∷ []) (label_at label at)) listed.2 (Contains-push [] (label_at label at))),
 )
 
 pub notes_listed : NotesAreListed
 notes_listed items base at note = (
   λ has.
-      let f : GivenBy word_count (notes_of_item base) 0 items (note_at note at) = given_by word_count (notes_of_item base) 0 items (note_at note at) has in
+      let f : GivenBy item_words (notes_of_item base) 0 items (note_at note at) = given_by item_words (notes_of_item base) 0 items (note_at note at) has in
       let own = own_note base f.there f.thing (note_at note at) f.has in
       let there = f.is in
       let placed = own.1 in
       (f.k, f.at ∙ ap Some own.0, omega arith),
   λ listed.
-      gives_at word_count (notes_of_item base) 0 items listed.0 (item.Note note) (place items listed.0) (note_at note at) listed.1 (omega arith)
+      gives_at item_words (notes_of_item base) 0 items listed.0 (item.Note note) (place items listed.0) (note_at note at) listed.1 (omega arith)
       (subst (λ a. Contains (note_at note a ∷ []) (note_at note at)) listed.2 (Contains-push [] (note_at note at))),
 )
 
@@ -202,7 +202,7 @@ beyond base here (item.Note note ∷ items) zero n at =
     let e = ap (λ (x : NoteAt). x.at) same in
     omega (arith, e)
 beyond base here (item.Note note ∷ items) (suc k) n at = omega (arith, beyond base (here + 0) items k n at)
-beyond base here (i ∷ items) k n at = omega (arith, beyond base (here + word_count i) items k n at)
+beyond base here (i ∷ items) k n at = omega (arith, beyond base (here + item_words i) items k n at)
 
 in_order : (base here : ℕ) (items : List Item) (j k : ℕ) (one other : NoteAt) → j ≤ k
     → slice_get (items_give (notes_of_item base) here items) j ≡ Some one → slice_get (items_give (notes_of_item base) here items) k ≡ Some other → one.at ≤ other.at
@@ -215,7 +215,7 @@ in_order base here (item.Note note ∷ items) (suc j) zero one other less first 
 in_order base here (item.Note note ∷ items) (suc j) (suc k) one other less first second =
     in_order base (here + 0) items j k one other (omega arith) first second
 in_order base here (i ∷ items) j k one other less first second =
-    in_order base (here + word_count i) items j k one other less first second
+    in_order base (here + item_words i) items j k one other less first second
 
 pub notes_in_order : NotesAreInOrder
 notes_in_order items base j k one other less first second =

@@ -11,27 +11,27 @@ use Rattle.oat_asm.specs.declared.item.Item.TheVariants as item
 use Rattle.oat_asm.specs.Giving.{words_in, words_before}
 
 -- an AddressOf has two words, and labels, marks and notes have none
-abbrev pub word_count : Item → ℕ
-word_count (item.Inst inst) = 1
-word_count (item.BranchTo form label) = 1
-word_count (item.AddressOf register label) = 2
-word_count _ = 0
+abbrev pub item_words : Item → ℕ
+item_words (item.Inst inst) = 1
+item_words (item.BranchTo form label) = 1
+item_words (item.AddressOf register label) = 2
+item_words _ = 0
 
 -- how many words the items need
 abbrev pub words_needed : List Item → ℕ
-words_needed items = words_in word_count items
+words_needed items = words_in item_words items
 
 -- the place of item k: how many words stand before it
 abbrev pub place : List Item → ℕ → ℕ
-place items k = words_before word_count items k
+place items k = words_before item_words items k
 
 abbrev pub is_label : ℕ → Item → Bool
 is_label label (item.Label l) = nat_eq l label
 is_label label _ = false
 
 -- the place of the item at which a label stands
-abbrev pub place_of : List Item → ℕ → ℕ
-place_of items label = place items (position_or_len (is_label label) items)
+abbrev pub label_place : List Item → ℕ → ℕ
+label_place items label = place items (position_or_len (is_label label) items)
 
 -- the address of a place: code starts at base, and a word has four bytes
 abbrev pub address : ℕ → ℕ → ℕ

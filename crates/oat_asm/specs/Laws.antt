@@ -10,7 +10,7 @@ use Rattle.oat_asm.specs.declared.note.Note.{Note}
 use Rattle.oat_asm.specs.declared.item.Item.{Item}
 use Rattle.oat_asm.specs.declared.item.Item.TheVariants as item
 use Rattle.oat_asm.specs.declared.assembled.NoteAt.{NoteAt}
-use Rattle.oat_asm.specs.Items.{word_count, words_needed, place, is_label, place_of, address, code_limit, StandsOnce, IsBranch}
+use Rattle.oat_asm.specs.Items.{item_words, words_needed, place, is_label, label_place, address, code_limit, StandsOnce, IsBranch}
 use Rattle.oat_asm.specs.Layout.{branch, distance, words_of_item, labels_of_item, notes_of_item, items_give, layout}
 
 abbrev pub code_of : List Item → List ℕ
@@ -25,7 +25,7 @@ item_address items k = address code_base (place items k)
 -- the next item stands behind the words of this one
 abbrev pub ItemsFollowOneAnother : Type 0
 ItemsFollowOneAnother =
-    (items : List Item) (k : ℕ) (i : Item) → slice_get items k ≡ Some i → place items (k + 1) ≡ place items k + word_count i
+    (items : List Item) (k : ℕ) (i : Item) → slice_get items k ≡ Some i → place items (k + 1) ≡ place items k + item_words i
 
 -- a later item has no lower place, and none lies behind all words
 abbrev pub PlacesRise : Type 0
@@ -38,19 +38,19 @@ GiveInTwo gives =
 
 abbrev pub LayoutsAreOfTwo : Type 0
 LayoutsAreOfTwo =
-    (place_of : ℕ → ℕ) (base : ℕ) → GiveInTwo (words_of_item place_of base) × GiveInTwo (labels_of_item base) × GiveInTwo (notes_of_item base)
+    (label_place : ℕ → ℕ) (base : ℕ) → GiveInTwo (words_of_item label_place base) × GiveInTwo (labels_of_item base) × GiveInTwo (notes_of_item base)
 
 -- ---- labels
 
 -- the place of a label is that of the item at which it stands
 abbrev pub LabelsHaveThePlacesOfTheirItems : Type 0
 LabelsHaveThePlacesOfTheirItems =
-    (items : List Item) (k label : ℕ) → StandsOnce items label → slice_get items k ≡ Some (item.Label label) → place_of items label ≡ place items k
+    (items : List Item) (k label : ℕ) → StandsOnce items label → slice_get items k ≡ Some (item.Label label) → label_place items label ≡ place items k
 
 -- behind items among which a label isn't, it stands where it stands in the rest
 abbrev pub LabelsStandBehindOthers : Type 0
 LabelsStandBehindOthers =
-    (xs ys : List Item) (label : ℕ) → count_by (is_label label) xs ≡ 0 → place_of (xs ++ ys) label ≡ words_needed xs + place_of ys label
+    (xs ys : List Item) (label : ℕ) → count_by (is_label label) xs ≡ 0 → label_place (xs ++ ys) label ≡ words_needed xs + label_place ys label
 
 -- ---- words
 

@@ -11,7 +11,7 @@ use Rattle.oat_asm.specs.declared.assembled.LabelAt.{LabelAt}
 use Rattle.oat_asm.specs.declared.assembled.NoteAt.{NoteAt}
 use Rattle.oat_asm.specs.declared.assembled.Assembled.{Assembled}
 use Rattle.oat_asm.specs.Giving.{gives_from}
-use Rattle.oat_asm.specs.Items.{word_count, place_of, address}
+use Rattle.oat_asm.specs.Items.{item_words, label_place, address}
 
 -- the branch of a form over so many words
 abbrev pub branch : BranchForm → ℤ → Inst
@@ -31,13 +31,13 @@ puts register number = inst.Movz register 0 (number % 2 ^ 16) ∷ inst.Movk regi
 
 -- the instructions of an item at a place, by the place of each label
 abbrev pub instructions : (ℕ → ℕ) → ℕ → ℕ → Item → List Inst
-instructions place_of base here (item.Inst i) = i ∷ []
-instructions place_of base here (item.BranchTo form label) = branch form (distance here (place_of label)) ∷ []
-instructions place_of base here (item.AddressOf register label) = puts register (address base (place_of label))
-instructions place_of base here _ = []
+instructions label_place base here (item.Inst i) = i ∷ []
+instructions label_place base here (item.BranchTo form label) = branch form (distance here (label_place label)) ∷ []
+instructions label_place base here (item.AddressOf register label) = puts register (address base (label_place label))
+instructions label_place base here _ = []
 
 abbrev pub words_of_item : (ℕ → ℕ) → ℕ → ℕ → Item → List ℕ
-words_of_item place_of base here i = map word_of (instructions place_of base here i)
+words_of_item label_place base here i = map word_of (instructions label_place base here i)
 
 abbrev pub labels_of_item : ℕ → ℕ → Item → List LabelAt
 labels_of_item base here (item.Label label) = record { label = label; at = address base here } ∷ []
@@ -49,12 +49,12 @@ notes_of_item base here _ = []
 
 -- what items give, each at its place, the first of them at the place here
 abbrev pub items_give : {A : Type 0} → (ℕ → Item → List A) → ℕ → List Item → List A
-items_give gives here items = gives_from word_count gives here items
+items_give gives here items = gives_from item_words gives here items
 
 abbrev pub layout : List Item → ℕ → Assembled
 layout items base =
     record {
-      code = items_give (words_of_item (place_of items) base) 0 items;
+      code = items_give (words_of_item (label_place items) base) 0 items;
       labels = items_give (labels_of_item base) 0 items;
       notes = items_give (notes_of_item base) 0 items;
     }

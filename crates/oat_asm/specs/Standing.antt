@@ -19,15 +19,15 @@ abbrev pub IsOver : List Row → Row → Type 0
 IsOver rows row = (p : ℕ) → address_of row ≤ p → p < group_end row → row_over rows p ≡ Some row
 
 -- items stand in an image from an address on, by the address of each label
-abbrev pub StandsAt : Image → (ℕ → ℕ) → ℕ → List Item → Type 0
-StandsAt i label p [] = ⊤
-StandsAt i label p (item.Inst x ∷ is) = Stands i.code p x × StandsAt i label (p + 4) is
-StandsAt i label p (item.Label l ∷ is) = (label l ≡ p) × StandsAt i label p is
-StandsAt i label p (item.BranchTo form l ∷ is) = Branches i.code p (branch form) (label l) × StandsAt i label (p + 4) is
-StandsAt i label p (item.AddressOf r l ∷ is) =
-    (Stands i.code p (Movz r 0 (label l % 2 ^ 16)) × Stands i.code (p + 4) (Movk r 1 (label l / 2 ^ 16))) × StandsAt i label (p + 4 + 4) is
-StandsAt i label p (item.Mark m ∷ is) = ⊥
-StandsAt i label p (item.Note n ∷ is) = IsOver i.map.rows (row_of label p n) × StandsAt i label p is
+abbrev pub ItemsStand : Image → (ℕ → ℕ) → ℕ → List Item → Type 0
+ItemsStand i label p [] = ⊤
+ItemsStand i label p (item.Inst x ∷ is) = Stands i.code p x × ItemsStand i label (p + 4) is
+ItemsStand i label p (item.Label l ∷ is) = (label l ≡ p) × ItemsStand i label p is
+ItemsStand i label p (item.BranchTo form l ∷ is) = Branches i.code p (branch form) (label l) × ItemsStand i label (p + 4) is
+ItemsStand i label p (item.AddressOf r l ∷ is) =
+    (Stands i.code p (Movz r 0 (label l % 2 ^ 16)) × Stands i.code (p + 4) (Movk r 1 (label l / 2 ^ 16))) × ItemsStand i label (p + 4 + 4) is
+ItemsStand i label p (item.Mark m ∷ is) = ⊥
+ItemsStand i label p (item.Note n ∷ is) = IsOver i.map.rows (row_of label p n) × ItemsStand i label p is
 
 -- a mark of a cell has the cell's word
 abbrev pub HasItsWord : List ℕ → Mark → Type 0
@@ -39,4 +39,4 @@ HasItsWord cells _ = ⊤
 abbrev pub GroupsAreThoseOfRows : Type 0
 GroupsAreThoseOfRows =
     (i : Image) (label : ℕ → ℕ) (p : ℕ) (m : Mark) → HasItsWord i.cells m
-    → StandsAt i label p (group m) ↔ IsGroup i.code i.cells (row_of label p (note_of m))
+    → ItemsStand i label p (group m) ↔ IsGroup i.code i.cells (row_of label p (note_of m))

@@ -5,15 +5,15 @@ use Rattle.std.specs.BTreeMap.{BTreeMap, get}
 use Rattle.oat_a64.specs.Table.{IsInRange}
 use Rattle.oat_asm.specs.declared.item.Item.{Item}
 use Rattle.oat_asm.specs.declared.item.Item.TheVariants as item
-use Rattle.oat_asm.specs.Items.{StandsOnce, IsBranch, is_label, place_of, code_limit}
+use Rattle.oat_asm.specs.Items.{StandsOnce, IsBranch, is_label, label_place, code_limit}
 
 -- the place that the map has for a label
-abbrev pub place_in : BTreeMap ℕ ℕ → ℕ → ℕ
-place_in places label = unwrap_or (get nat_cmp places label) 0
+abbrev pub known_place : BTreeMap ℕ ℕ → ℕ → ℕ
+known_place places label = unwrap_or (get nat_cmp places label) 0
 
 -- the map has the place of each label that stands once
 abbrev pub HasPlaces : List Item → BTreeMap ℕ ℕ → Type 0
-HasPlaces items places = (label : ℕ) → StandsOnce items label → place_in places label ≡ place_of items label
+HasPlaces items places = (label : ℕ) → StandsOnce items label → known_place places label ≡ label_place items label
 
 -- the map has this place for the item's label, if it is one, and else what it had
 abbrev pub SetsLabel : BTreeMap ℕ ℕ → BTreeMap ℕ ℕ → Item → ℕ → Type 0
@@ -22,7 +22,7 @@ SetsLabel old new i here =
 
 -- what an item's words need, by the place of each label
 abbrev pub HasWords : (ℕ → ℕ) → Item → Type 0
-HasWords place_of (item.Inst inst) = IsInRange inst
-HasWords place_of (item.BranchTo form label) = IsBranch form × (place_of label ≤ code_limit)
-HasWords place_of (item.AddressOf register label) = (register ≤ 30) × (place_of label ≤ code_limit)
-HasWords place_of _ = ⊤
+HasWords label_place (item.Inst inst) = IsInRange inst
+HasWords label_place (item.BranchTo form label) = IsBranch form × (label_place label ≤ code_limit)
+HasWords label_place (item.AddressOf register label) = (register ≤ 30) × (label_place label ≤ code_limit)
+HasWords label_place _ = ⊤

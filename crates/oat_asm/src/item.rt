@@ -1,5 +1,5 @@
 ghost use Rattle.std.specs.Prelude.{◌≡◌};
-ghost use Rattle.oat_asm.specs.Items.{word_count};
+ghost use Rattle.oat_asm.specs.Items.{item_words};
 
 use crate::branch_form::BranchForm;
 use crate::mark::Mark;
@@ -28,7 +28,7 @@ pub type Items = Listed<Item>;
 impl Item {
     /// How many words the item has in code.
     pub(crate) fn word_count(&self) -> u64
-        ensures { result ≡ word_count self.now }
+        ensures { result ≡ item_words self.now }
     {
         match self {
             Item::Inst(_) | Item::BranchTo { .. } => 1,

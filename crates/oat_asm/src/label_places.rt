@@ -2,7 +2,7 @@
 
 ghost use Rattle.std.specs.Prelude.{◌≡◌, ◌≤◌, IfOk, OnOk};
 ghost use Rattle.oat_asm.specs.Items.{words_needed, code_limit};
-ghost use Rattle.oat_asm.specs.Steps.{place_in, HasPlaces, SetsLabel};
+ghost use Rattle.oat_asm.specs.Steps.{known_place, HasPlaces, SetsLabel};
 
 use crate::item::Item;
 use std::alloc::{AllocError, Global};
@@ -13,7 +13,7 @@ pub(crate) type LabelPlaces = BTreeMap<u32, u64>;
 
 /// The place of a label, or 0 where it stands nowhere.
 pub(crate) fn place_of(places: &LabelPlaces, label: u32) -> u64
-    ensures { result ≡ place_in places.now label }
+    ensures { result ≡ known_place places.now label }
 {
     places.get(&label).copied().unwrap_or(0)
 }

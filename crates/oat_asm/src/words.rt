@@ -5,7 +5,7 @@ ghost use Rattle.oat_a64.specs.Table.{word_of};
 ghost use Rattle.oat_a64.specs.Step.{code_base};
 ghost use Rattle.oat_asm.specs.Items.{
   words_needed,
-  place_of,
+  label_place,
   code_limit,
   IsBranch,
   UsedLabelsStandOnce,
@@ -14,7 +14,7 @@ ghost use Rattle.oat_asm.specs.Items.{
   AddressesHaveRegisters,
 };
 ghost use Rattle.oat_asm.specs.Layout.{branch, distance, puts, words_of_item, items_give};
-ghost use Rattle.oat_asm.specs.Steps.{place_in, HasPlaces, HasWords};
+ghost use Rattle.oat_asm.specs.Steps.{known_place, HasPlaces, HasWords};
 
 use crate::branch_form::BranchForm;
 use crate::item::Item;
@@ -37,7 +37,7 @@ pub(crate) fn code(
     requires base { base ≡ code_base }
     requires small { words_needed items.now ≤ code_limit }
     requires places { HasPlaces items.now places.now }
-    ensures { IfOk result (λ code. code.items ≡ items_give (words_of_item (place_of items.now) base) 0 items.now) }
+    ensures { IfOk result (λ code. code.items ≡ items_give (words_of_item (label_place items.now) base) 0 items.now) }
 {
     let mut code = Vec::new(alloc);
     let mut here = 0;
@@ -57,8 +57,8 @@ fn push_words(
 ) -> Result<(), AllocError>
     requires base { base ≡ code_base }
     requires here { here ≤ code_limit }
-    requires item { HasWords (place_in places.now) item.now }
-    ensures { OnOk result (code.new.items ≡ code.old.items ++ words_of_item (place_in places.now) base here item.now) }
+    requires item { HasWords (known_place places.now) item.now }
+    ensures { OnOk result (code.new.items ≡ code.old.items ++ words_of_item (known_place places.now) base here item.now) }
 {
     match *item {
         Item::Inst(inst) => {

@@ -1,5 +1,5 @@
 -- The first broken rule, behind rules that hold.
-use Rattle.std.proofs.Common.{◌≡◌, ℕ, Option, Some, None, Result, Ok, Err, refl}
+use Rattle.std.proofs.Common.{ℕ, Option, Some, None, Result, Ok, Err, refl}
 use Rattle.std.specs.Prelude.{IfOk, MatchOption}
 use Rattle.oat_first.specs.First.{fails, passes}
 use Rattle.oat_image.specs.declared.image.Image.{Image}

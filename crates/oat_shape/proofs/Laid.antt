@@ -1,5 +1,5 @@
 -- What a well-formed image with the shape gives.
-use Rattle.std.proofs.Common.{◌≡◌, ℕ, ◌+◌, ◌*◌, ◌%◌, ◌^◌, ◌<◌, ◌≤◌, ◌⊎◌, Bool, true, List, length, get_or, Contains, Option, Some, None, refl, sym, ap, subst, ◌∙◌, inl, inr, arith}
+use Rattle.std.proofs.Common.{◌≡◌, ℕ, ◌+◌, ◌%◌, ◌^◌, ◌<◌, ◌≤◌, ◌⊎◌, Bool, true, List, length, get_or, Contains, Option, Some, None, refl, sym, ap, subst, ◌∙◌, inl, inr, arith}
 use Rattle.std.specs.Prelude.{find, IsSome}
 use Rattle.std.specs.List.{slice_get}
 use Rattle.std.specs.Option.{option_map}
@@ -10,14 +10,13 @@ use Rattle.oat_a64.specs.declared.inst.Inst.{Inst}
 use Rattle.oat_a64.specs.Step.{word_at}
 use Rattle.oat_map.specs.declared.row.Row.{Row}
 use Rattle.oat_map.specs.declared.row.Row.TheVariants.{Jump, Begin}
-use Rattle.oat_map.specs.Rows.{address_of, after, next, start, begins, is_over, row_over, IsOrdered}
+use Rattle.oat_map.specs.Rows.{address_of, after, start, begins, is_over, row_over, IsOrdered}
 use Rattle.oat_map.proofs.RowLemmas.{next_lowest}
-use Rattle.oat_image.specs.declared.image.Image.{Image}
 use Rattle.oat_image.specs.Grammar.{IsRow, IsIndex}
 use Rattle.oat_shape.specs.Groups.{Stands}
 use Rattle.oat_shape.specs.Shape.{Covers, CutsNoGroup, group_end}
 use Rattle.oat_shape.specs.Parts.{AreApart, AreWithin}
-use Rattle.oat_shape.specs.Laid.{IsNext, IsLaid, ShapedImagesAreLaid, OperationsOpenOnce, OperationsStart}
+use Rattle.oat_shape.specs.Laid.{ShapedImagesAreLaid, OperationsOpenOnce, OperationsStart}
 use Rattle.oat_shape.proofs.Loops.{same_item}
 use Rattle.oat_shape.proofs.Scans.{at_contains, contains_at}
 use Rattle.oat_shape.proofs.LastGroups.{few_words, after_is, between}

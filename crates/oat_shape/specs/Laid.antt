@@ -1,5 +1,5 @@
 -- What a well-formed image with the shape gives (docs/PROMISES.md): how its groups lie in code, of which all that runs or replays it makes use.
-use Rattle.std.specs.Prelude.{◌≡◌, ◌+◌, ◌%◌, ◌^◌, ◌<◌, ◌≤◌, ◌||◌, ℕ, true, List, Contains, Some, IsSome}
+use Rattle.std.specs.Prelude.{◌≡◌, ◌%◌, ◌^◌, ◌<◌, ◌≤◌, ◌||◌, ℕ, true, List, Contains, Some, IsSome}
 use Rattle.oat_a64.specs.declared.inst.Inst.{Inst}
 use Rattle.oat_a64.specs.Kinds.{is_measured, is_transfer}
 use Rattle.oat_map.specs.declared.map.Map.{Map}

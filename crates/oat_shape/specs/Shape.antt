@@ -1,12 +1,11 @@
 -- The shape of an image: eight rules, tested in their order (docs/FORMATS.md, "Shape"). Each says what has to hold at one address; the lowest address where one fails is the one that a refusal names.
-use Rattle.std.specs.Prelude.{◌≡◌, ◌+◌, ◌*◌, ◌<◌, ◌≤◌, ◌⊎◌, ℕ, Bool, true, false, ◌&&◌, ◌||◌, nat_le, IsTrue, List, Some, IsSome, slice_get, Contains}
+use Rattle.std.specs.Prelude.{◌≡◌, ◌+◌, ◌*◌, ◌<◌, ◌≤◌, ◌⊎◌, ℕ, ◌||◌, IsTrue, List, Some, IsSome, slice_get, Contains}
 use Rattle.oat_a64.specs.declared.inst.Inst.{Inst}
 use Rattle.oat_a64.specs.Fetch.{inst_of}
 use Rattle.oat_a64.specs.Kinds.{is_measured, is_transfer}
 use Rattle.oat_a64.specs.Step.{code_base, word_at, instruction_at}
 use Rattle.oat_map.specs.declared.map.Map.{Map}
 use Rattle.oat_map.specs.declared.row.Row.{Row}
-use Rattle.oat_map.specs.declared.row.Row.TheVariants as rows
 use Rattle.oat_map.specs.Rows.{address_of, word_count, after, entries_of, is_call, starts_of}
 use Rattle.oat_image.specs.declared.image.Image.{Image}
 use Rattle.oat_first.specs.First.{Tests}

@@ -1,6 +1,6 @@
 use Rattle.std.proofs.Common.{◌++◌, ap, ◌∙◌}
 use Rattle.std.proofs.lemmas.List.Elements.{Contains-get_or}
-use Rattle.oat_asm.specs.Items.{place_of}
+use Rattle.oat_asm.specs.Items.{label_place}
 use Rattle.oat_asm.specs.Layout.{words_of_item}
 use Rattle.oat_asm.proofs.Loops.{words_on, gives_on}
 use Rattle.oat_asm.proofs.ItemWords.{has_words, same_words}
@@ -20,5 +20,5 @@ loop-item-preserved c =
     let same = same_words it c.args.places.now c.args.base c.loop-item.here r.labels r.places _ (Contains-get_or it c.loop-item.item-index _ test) in
     record {
       words = words_on _ _ _ _ _ _ test c.word_count-here.ensures inv.words;
-      whole = gives_on (words_of_item (place_of it) c.args.base) _ _ _ _ _ _ _ _ test c.word_count-here.ensures inv.whole (c.in_ok-push_words.ensures ∙ ap (λ w. c.loop-item.code.items ++ w) same);
+      whole = gives_on (words_of_item (label_place it) c.args.base) _ _ _ _ _ _ _ _ test c.word_count-here.ensures inv.whole (c.in_ok-push_words.ensures ∙ ap (λ w. c.loop-item.code.items ++ w) same);
     }

@@ -1,5 +1,5 @@
 use Rattle.std.proofs.Common.{◌≡◌, ◌+◌, ◌++◌, drop}
-use Rattle.oat_asm.specs.Items.{words_needed, place_of}
+use Rattle.oat_asm.specs.Items.{words_needed, label_place}
 use Rattle.oat_asm.specs.Layout.{words_of_item, items_give}
 use Rattle.oat_asm.proofs.words.code.Given as goal
 
@@ -7,5 +7,5 @@ abbrev pub invariant-loop-item : goal.invariant-loop-item
 invariant-loop-item l =
     record {
       words : l.here + words_needed (drop l.item-index l.items) ≡ words_needed l.items;
-      whole : l.code.items ++ items_give (words_of_item (place_of l.items) l.base) l.here (drop l.item-index l.items) ≡ items_give (words_of_item (place_of l.items) l.base) 0 l.items;
+      whole : l.code.items ++ items_give (words_of_item (label_place l.items) l.base) l.here (drop l.item-index l.items) ≡ items_give (words_of_item (label_place l.items) l.base) 0 l.items;
     }
