@@ -5,7 +5,7 @@ use Rattle.oat_world.specs.Outside.{Contents, Rose, Adds}
 use Rattle.oat_tool.specs.Outcome.{Outcome, IsPrefix}
 use Rattle.oat_tool.specs.Defined.{SetsOut, Defined}
 use Rattle.oat_tool.specs.DefinedLaws.{IsOfWork}
-use Rattle.oat_tool.specs.Shows.{Put, HasFailed, OrStarved, ended, at_once, behind, Leaves, whole, cut, cut_said, starved_said, Shows}
+use Rattle.oat_tool.specs.Shows.{Put, HasFailed, OrStarved, ended, at_once, behind, IsLeft, whole, cut, cut_said, starved_said, Shows}
 use Rattle.oat_tool.specs.Puts.{PutsFront}
 use Rattle.oat_tool.specs.CallLaws.{ShowsJust, ShowsDefined, WholeIsPut, DefinedIsShown, TheDefinedIsShown, FrontIsPut, RefusalsAreQuiet, ReadFaultsAreTold}
 use Rattle.oat_tool.proofs.Putting.{Adds-none}
@@ -20,7 +20,7 @@ pub data Turns (ending : Outcome → Type 0) (out err : Put) (status : ℕ) : Ty
   wanting : status ≡ 6 → Turns ending out err status
 
 turns_of : (ending : Outcome → Type 0) (out err : Put) (status : ℕ) (put said : List ℕ) → Adds out.held put out.holds → Adds err.held said err.holds
-    → Leaves (OrStarved ending) (HasFailed out) (HasFailed err) status put said → Turns ending out err status
+    → IsLeft (OrStarved ending) (HasFailed out) (HasFailed err) status put said → Turns ending out err status
 turns_of ending out err status put said added added' (whole o (ended meant) same a b) = shown o meant (record {
   same_status = same;
   out_added = subst (λ (x : List ℕ). Adds out.held x out.holds) a added;
@@ -112,7 +112,7 @@ IsPrefix-nothing (x ∷ text) longer (rest, same) none = let e : [] ≡ x ∷ (t
 
 -- what was put is a front of an outcome's text, or nothing
 front_of : (ending : Outcome → Type 0) (out_failed err_failed : Type 0) (status : ℕ) (put said : List ℕ)
-    → Leaves (OrStarved ending) out_failed err_failed status put said → (put ≡ []) ⊎ ((o : Outcome) × ending o × IsPrefix put o.out)
+    → IsLeft (OrStarved ending) out_failed err_failed status put said → (put ≡ []) ⊎ ((o : Outcome) × ending o × IsPrefix put o.out)
 front_of ending a b status put said (whole o (ended meant) s same e) = inr (o, meant, IsPrefix-whole put o.out same)
 front_of ending a b status put said (whole o (at_once is) s same e) = inl (same ∙ ap (λ (x : Outcome). x.out) is)
 front_of ending a b status put said (whole o (behind all meant front six w) s same e) =

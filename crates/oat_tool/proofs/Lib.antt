@@ -1,18 +1,18 @@
-pub mod Beginnings
-pub mod Holding
-pub mod Putting
-pub mod Showing
-pub mod Lists
-pub mod Working
-pub mod Apart
-pub mod Setting
-pub mod Following
-pub mod Answering
-pub mod One
-pub mod Refusing
-pub mod Admitting
-pub mod Records
-pub mod Verifying
-pub mod Running
-pub mod Naming
-pub mod Lines
+mod Beginnings
+mod Holding
+mod Putting
+mod Showing
+mod Lists
+mod Working
+mod Apart
+mod Setting
+mod Following
+mod Answering
+mod One
+mod Refusing
+mod Admitting
+mod Records
+mod Verifying
+mod Running
+mod Naming
+mod Lines

@@ -2,7 +2,7 @@
 use Rattle.std.proofs.Common.{ℕ, List, [], Option, refl}
 use Rattle.oat_world.specs.Outside.{Adds}
 use Rattle.oat_tool.specs.Outcome.{Outcome}
-use Rattle.oat_tool.specs.Shows.{Put, HasFailed, OrStarved, ended, at_once, behind, Leaves, whole, cut, cut_said, starved_said, Shows}
+use Rattle.oat_tool.specs.Shows.{Put, HasFailed, OrStarved, ended, at_once, behind, IsLeft, whole, cut, cut_said, starved_said, Shows}
 use Rattle.oat_tool.specs.Puts.{PutsFront, SaysLast, said, failed, starved}
 use Rattle.oat_tool.proofs.Putting.{Adds-nothing}
 
@@ -32,12 +32,12 @@ OrStarved-more P Q o more (ended meant) = ended (more o meant)
 OrStarved-more P Q o more (at_once e) = at_once e
 OrStarved-more P Q o more (behind all meant front is_six err) = behind all (more all meant) front is_six err
 
-Leaves-more : (P Q : Outcome → Type 0) (out_failed err_failed : Type 0) (status : ℕ) (out err : List ℕ)
-    → ((o : Outcome) → P o → Q o) → Leaves P out_failed err_failed status out err → Leaves Q out_failed err_failed status out err
-Leaves-more P Q out_failed err_failed status out err more (whole o meant a b c) = whole o (more o meant) a b c
-Leaves-more P Q out_failed err_failed status out err more (cut o meant rose a b c) = cut o (more o meant) rose a b c
-Leaves-more P Q out_failed err_failed status out err more (cut_said o meant rose a b c) = cut_said o (more o meant) rose a b c
-Leaves-more P Q out_failed err_failed status out err more (starved_said o meant a b c) = starved_said o (more o meant) a b c
+IsLeft-more : (P Q : Outcome → Type 0) (out_failed err_failed : Type 0) (status : ℕ) (out err : List ℕ)
+    → ((o : Outcome) → P o → Q o) → IsLeft P out_failed err_failed status out err → IsLeft Q out_failed err_failed status out err
+IsLeft-more P Q out_failed err_failed status out err more (whole o meant a b c) = whole o (more o meant) a b c
+IsLeft-more P Q out_failed err_failed status out err more (cut o meant rose a b c) = cut o (more o meant) rose a b c
+IsLeft-more P Q out_failed err_failed status out err more (cut_said o meant rose a b c) = cut_said o (more o meant) rose a b c
+IsLeft-more P Q out_failed err_failed status out err more (starved_said o meant a b c) = starved_said o (more o meant) a b c
 
 pub Shows-more : (P Q : Outcome → Type 0) (out err : Put) (result : ℕ) → ((o : Outcome) → P o → Q o)
     → Shows P out err result → Shows Q out err result
@@ -46,6 +46,6 @@ Shows-more P Q out err result more shows = record {
   said = shows.said;
   out_added = shows.out_added;
   err_added = shows.err_added;
-  stands = Leaves-more (OrStarved P) (OrStarved Q) (HasFailed out) (HasFailed err) result shows.put shows.said
+  stands = IsLeft-more (OrStarved P) (OrStarved Q) (HasFailed out) (HasFailed err) result shows.put shows.said
       (λ o meant. OrStarved-more P Q o more meant) shows.stands;
 }

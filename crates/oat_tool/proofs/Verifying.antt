@@ -25,7 +25,7 @@ use Rattle.oat_tool.specs.Report.{report_of}
 use Rattle.oat_tool.specs.Defined.{Defined}
 use Rattle.oat_tool.specs.DefinedLaws.{IsOfWork}
 use Rattle.oat_tool.specs.Verify.{Concludes, Verifies}
-use Rattle.oat_tool.specs.VerifyLaws.{IsJudged, IsReported, AcceptanceIsReported, RefusalIsReported, VerdictIsSealed, OneVerification}
+use Rattle.oat_tool.specs.VerifyLaws.{IsJudged, ReportsVerdict, AcceptanceIsReported, RefusalIsReported, VerdictIsSealed, OneVerification}
 use Rattle.oat_tool.specs.Works.{StopsWith}
 use Rattle.oat_tool.specs.Shows.{Put}
 use Rattle.oat_tool.specs.Call.{Read, IsCall}
@@ -80,7 +80,7 @@ one_verification (image ∷ case ∷ blob ∷ other ∷ files) a b one two = abs
 -- A verdict was reached, whose report the answer is.
 record Reached (words : List (List ℕ)) (contents : Contents) (o : Outcome) : Type 0 where
   verdict : Verdict
-  reported : IsReported words contents verdict o
+  reported : ReportsVerdict words contents verdict o
 
 judging_reached : (words : List (List ℕ)) (contents : Contents) (image case blob : File) (a : Answer)
     → AreLoaded contents (files_of words Verify) (image ∷ case ∷ blob ∷ []) → (i : Image) (c : Case) → AreAdmitted image case i c
@@ -124,17 +124,17 @@ outcome_reached words contents o asked defined work =
     (reached words contents answered.files answered.answer answered.held answered.given
     (λ two. work_is_done o.status work (ap (λ (p : Outcome). p.status) answered.is ∙ two)))
 
-accepts : (words : List (List ℕ)) (contents : Contents) (verdict : Verdict) (o : Outcome) → IsReported words contents verdict o → o.status ≡ 0
-    → (path : List Edge) × IsReported words contents (Accept path) o
+accepts : (words : List (List ℕ)) (contents : Contents) (verdict : Verdict) (o : Outcome) → ReportsVerdict words contents verdict o → o.status ≡ 0
+    → (path : List Edge) × ReportsVerdict words contents (Accept path) o
 accepts words contents (Accept path) o reported zeroth = (path, reported)
 accepts words contents (Refuse cause) o reported zeroth = absurd (omega (arith, zeroth, ap (λ (p : Outcome). p.status) reported.is))
 
-refuses : (words : List (List ℕ)) (contents : Contents) (verdict : Verdict) (o : Outcome) → IsReported words contents verdict o → o.status ≡ 1
-    → (cause : Cause) × IsReported words contents (Refuse cause) o
+refuses : (words : List (List ℕ)) (contents : Contents) (verdict : Verdict) (o : Outcome) → ReportsVerdict words contents verdict o → o.status ≡ 1
+    → (cause : Cause) × ReportsVerdict words contents (Refuse cause) o
 refuses words contents (Accept path) o reported first = absurd (omega (arith, first, ap (λ (p : Outcome). p.status) reported.is))
 refuses words contents (Refuse cause) o reported first = (cause, reported)
 
-never_unsealed : (words : List (List ℕ)) (contents : Contents) (verdict : Verdict) (o : Outcome) → IsReported words contents verdict o → o.status ≡ 7 → ⊥
+never_unsealed : (words : List (List ℕ)) (contents : Contents) (verdict : Verdict) (o : Outcome) → ReportsVerdict words contents verdict o → o.status ≡ 7 → ⊥
 never_unsealed words contents (Accept path) o reported seven = omega (arith, seven, ap (λ (p : Outcome). p.status) reported.is)
 never_unsealed words contents (Refuse cause) o reported seven = omega (arith, seven, ap (λ (p : Outcome). p.status) reported.is)
 
@@ -160,7 +160,7 @@ judged_holds words contents image path judged = λ begin_at begins.
     judged.bytes path ((acceptance_at_once (subject_of image judged.c.session) judged.bytes path).0 judged.right)
 
 acceptance : (words : List (List ℕ)) (contents : Contents) (o : Outcome) (out err : Put) (status : ℕ) → ShowsJust o out err status
-    → (path : List Edge) × IsReported words contents (Accept path) o → ShowsAcceptance words contents out err status
+    → (path : List Edge) × ReportsVerdict words contents (Accept path) o → ShowsAcceptance words contents out err status
 acceptance words contents o out err status just (path, reported) = record {
   path = path;
   shows = record {

@@ -13,11 +13,11 @@ pub record Read : Type 0 where
   pub before : ℕ
   pub after : ℕ
 
-abbrev pub read : {F : Type 0} → (F → Option Contents) → (F → ℕ) → F → F → Read
-read told faults old new = record { told = told old; before = faults old; after = faults new }
+abbrev pub read_of : {F : Type 0} → (F → Option Contents) → (F → ℕ) → F → F → Read
+read_of told faults old new = record { told = told old; before = faults old; after = faults new }
 
-abbrev pub put : {S : Type 0} → (S → Option (List ℕ)) → (S → ℕ) → S → S → Put
-put told faults old new = record { held = told old; holds = told new; before = faults old; after = faults new }
+abbrev pub put_of : {S : Type 0} → (S → Option (List ℕ)) → (S → ℕ) → S → S → Put
+put_of told faults old new = record { held = told old; holds = told new; before = faults old; after = faults new }
 
 -- Where contents are told, the call shows the outcome that it set out for.
 abbrev pub IsCall : List (List ℕ) → Read → Put → Put → ℕ → Type 0

@@ -5,10 +5,10 @@ use Rattle.std.specs.declared.alloc.Global.{Global}
 use Rattle.std.specs.declared.alloc.AllocError.{AllocError}
 
 -- The next piece stands in front of what is left; or nothing is left; or memory was wanting, and nothing is said.
-abbrev pub Makes : (text left : List ℕ) (turns less : ℕ) → Result (Option (Vec ℕ Global)) AllocError → Type 0
-Makes text left turns less (Ok (Some piece)) = (text ≡ piece.items ++ left) × (less < turns)
-Makes text left turns less (Ok None) = text ≡ []
-Makes text left turns less (Err starved) = Unit {0}
+abbrev pub MakesPiece : (text left : List ℕ) (turns less : ℕ) → Result (Option (Vec ℕ Global)) AllocError → Type 0
+MakesPiece text left turns less (Ok (Some piece)) = (text ≡ piece.items ++ left) × (less < turns)
+MakesPiece text left turns less (Ok None) = text ≡ []
+MakesPiece text left turns less (Err starved) = Unit {0}
 
 -- a text that may be there
 abbrev pub text_of_some : {P : Type 0} → (P → List ℕ) → Option P → List ℕ

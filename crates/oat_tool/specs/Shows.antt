@@ -23,15 +23,15 @@ pub data OrStarved (ending : Outcome → Type 0) (o : Outcome) : Type 0 where
       → OrStarved ending o
 
 -- The status and what was put: the whole outcome, or what stood before a put failed.
-pub data Leaves (ending : Outcome → Type 0) (out_failed err_failed : Type 0) (status : ℕ) (out err : List ℕ) : Type 0 where
+pub data IsLeft (ending : Outcome → Type 0) (out_failed err_failed : Type 0) (status : ℕ) (out err : List ℕ) : Type 0 where
   whole : (o : Outcome) → ending o → status ≡ o.status → out ≡ o.out → err ≡ o.err
-      → Leaves ending out_failed err_failed status out err
+      → IsLeft ending out_failed err_failed status out err
   cut : (o : Outcome) → ending o → out_failed → status ≡ 5 → IsPrefix out o.out → err ≡ []
-      → Leaves ending out_failed err_failed status out err
+      → IsLeft ending out_failed err_failed status out err
   cut_said : (o : Outcome) → ending o → err_failed → status ≡ 5 → out ≡ o.out → IsPrefix err o.err
-      → Leaves ending out_failed err_failed status out err
+      → IsLeft ending out_failed err_failed status out err
   starved_said : (o : Outcome) → ending o → status ≡ 6 → out ≡ o.out → IsPrefix err o.err
-      → Leaves ending out_failed err_failed status out err
+      → IsLeft ending out_failed err_failed status out err
 
 -- A call shows an ending: these bytes were added to each output, with this status.
 pub record Shows (ending : Outcome → Type 0) (out err : Put) (status : ℕ) : Type 0 where
@@ -39,4 +39,4 @@ pub record Shows (ending : Outcome → Type 0) (out err : Put) (status : ℕ) : 
   pub said : List ℕ
   pub out_added : Adds out.held put out.holds
   pub err_added : Adds err.held said err.holds
-  pub stands : Leaves (OrStarved ending) (HasFailed out) (HasFailed err) status put said
+  pub stands : IsLeft (OrStarved ending) (HasFailed out) (HasFailed err) status put said

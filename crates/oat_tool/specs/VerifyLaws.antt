@@ -34,7 +34,7 @@ pub record IsJudged (words : List (List ℕ)) (contents : Contents) (i : Image) 
   pub right : IsVerdict (subject_of i c.session) bytes verdict
 
 -- A verdict was reached, and the outcome is its report.
-pub record IsReported (words : List (List ℕ)) (contents : Contents) (verdict : Verdict) (o : Outcome) : Type 0 where
+pub record ReportsVerdict (words : List (List ℕ)) (contents : Contents) (verdict : Verdict) (o : Outcome) : Type 0 where
   pub image : Image
   pub judged : IsJudged words contents image verdict
   pub is : o ≡ as_outcome (report_of image.map verdict)
@@ -42,12 +42,12 @@ pub record IsReported (words : List (List ℕ)) (contents : Contents) (verdict :
 -- Status 0 is an acceptance.
 abbrev pub AcceptanceIsReported : Type 0
 AcceptanceIsReported = (words : List (List ℕ)) (contents : Contents) (o : Outcome) → IsLine words Verify → Defined words contents o
-    → o.status ≡ 0 → (path : List Edge) × IsReported words contents (Accept path) o
+    → o.status ≡ 0 → (path : List Edge) × ReportsVerdict words contents (Accept path) o
 
 -- Status 1 is a verdict that refuses.
 abbrev pub RefusalIsReported : Type 0
 RefusalIsReported = (words : List (List ℕ)) (contents : Contents) (o : Outcome) → IsLine words Verify → Defined words contents o
-    → o.status ≡ 1 → (cause : Cause) × IsReported words contents (Refuse cause) o
+    → o.status ≡ 1 → (cause : Cause) × ReportsVerdict words contents (Refuse cause) o
 
 -- A verdict doesn't end with status 7.
 abbrev pub VerdictIsSealed : Type 0

@@ -1,13 +1,18 @@
 -- What the work of a command, and the loads before it, end with (docs/DEFINITIONS.md).
-use Rattle.std.specs.Prelude.{◌≡◌, ℕ, List, Result, Ok, Err}
+use Rattle.std.specs.Prelude.{◌≡◌, ℕ, List, Some, None, Result, Ok, Err, MatchResult, IfErr}
+use Rattle.std.specs.declared.vec.Vec.{Vec}
+use Rattle.std.specs.declared.alloc.Global.{Global}
 use Rattle.std.specs.declared.alloc.AllocError.{AllocError}
 use Rattle.oat_tool.specs.declared.page.Page.{Page}
 use Rattle.oat_tool.specs.declared.page.Stop.{Stop}
 use Rattle.oat_tool.specs.declared.page.Stop.TheVariants as stop
 use Rattle.oat_tool.specs.declared.page.Halt.{Halt}
 use Rattle.oat_tool.specs.declared.page.Halt.TheVariants as halt
+use Rattle.oat_world.specs.Outside.{Contents, Rose}
 use Rattle.oat_tool.specs.Outcome.{Outcome, says}
 use Rattle.oat_tool.specs.Answer.{Answer, shows, refuses, refused, as_outcome}
+use Rattle.oat_tool.specs.Loads.{Wanted, File, IsLoaded, LoadFails, AreLoaded, LoadsFail}
+use Rattle.oat_tool.specs.Call.{Read}
 
 -- Work that stops early refuses an input so, or memory was wanting.
 abbrev pub StopsWith : (Answer → Type 0) → Stop → Type 0
@@ -35,6 +40,23 @@ abbrev pub IsReadFault : Halt → Type 0
 IsReadFault (halt.ReadFault text) = Unit {0}
 IsReadFault (halt.Refused text) = ⊥
 IsReadFault halt.Starved = ⊥
+
+-- Where contents are told, a load gives the file that was wanted, or ends as it may.
+abbrev pub LoadsFile : Wanted → Read → Result File Halt → Type 0
+LoadsFile wanted files result =
+    (contents : Contents) → files.told ≡ Some contents
+    → MatchResult result (IsLoaded contents wanted) (HaltsWith (LoadFails contents (Rose files.before files.after) wanted))
+
+-- Where contents are told, loads give the files that were wanted, or end as the first that fails may.
+abbrev pub LoadsFiles : List Wanted → Read → Result (Vec File Global) Halt → Type 0
+LoadsFiles wanted files result =
+    (contents : Contents) → files.told ≡ Some contents
+    → MatchResult result (λ loaded. AreLoaded contents wanted loaded.items)
+    (HaltsWith (LoadsFail contents (Rose files.before files.after) wanted))
+
+-- Where nothing is told, a load fails as a read only where the count of faults rose.
+abbrev pub FaultsRose : {X : Type 0} → Read → Result X Halt → Type 0
+FaultsRose files result = files.told ≡ None → IfErr result (λ halt. IsReadFault halt → Rose files.before files.after)
 
 -- the answer that a page stands for
 abbrev pub answer_in : {P : Type 0} → (P → List ℕ) → Page P → Answer

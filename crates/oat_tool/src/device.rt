@@ -69,7 +69,7 @@ fn unsealed_page(alloc: Global, lines: RunLines) -> Result<Page<RunAndBlob>, All
     })
 }
 
-/// Makes the measured run of a case, and gives its page.
+/// MakesPiece the measured run of a case, and gives its page.
 fn run_case(alloc: Global, shaped: &Shaped, case: &Case) -> Result<Page<RunAndBlob>, AllocError>
     requires well_formed { IsWellFormedCase case.now }
     requires operation { IsOperation shaped.now.map case.now.session.op }

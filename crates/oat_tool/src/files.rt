@@ -1,10 +1,10 @@
-ghost use Rattle.std.specs.Prelude.{◌≡◌, ◌≤◌, ℕ, List, length, map, None, Some, IfOk, IfErr, MatchResult};
+ghost use Rattle.std.specs.Prelude.{◌≡◌, ◌≤◌, length, map, IfOk};
 ghost use Rattle.std.specs.String.{string_bytes};
-ghost use Rattle.oat_world.specs.Outside.{Contents, Rose};
 ghost use Rattle.oat_tool.specs.Texts.{read_fault, too_long};
 ghost use Rattle.oat_tool.specs.Outcome.{says};
-ghost use Rattle.oat_tool.specs.Loads.{IsLoaded, LoadFails, AreLoaded, LoadsFail, wanted_of};
-ghost use Rattle.oat_tool.specs.Works.{HaltsWith, IsReadFault};
+ghost use Rattle.oat_tool.specs.Loads.{wanted_of};
+ghost use Rattle.oat_tool.specs.Call.{read_of};
+ghost use Rattle.oat_tool.specs.Works.{LoadsFile, LoadsFiles, FaultsRose};
 
 use crate::page::Halt;
 use oat_world::{Files, LoadFault};
@@ -65,10 +65,8 @@ fn load_one<F: Files>(alloc: Global, files: &mut F, name: &str, limit: usize) ->
     ensures same { F.told files.new ≡ F.told files.old }
     ensures faults_stay { F.faults files.old ≤ F.faults files.new }
     ensures limited { IfOk result (λ file. file.limit ≡ limit) }
-    ensures loads { (contents : Contents) → F.told files.old ≡ Some contents → MatchResult result
-        (IsLoaded contents (record { name = name.now; limit = limit }))
-        (HaltsWith (LoadFails contents (Rose (F.faults files.old) (F.faults files.new)) (record { name = name.now; limit = limit }))) }
-    ensures untold { F.told files.old ≡ None → IfErr result (λ halt. IsReadFault halt → Rose (F.faults files.old) (F.faults files.new)) }
+    ensures loads { LoadsFile (record { name = name.now; limit = limit }) (read_of F.told F.faults files.old files.new) result }
+    ensures untold { FaultsRose (read_of F.told F.faults files.old files.new) result }
 {
     match files.load(alloc, name, limit) {
         Ok(text) => Ok(File {
@@ -93,10 +91,8 @@ pub fn load_all<F: Files>(
     ensures same { F.told files.new ≡ F.told files.old }
     ensures faults_stay { F.faults files.old ≤ F.faults files.new }
     ensures limited { IfOk result (λ loaded. map (λ file. file.limit) loaded.items ≡ limits.now) }
-    ensures loads { (contents : Contents) → F.told files.old ≡ Some contents → MatchResult result
-        (λ loaded. AreLoaded contents (wanted_of (map string_bytes names.now) limits.now) loaded.items)
-        (HaltsWith (LoadsFail contents (Rose (F.faults files.old) (F.faults files.new)) (wanted_of (map string_bytes names.now) limits.now))) }
-    ensures untold { F.told files.old ≡ None → IfErr result (λ halt. IsReadFault halt → Rose (F.faults files.old) (F.faults files.new)) }
+    ensures loads { LoadsFiles (wanted_of (map string_bytes names.now) limits.now) (read_of F.told F.faults files.old files.new) result }
+    ensures untold { FaultsRose (read_of F.told F.faults files.old files.new) result }
 {
     let mut loaded = Vec::new(alloc);
     for k in 0..limits.len() {

@@ -1,5 +1,5 @@
 ghost use Rattle.std.specs.Prelude.{◌≡◌, ℕ, List, []};
-ghost use Rattle.oat_tool.specs.Pieces.{Makes, text_of_some, turns_of_some, text_of_both, turns_of_both};
+ghost use Rattle.oat_tool.specs.Pieces.{MakesPiece, text_of_some, turns_of_some, text_of_both, turns_of_both};
 
 use std::alloc::{AllocError, Global};
 
@@ -13,7 +13,7 @@ pub trait Pieces {
 
     /// The next piece, if there is one.
     fn next(&mut self, alloc: Global) -> Result<Option<Vec<u8>>, AllocError>
-        ensures { Makes (text self.old) (text self.new) (turns self.old) (turns self.new) result };
+        ensures { MakesPiece (text self.old) (text self.new) (turns self.old) (turns self.new) result };
 }
 
 /// A text that may be there.

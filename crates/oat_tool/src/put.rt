@@ -5,7 +5,7 @@ ghost use Rattle.oat_tool.specs.Texts.{starved};
 ghost use Rattle.oat_tool.specs.Answer.{shows, as_outcome};
 ghost use Rattle.oat_tool.specs.Puts.{PutsAll, SaysLast};
 ghost use Rattle.oat_tool.specs.Shows.{Shows};
-ghost use Rattle.oat_tool.specs.Call.{put};
+ghost use Rattle.oat_tool.specs.Call.{put_of};
 ghost use Rattle.oat_tool.specs.Works.{IsOutcomeOf};
 
 use crate::page::{Page, Stop};
@@ -23,7 +23,7 @@ const STARVED: &[u8] = b"want of memory\n";
 
 /// Puts a whole text, one front after another, until a put fails.
 fn put_all<S: Sink>(sink: &mut S, text: &[u8]) -> Result<(), SinkFault>
-    ensures { PutsAll text.now (put S.told S.faults sink.old sink.new) result }
+    ensures { PutsAll text.now (put_of S.told S.faults sink.old sink.new) result }
 {
     let mut done = 0;
     while done < text.len() {
@@ -38,7 +38,7 @@ fn put_pieces<S: Sink, P: Pieces + Drop>(
     sink: &mut S,
     pieces: P,
 ) -> Result<(), SinkFault>
-    ensures { PutsAll (P.text pieces) (put S.told S.faults sink.old sink.new) result }
+    ensures { PutsAll (P.text pieces) (put_of S.told S.faults sink.old sink.new) result }
 {
     let mut rest = pieces;
     loop {
@@ -52,7 +52,7 @@ fn put_pieces<S: Sink, P: Pieces + Drop>(
 
 /// Puts the last text of a call, and answers the call's status.
 pub fn say<E: Sink>(err: &mut E, text: &[u8], status: u8) -> u8
-    ensures says { SaysLast text.now (put E.told E.faults err.old err.new) status result }
+    ensures says { SaysLast text.now (put_of E.told E.faults err.old err.new) status result }
     ensures write_fault { result ≡ 5 → (status ≡ 5) ⊎ Rose (E.faults err.old) (E.faults err.new) }
     ensures raised { E.faults err.old < E.faults err.new → result ≡ 5 }
     ensures read_fault { result ≡ 4 → status ≡ 4 }
@@ -66,7 +66,7 @@ pub fn say<E: Sink>(err: &mut E, text: &[u8], status: u8) -> u8
 
 /// SaysLast that memory is wanting.
 pub fn say_starved<E: Sink>(err: &mut E) -> u8
-    ensures says { SaysLast starved.err (put E.told E.faults err.old err.new) starved.status result }
+    ensures says { SaysLast starved.err (put_of E.told E.faults err.old err.new) starved.status result }
     ensures write_fault { result ≡ 5 → Rose (E.faults err.old) (E.faults err.new) }
     ensures raised { E.faults err.old < E.faults err.new → result ≡ 5 }
     ensures no_fault { result ≢ 4 }
@@ -82,7 +82,7 @@ fn put_page<P: Pieces + Drop, O: Sink, E: Sink>(
     err: &mut E,
 ) -> u8
     ensures shows { Shows (λ o. o ≡ as_outcome (shows page.ended (P.text page.pieces) page.err.items))
-        (put O.told O.faults out.old out.new) (put E.told E.faults err.old err.new) result }
+        (put_of O.told O.faults out.old out.new) (put_of E.told E.faults err.old err.new) result }
     ensures write_fault { result ≡ 5 → Rose (O.faults out.old) (O.faults out.new) ⊎ Rose (E.faults err.old) (E.faults err.new) }
     ensures raised { (O.faults out.old < O.faults out.new) ⊎ (E.faults err.old < E.faults err.new) → result ≡ 5 }
     ensures no_fault { result ≢ 4 }
@@ -102,7 +102,7 @@ pub fn finish<P: Pieces + Drop, O: Sink, E: Sink>(
     err: &mut E,
 ) -> u8
     ensures shows { Shows (IsOutcomeOf P.text work)
-        (put O.told O.faults out.old out.new) (put E.told E.faults err.old err.new) result }
+        (put_of O.told O.faults out.old out.new) (put_of E.told E.faults err.old err.new) result }
     ensures write_fault { result ≡ 5 → Rose (O.faults out.old) (O.faults out.new) ⊎ Rose (E.faults err.old) (E.faults err.new) }
     ensures raised { (O.faults out.old < O.faults out.new) ⊎ (E.faults err.old < E.faults err.new) → result ≡ 5 }
     ensures no_fault { result ≢ 4 }

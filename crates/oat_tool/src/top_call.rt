@@ -4,7 +4,7 @@ ghost use Rattle.oat_tool.specs.Commands.{limits_of};
 ghost use Rattle.oat_tool.specs.Answer.{IsAnswered};
 ghost use Rattle.oat_tool.specs.Defined.{Does};
 ghost use Rattle.oat_tool.specs.Shows.{Shows};
-ghost use Rattle.oat_tool.specs.Call.{read, put, Ran};
+ghost use Rattle.oat_tool.specs.Call.{read_of, put_of, Ran};
 ghost use Rattle.oat_tool.specs.Headline.{Headlined};
 
 use crate::asked::{command_of, names_of};
@@ -28,7 +28,7 @@ fn work<O: Sink, E: Sink>(
     err: &mut E,
 ) -> u8
     requires { map (λ file. file.limit) files.now ≡ limits_of command }
-    ensures shows { Shows (IsAnswered (Does command files.now)) (put O.told O.faults out.old out.new) (put E.told E.faults err.old err.new) result }
+    ensures shows { Shows (IsAnswered (Does command files.now)) (put_of O.told O.faults out.old out.new) (put_of E.told E.faults err.old err.new) result }
     ensures write_fault { result ≡ 5 → Rose (O.faults out.old) (O.faults out.new) ⊎ Rose (E.faults err.old) (E.faults err.new) }
     ensures raised { (O.faults out.old < O.faults out.new) ⊎ (E.faults err.old < E.faults err.new) → result ≡ 5 }
     ensures no_fault { result ≢ 4 }
@@ -51,14 +51,14 @@ pub fn run<F: Files, O: Sink, E: Sink>(
     err: &mut E,
 ) -> u8
     // What is defined for the words and the files' contents, which outcome was set out for, and how it was put.
-    ensures answer { Ran words.now (read F.told F.faults files.old files.new)
-        (put O.told O.faults out.old out.new) (put E.told E.faults err.old err.new) result }
+    ensures answer { Ran words.now (read_of F.told F.faults files.old files.new)
+        (put_of O.told O.faults out.old out.new) (put_of E.told E.faults err.old err.new) result }
     // The headline: when the verifier accepts the blob of a device run, whatever was written into data memory between
     // its instructions, the path it prints is the path that the run executed in the operation, and each checked critical
     // use there read its last defined value, or the run's return sequence and the replay's exhibit two different
     // messages with one SHA-256 digest.
-    ensures headline { Headlined words.now (read F.told F.faults files.old files.new)
-        (put O.told O.faults out.old out.new) (put E.told E.faults err.old err.new) result }
+    ensures headline { Headlined words.now (read_of F.told F.faults files.old files.new)
+        (put_of O.told O.faults out.old out.new) (put_of E.told E.faults err.old err.new) result }
     // Where files don't tell what they hold, status 4 comes only where their count of faults rose.
     ensures read_fault { F.told files.old ≡ None → result ≡ 4 → Rose (F.faults files.old) (F.faults files.new) }
     // Status 5 comes where the count of a sink rose, or stands at its end, and always where one is higher than before.
