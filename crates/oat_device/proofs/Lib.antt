@@ -1,5 +1,6 @@
-pub mod WritesDue
-pub mod Spacing
-pub mod Rooms
-pub mod Starting
-pub mod Runs
+mod WritesDue
+mod Spacing
+mod Rooms
+mod Starting
+mod Runs
+pub mod Whole

@@ -1,3 +1,4 @@
+pub mod DeviceRun
 pub mod Standing
 pub mod Records
 pub mod Bare

@@ -22,16 +22,8 @@ use Rattle.oat_shape.specs.Shape.{IsShaped}
 use Rattle.oat_map.specs.Rows.{BeginsAt}
 use Rattle.oat_device.specs.declared.course.Course.{Course}
 use Rattle.oat_device.specs.Bare.{DoesFrom, running_of}
-use Rattle.oat_journal.specs.Measured.{IsOpenedFor, Run, body_of, dev}
+use Rattle.oat_journal.specs.Measured.{dev, opening_of}
 use Rattle.oat_journal.specs.Progress.{Progress, progress_of_run}
-
--- how a run ended; without an end it is out of steps
-abbrev pub end_of : Run → DeviceEnd
-end_of run = elim run.end [ None ↦ OutOfSteps | Some why ↦ why ]
-
--- the body that a measurement state gives
-abbrev pub reported : Monitored → Body
-reported shown = body_of shown.opening (state_at sealed shown)
 
 -- ---- what a device's values stand for
 
@@ -80,21 +72,16 @@ pub record IsReady (device : Course) : Type 0 where
 
 -- ---- standing
 
--- The device has made the measured run of at most n instructions of this image, with this case's session, inputs and writes.
-pub record Stands (device : Course) (image : Image) (case : Case) (n : ℕ) : Type 0 where
-  pub shaped : IsShaped image
+-- for how many instructions the run is made: a run that ended is the one of all steps
+abbrev pub turns_of : Course → ℕ
+turns_of device = elim device.bare.end [ None ↦ device.bare.made | Some why ↦ device.steps ]
+
+-- The device has made the measured run of so many instructions of this image, with this case's session, inputs and writes, whose window opens there.
+pub record HasMade (device : Course) (image : Image) (case : Case) (begin_at : ℕ) : Type 0 where
+  pub ready : IsReady device
   pub code : device.bare.code.now ≡ image.code
   pub steps : device.steps ≡ case.steps
-  pub within : n ≤ case.steps
-  pub opening : Opening
-  pub opens : IsOpenedFor image case.session opening
-  pub measures : engine_opening device.engine ≡ Some opening
-  pub run : progress_of device ≡ progress_of_run (dev image opening case.inputs case.writes n)
-  pub going : device.bare.end ≡ None → device.bare.made ≡ n
+  pub within : device.bare.made ≤ device.steps
+  pub measures : engine_opening device.engine ≡ Some (opening_of image case.session begin_at)
+  pub run : progress_of device ≡ progress_of_run (dev image (opening_of image case.session begin_at) case.inputs case.writes (turns_of device))
   pub writes : DoesFrom device.bare.made device.bare.writes.now case.writes
-
--- What is claimed of the run for which a device stands, and of what its window is opened for.
-abbrev pub OfItsRun : Course → (Opening → Run → Type 0) → Type 0
-OfItsRun device Claim =
-    (image : Image) (case : Case) (n : ℕ) (o : Opening) → Stands device image case n → IsOpenedFor image case.session o
-    → Claim o (dev image o case.inputs case.writes n)

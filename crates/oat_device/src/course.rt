@@ -1,13 +1,11 @@
 //! The run of a device in the making: turn by turn the bare run, and the monitor that takes its calls.
-ghost use Rattle.std.specs.Prelude.{◌≡◌, ◌<◌, ◌≤◌, ◌+◌, ℕ, IsSome, None, Some};
-ghost use Rattle.oat_case.specs.declared.case.Case.{Case as CaseGiven};
+ghost use Rattle.std.specs.Prelude.{◌≡◌, ◌<◌, ◌≤◌, ◌+◌, IsSome, None, Some};
 ghost use Rattle.oat_cpu.specs.Processor.{regs_of};
-ghost use Rattle.oat_image.specs.declared.image.Image.{Image as ImageGiven};
 ghost use Rattle.oat_measure.specs.declared.opening.Opening.{Opening as OpeningGiven};
 ghost use Rattle.oat_measure.specs.Measurement.{measured};
 ghost use Rattle.oat_device.specs.Bare.{DoesFrom};
 ghost use Rattle.oat_device.specs.Records.{bits_taken, targets_taken};
-ghost use Rattle.oat_device.specs.Standing.{IsReady, OfItsRun, Stands, end_of, engine_opening, progress_of, spare_bits, spare_targets, state_of};
+ghost use Rattle.oat_device.specs.Standing.{IsReady, engine_opening, progress_of, spare_bits, spare_targets, state_of};
 ghost use Rattle.oat_journal.specs.Progress.{with_measurement, call_told, measured_turn};
 
 use crate::bare::BareRun;
@@ -56,8 +54,8 @@ impl<'a> Course<'a> {
         }
     }
 
-    // Makes the writes that are due, the next instruction, and the measurement of its monitor call.
-    fn turn(&mut self)
+    /// Makes the writes that are due, the next instruction, and the measurement of its monitor call.
+    pub fn turn(&mut self)
         requires going { self.old.bare.end ≡ None }
         requires left { self.old.bare.made < self.old.steps }
         requires ready { IsReady self.old }
@@ -74,22 +72,5 @@ impl<'a> Course<'a> {
         if let Some(call) = call_told(event, &found) {
             self.tell(call);
         }
-    }
-
-    /// Makes the run up to its end or the last of its steps.
-    pub fn run(&mut self) -> DeviceEnd
-        requires { IsReady self.old }
-        ensures whole { (image : ImageGiven) (case : CaseGiven) (n : ℕ) → Stands self.old image case n → Stands self.new image case case.steps }
-        ensures ended { OfItsRun self.new (λ o run. result ≡ end_of run) }
-        ensures ready { IsReady self.new }
-        ensures again { (image : ImageGiven) (case : CaseGiven) → Stands self.old image case case.steps → self.new ≡ self.old }
-    {
-        for _ in self.bare.made..self.steps {
-            if self.bare.end.is_some() {
-                break;
-            }
-            self.turn();
-        }
-        self.bare.end.unwrap_or(DeviceEnd::OutOfSteps)
     }
 }

@@ -1,12 +1,11 @@
-ghost use Rattle.std.specs.Prelude.{◌≡◌, ℕ, IfOk, MatchOption, Some};
-ghost use Rattle.oat_case.specs.declared.case.Case.{Case as CaseGiven};
+ghost use Rattle.std.specs.Prelude.{◌≡◌, IfOk, MatchOption, Some};
 ghost use Rattle.oat_case.specs.Limits.{IsWellFormedCase};
-ghost use Rattle.oat_image.specs.declared.image.Image.{Image as ImageGiven};
 ghost use Rattle.oat_measure.specs.declared.engine.Engine.TheVariants as EngineState;
 ghost use Rattle.oat_measure.specs.Measurement.{sealed};
 ghost use Rattle.oat_map.specs.Rows.{IsOperation};
-ghost use Rattle.oat_journal.specs.Measured.{IsSealed, body_of};
-ghost use Rattle.oat_device.specs.Standing.{OfItsRun, Stands, end_of, reported, state_of};
+ghost use Rattle.oat_journal.specs.Measured.{IsSealed, ReportsSoundness, end_of, first_unsound};
+ghost use Rattle.oat_device.specs.DeviceRun.{IsAtStart, ReportsItsBody, run_so_far, uses_so_far, window_opening};
+ghost use Rattle.oat_device.specs.Standing.{state_of};
 
 use crate::bare::BareRun;
 use crate::course::Course;
@@ -28,21 +27,29 @@ fn sealed_in(engine: &Option<Engine>) -> Option<&Sealed>
     }
 }
 
-/// A device on its way through the run of an image, with the monitor that measures it.
+/// A device on its way through the run of a case on an image, with the monitor that measures it.
 #[derive(Drop)]
 pub struct Device<'a> {
+    shaped: &'a Shaped,
+    case: &'a Case,
+    begin_at: u64,
     course: Course<'a>,
 }
 
 impl<'a> Model for Device<'a> {
-    ghost use Rattle.oat_device.specs.declared.course.Course.{Course};
-    ghost use Rattle.oat_device.specs.Standing.{IsReady};
+    ghost use Rattle.oat_device.specs.DeviceRun.{DeviceRun};
+    ghost use Rattle.oat_device.specs.Standing.{HasMade, turns_of};
 
-    ghost Value = { Course };
+    ghost Value = { DeviceRun };
 
-    ghost view = { λ device. device.course };
+    ghost view = { λ device. record {
+      image = device.shaped.now;
+      case = device.case.now;
+      begin_at = device.begin_at;
+      turns = turns_of device.course;
+    } };
 
-    ghost invariant = { λ device. IsReady device.course };
+    ghost invariant = { λ device. HasMade device.course device.shaped.now device.case.now device.begin_at };
 }
 
 impl<'a> Device<'a> {
@@ -50,18 +57,14 @@ impl<'a> Device<'a> {
     pub fn boot(alloc: Global, shaped: &'a Shaped, case: &'a Case) -> Result<Device<'a>, AllocError>
         requires well_formed { IsWellFormedCase case.now }
         requires operation { IsOperation shaped.now.map case.now.session.op }
-        ensures { IfOk result (λ device. Stands device shaped.now case.now 0) }
+        ensures { IfOk result (λ device. IsAtStart device shaped.now case.now) }
     {
         let image = shaped.image();
         let memory = start_memory(alloc, image)?;
         let cells = start_cells(alloc, image, &memory)?;
         let room = (case.steps as usize).div_ceil(2);
-        let engine = Unmeasured::boot(
-            alloc,
-            opening(shaped, &case.session),
-            cells.as_slice(),
-            room,
-        )?;
+        let opening = opening(shaped, &case.session);
+        let engine = Unmeasured::boot(alloc, opening, cells.as_slice(), room)?;
         let bare = BareRun {
             code: image.code.as_slice(),
             cpu: Cpu::start(),
@@ -77,28 +80,40 @@ impl<'a> Device<'a> {
             steps: case.steps,
             engine: Some(Engine::Before(engine)),
         };
-        Ok(Device { course })
+        Ok(Device {
+            shaped,
+            case,
+            begin_at: opening.begin_at,
+            course,
+        })
     }
 
     /// Makes the run up to its end or the last of its steps, and takes no memory. A second call answers the same and changes nothing.
     pub fn run(&mut self) -> DeviceEnd
-        ensures whole { (image : ImageGiven) (case : CaseGiven) (n : ℕ) → Stands self.old image case n → Stands self.new image case case.steps }
-        ensures ended { OfItsRun self.new (λ o run. result ≡ end_of run) }
-        ensures again { (image : ImageGiven) (case : CaseGiven) → Stands self.old image case case.steps → self.new ≡ self.old }
+        ensures whole { self.new ≡ record self.old { turns = self.old.case.steps } }
+        ensures ended { result ≡ end_of (run_so_far self.new) }
+        ensures violation { IsSealed (run_so_far self.new) → (run_so_far self.new).state.violation ≡ first_unsound (uses_so_far self.new) }
+        ensures sound { IsSealed (run_so_far self.new) → ReportsSoundness self.new.image (window_opening self.new) (run_so_far self.new) }
     {
-        self.course.run()
+        for _ in self.course.bare.made..self.course.steps {
+            if self.course.bare.end.is_some() {
+                break;
+            }
+            self.course.turn();
+        }
+        self.course.bare.end.unwrap_or(DeviceEnd::OutOfSteps)
     }
 
     /// The outputs so far.
     pub fn outputs(&self) -> &[i64]
-        ensures { OfItsRun self.now (λ o run. result.now ≡ run.running.outputs) }
+        ensures { result.now ≡ (run_so_far self.now).running.outputs }
     {
         self.course.bare.outputs.as_slice()
     }
 
     /// The measurement of the window; None where it hasn't sealed.
     pub fn sealed(&self) -> Option<&Sealed>
-        ensures { OfItsRun self.now (λ o run. MatchOption result (IsSealed run → ⊥) (λ sealed. IsSealed run × (reported sealed.now ≡ body_of o run.state))) }
+        ensures { MatchOption result (IsSealed (run_so_far self.now) → ⊥) (λ shown. ReportsItsBody self.now shown.now) }
     {
         sealed_in(&self.course.engine)
     }

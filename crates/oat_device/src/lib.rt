@@ -5,6 +5,7 @@ mod bare;
 mod call;
 mod course;
 mod device;
+pub mod laws;
 mod monitor;
 mod start;
 #[cfg(test)]

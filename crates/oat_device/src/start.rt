@@ -4,8 +4,8 @@ ghost use Rattle.oat_image.specs.Grammar.{IsWellFormedImage};
 ghost use Rattle.oat_measure.specs.Monitored.{cells_of};
 ghost use Rattle.oat_mem.specs.DataMemory.{byte_at};
 ghost use Rattle.oat_journal.specs.Run.{start_memory};
-ghost use Rattle.oat_map.specs.Rows.{IsOperation};
-ghost use Rattle.oat_journal.specs.Measured.{start_cells, IsOpenedFor};
+ghost use Rattle.oat_map.specs.Rows.{BeginsAt, IsOperation};
+ghost use Rattle.oat_journal.specs.Measured.{opening_of, start_cells};
 
 use oat_case::Session;
 use oat_image::Image;
@@ -46,7 +46,8 @@ pub fn start_cells(alloc: Global, image: &Image, memory: &Memory) -> Result<Vec<
 /// What the window of a session's operation is opened for.
 pub fn opening(shaped: &Shaped, session: &Session) -> Opening
     requires { IsOperation shaped.now.map session.now.op }
-    ensures { IsOpenedFor shaped.now session.now result }
+    ensures begins { BeginsAt shaped.now.map session.now.op result.begin_at }
+    ensures is { result ≡ opening_of shaped.now session.now result.begin_at }
 {
     Opening {
         nonce: session.nonce,

@@ -6,3 +6,5 @@ pub mod Reports
 pub mod Traces
 pub mod Progress
 pub mod OneJump
+pub mod TurnLaws
+pub mod Lengths

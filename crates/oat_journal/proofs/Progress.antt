@@ -89,7 +89,7 @@ not-fetched : (word : Option ℕ) (s : Running) (m : Machine) → option_and_the
 not-fetched None s m h = record { why = _; is = refl }
 not-fetched (Some word) s m h = subst (λ (o : Option Inst). Ends (makes s (acts o m))) (sym h) (record { why = _; is = refl })
 
-no-entry : (code : List ℕ) (writes : List Write) (s : Running) → s.end ≡ None → (o : Option Inst) (e : Option DeviceEnd)
+pub no-entry : (code : List ℕ) (writes : List Write) (s : Running) → s.end ≡ None → (o : Option Inst) (e : Option DeviceEnd)
     → instruction_at code s.machine.regs.pc ≡ o → (turn code writes s).end ≡ e → made_entry o (found writes s) e (turn code writes s) ≡ None → Ends (turn code writes s)
 unfolding step
 no-entry code writes s going o (Some why) at is h = record { why = why; is = is }
@@ -99,11 +99,11 @@ no-entry code writes s going None None at is h =
 
 -- ---- an ended run stays
 
-stays : (code : List ℕ) (writes : List Write) (s : Running) → Ends s → turn code writes s ≡ s
+pub stays : (code : List ℕ) (writes : List Write) (s : Running) → Ends s → turn code writes s ≡ s
 unfolding turn
 stays code writes s ends = ap (λ (e : Option DeviceEnd). turn_of e s (makes s (step code (found writes s)))) ends.is
 
-turns-stay : (code : List ℕ) (writes : List Write) (n : ℕ) (s : Running) → Ends s → turns code writes n s ≡ s
+pub turns-stay : (code : List ℕ) (writes : List Write) (n : ℕ) (s : Running) → Ends s → turns code writes n s ≡ s
 unfolding turns
 turns-stay code writes zero s ends = refl
 turns-stay code writes (suc n) s ends = ap (turns code writes n) (stays code writes s ends) ∙ turns-stay code writes n s ends
@@ -114,7 +114,7 @@ progress-stays code writes o zero p ends = refl
 progress-stays code writes o (suc n) p ends =
     ap (λ (e : Option DeviceEnd). after_turns code writes o n (going_on e p (measured_turn code writes o p))) ends.is ∙ progress-stays code writes o n p ends
 
-no-entries : (code : List ℕ) (writes : List Write) (n : ℕ) (s : Running) → entry code writes s ≡ None → journal_from code writes n s ≡ []
+pub no-entries : (code : List ℕ) (writes : List Write) (n : ℕ) (s : Running) → entry code writes s ≡ None → journal_from code writes n s ≡ []
 unfolding journal_from
 no-entries code writes zero s none = refl
 no-entries code writes (suc n) s none = ap (λ (e : Option Entry). from_entry e (journal_from code writes n (turn code writes s))) none

@@ -1,5 +1,6 @@
 -- What a sealed run reports, by the calls of its journal.
-use Rattle.std.proofs.Common.{◌≡◌, ℕ, ℤ, Bool, true, false, cond, List, [], ◌∷◌, map, Option, Some, None, Result, Ok, Err, refl, sym, ap, ◌∙◌}
+use Rattle.std.proofs.Common.{◌≡◌, ℕ, suc, ℤ, Bool, true, false, cond, List, [], ◌∷◌, map, Option, Some, None, Result, Ok, Err, refl, sym, ap, ◌∙◌, arith, eq-eqb}
+use Rattle.std.specs.List.{All}
 use Rattle.oat_case.specs.declared.case.Write.{Write}
 use Rattle.oat_image.specs.declared.image.Image.{Image}
 use Rattle.oat_measure.specs.declared.opening.Opening.{Opening}
@@ -11,10 +12,10 @@ use Rattle.oat_events.specs.Cells.{Cells}
 use Rattle.oat_journal.specs.Run.{journal}
 use Rattle.oat_events.specs.Windows.{beyond, through}
 use Rattle.oat_journal.specs.Window.{made_call, is_made, opens_window, seals_window, up_to_window, window}
-use Rattle.oat_journal.specs.Uses.{uses_behind}
-use Rattle.oat_journal.specs.Measured.{run_until, start_cells, IsSealed, uses_of, first_unsound, RunsReportExactly}
+use Rattle.oat_journal.specs.Uses.{CheckedUse, IsSound, uses_behind}
+use Rattle.oat_journal.specs.Measured.{run_until, start_cells, IsSealed, uses_of, dev, first_unsound, NoViolationMeansSound, RunsReportExactly}
 use Rattle.oat_journal.specs.Violations.{same, uses_among}
-use Rattle.oat_journal.proofs.Sealing.{staged, violations_are_exact}
+use Rattle.oat_journal.proofs.Sealing.{sound-uses, staged, violations_are_exact}
 
 -- ---- windows of entries and of their calls
 
@@ -85,3 +86,18 @@ until-exact image o inputs writes n (Some stop) was is =
 pub runs_report_exactly : RunsReportExactly
 runs_report_exactly image o inputs writes n is =
     until-exact image o inputs writes n (measures o (booted (start_cells image)) (map made_call (journal image inputs writes n))).stop refl is
+
+-- ---- what no violation means
+
+none-unsound : (checked : List CheckedUse) → All IsSound checked → first_unsound checked ≡ None
+none-unsound [] h = refl
+none-unsound (use_ ∷ others) h =
+    ap (λ (t : Bool). cond t (first_unsound others) (Some (record { cell = use_.cell; expected = use_.defined; found = use_.found })))
+    (eq-eqb use_.defined use_.found (sym (h 0 use_ (omega arith))))
+    ∙ none-unsound others (λ k d lt. h (suc k) d (omega arith))
+
+pub no_violation_means_sound : NoViolationMeansSound
+no_violation_means_sound image o inputs writes n is = record {
+  sound = λ none. sound-uses (uses_of image o (dev image o inputs writes n)) (sym (runs_report_exactly image o inputs writes n is) ∙ none);
+  none = λ sound. runs_report_exactly image o inputs writes n is ∙ none-unsound (uses_of image o (dev image o inputs writes n)) sound;
+}

@@ -7,3 +7,4 @@ pub mod Violations
 pub mod Trace
 pub mod Progress
 pub mod Worked
+pub mod TurnLaws

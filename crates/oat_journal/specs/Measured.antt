@@ -1,5 +1,6 @@
 -- The measured run (`dev`): the bare run of an image with the measurement step applied to its journal's monitor calls (docs/DEFINITIONS.md, "Measured run").
 use Rattle.std.specs.Prelude.{◌≡◌, ℕ, ℤ, List, [], ◌∷◌, map, nat_eq, if◌then◌else◌, Option, Some, None, option_map, slice_get}
+use Rattle.std.specs.List.{All}
 use Rattle.oat_blob.specs.declared.body.Violation.{Violation}
 use Rattle.oat_blob.specs.Body.{Body}
 use Rattle.oat_case.specs.declared.case.Session.{Session}
@@ -15,10 +16,10 @@ use Rattle.oat_measure.specs.declared.stop.StopKind.{StopKind}
 use Rattle.oat_events.specs.Cells.{Cells}
 use Rattle.oat_measure.specs.Monitored.{body_head}
 use Rattle.oat_journal.specs.declared.end.DeviceEnd.{DeviceEnd}
-use Rattle.oat_journal.specs.declared.end.DeviceEnd.TheVariants.{Stopped}
+use Rattle.oat_journal.specs.declared.end.DeviceEnd.TheVariants.{OutOfSteps, Stopped}
 use Rattle.oat_journal.specs.Run.{Running, Entry, bare, journal, start_memory}
 use Rattle.oat_journal.specs.Window.{made_call, up_to_window, window}
-use Rattle.oat_journal.specs.Uses.{CheckedUse, uses_behind}
+use Rattle.oat_journal.specs.Uses.{CheckedUse, IsSound, uses_behind}
 
 -- what a window on an image is opened for: the session's nonce and operation, the image's digest, and where the operation's window opens
 abbrev pub opening_of : Image → Session → ℕ → Opening
@@ -92,3 +93,17 @@ RunsReportExactly =
     (image : Image) (o : Opening) (inputs : List ℤ) (writes : List Write) (n : ℕ)
     → IsSealed (dev image o inputs writes n)
     → (dev image o inputs writes n).state.violation ≡ first_unsound (uses_of image o (dev image o inputs writes n))
+
+-- A sealed run reports no violation exactly where each checked use of its window was sound.
+pub record ReportsSoundness (image : Image) (o : Opening) (run : Run) : Type 0 where
+  pub sound : run.state.violation ≡ None → All IsSound (uses_of image o run)
+  pub none : All IsSound (uses_of image o run) → run.state.violation ≡ None
+
+abbrev pub NoViolationMeansSound : Type 0
+NoViolationMeansSound =
+    (image : Image) (o : Opening) (inputs : List ℤ) (writes : List Write) (n : ℕ)
+    → IsSealed (dev image o inputs writes n) → ReportsSoundness image o (dev image o inputs writes n)
+
+-- how a run ended; without an end it is out of steps
+abbrev pub end_of : Run → DeviceEnd
+end_of run = elim run.end [ None ↦ OutOfSteps | Some why ↦ why ]

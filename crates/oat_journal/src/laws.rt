@@ -1,9 +1,10 @@
 //! Laws of journals and of measured runs, each the contract of a function that does nothing.
 ghost use Rattle.oat_journal.specs.Journal.{JournalIsBounded, JournalIsLinked, JournalIsMade};
-ghost use Rattle.oat_journal.specs.Measured.{RunsReportExactly};
+ghost use Rattle.oat_journal.specs.Measured.{NoViolationMeansSound, RunsReportExactly};
 ghost use Rattle.oat_journal.specs.Progress.{TurnsAreTheRun};
 ghost use Rattle.oat_journal.specs.Trace.{RunsReportTheirWindow, WindowsAreTraces};
 ghost use Rattle.oat_journal.specs.Worked.{OneJumpIsMeasured};
+ghost use Rattle.oat_journal.specs.TurnLaws.{EndedRunsRest, JournalsAreShort, OneTurn, RecordsAreFew, TurnsAdd, WindowsAreShort};
 ghost use Rattle.oat_journal.specs.Violations.{NoViolationIsSound, ViolationsAreExact};
 
 /// Each entry of a journal is an instruction of the code, and left what the machine step leaves.
@@ -54,4 +55,39 @@ pub fn one_jump_is_measured()
 /// Turn by turn a run comes to the measured run, for every number of turns.
 pub fn turns_are_the_run()
     ensures { TurnsAreTheRun }
+{}
+
+/// One turn makes the instruction that stands at the PC, and has its entry where that doesn't end the run.
+pub fn one_turn()
+    ensures { OneTurn }
+{}
+
+/// A run that ended stays as it is, and has no more entries.
+pub fn ended_runs_rest()
+    ensures { EndedRunsRest }
+{}
+
+/// So many turns are some of them and then the others, and so are their entries.
+pub fn turns_add()
+    ensures { TurnsAdd }
+{}
+
+/// A journal of n instructions has at most n entries.
+pub fn journals_are_short()
+    ensures { JournalsAreShort }
+{}
+
+/// The window of a run of n instructions has at most n.
+pub fn windows_are_short()
+    ensures { WindowsAreShort }
+{}
+
+/// A run of n instructions records at most n branch bits and n indirect targets.
+pub fn records_are_few()
+    ensures { RecordsAreFew }
+{}
+
+/// A sealed run reports no violation exactly where each checked use of its window was sound.
+pub fn no_violation_means_sound()
+    ensures { NoViolationMeansSound }
 {}

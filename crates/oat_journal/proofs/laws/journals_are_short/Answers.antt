@@ -1,0 +1,5 @@
+use Rattle.oat_journal.proofs.Lengths.{journals_are_short}
+use Rattle.oat_journal.proofs.laws.journals_are_short.Goals as goal
+
+pub returns : goal.returns
+returns c = journals_are_short

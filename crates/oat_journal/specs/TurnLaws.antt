@@ -1,0 +1,56 @@
+-- What a turn of a run does, and what so many of them come to, whatever is given and written (docs/DEFINITIONS.md, "Bare run").
+use Rattle.std.specs.Prelude.{◌≡◌, ◌+◌, ◌≤◌, ℕ, ℤ, List, [], ◌++◌, Option, Some, None, length}
+use Rattle.oat_a64.specs.declared.inst.Inst.{Inst}
+use Rattle.oat_a64.specs.Step.{act, instruction_at}
+use Rattle.oat_case.specs.declared.case.Write.{Write}
+use Rattle.oat_image.specs.declared.image.Image.{Image}
+use Rattle.oat_measure.specs.declared.opening.Opening.{Opening}
+use Rattle.oat_journal.specs.declared.end.DeviceEnd.{DeviceEnd}
+use Rattle.oat_journal.specs.Run.{Running, entry, found, journal, journal_from, makes, turn, turns}
+use Rattle.oat_journal.specs.Measured.{dev, window_of}
+
+-- ---- turns
+
+-- One turn: the run makes the instruction that stands at its PC, on the machine as the writes before it leave it; where that doesn't end the run, it has an entry.
+pub record MakesOne (code : List ℕ) (writes : List Write) (s : Running) (i : Inst) : Type 0 where
+  pub next : turn code writes s ≡ makes s (act i (found writes s))
+  pub noted : (turn code writes s).end ≡ None → entry code writes s ≡ Some (record { inst = i; found = found writes s; left = (turn code writes s).machine.regs })
+
+abbrev pub OneTurn : Type 0
+OneTurn =
+    (code : List ℕ) (writes : List Write) (s : Running) (i : Inst) → s.end ≡ None → instruction_at code s.machine.regs.pc ≡ Some i
+    → MakesOne code writes s i
+
+-- A run that ended stays as it is, and has no more entries.
+pub record Rests (code : List ℕ) (writes : List Write) (n : ℕ) (s : Running) : Type 0 where
+  pub same : turns code writes n s ≡ s
+  pub no_more : journal_from code writes n s ≡ []
+
+abbrev pub EndedRunsRest : Type 0
+EndedRunsRest = (code : List ℕ) (writes : List Write) (n : ℕ) (s : Running) (why : DeviceEnd) → s.end ≡ Some why → Rests code writes n s
+
+-- Turns behind turns: m + n of them are m and then n, and their entries stand one behind the other.
+pub record Adds (code : List ℕ) (writes : List Write) (m n : ℕ) (s : Running) : Type 0 where
+  pub run : turns code writes (m + n) s ≡ turns code writes n (turns code writes m s)
+  pub journal : journal_from code writes (m + n) s ≡ journal_from code writes m s ++ journal_from code writes n (turns code writes m s)
+
+abbrev pub TurnsAdd : Type 0
+TurnsAdd = (code : List ℕ) (writes : List Write) (m n : ℕ) (s : Running) → Adds code writes m n s
+
+-- ---- lengths
+
+-- A journal of n instructions has at most n entries.
+abbrev pub JournalsAreShort : Type 0
+JournalsAreShort = (image : Image) (inputs : List ℤ) (writes : List Write) (n : ℕ) → length (journal image inputs writes n) ≤ n
+
+-- A window of a run of n instructions has at most n.
+abbrev pub WindowsAreShort : Type 0
+WindowsAreShort = (image : Image) (o : Opening) (inputs : List ℤ) (writes : List Write) (n : ℕ) → length (window_of o (dev image o inputs writes n)) ≤ n
+
+-- A run of n instructions records at most n branch bits and n indirect targets.
+pub record HasFewRecords (image : Image) (o : Opening) (inputs : List ℤ) (writes : List Write) (n : ℕ) : Type 0 where
+  pub bits : length (dev image o inputs writes n).state.bits ≤ n
+  pub targets : length (dev image o inputs writes n).state.targets ≤ n
+
+abbrev pub RecordsAreFew : Type 0
+RecordsAreFew = (image : Image) (o : Opening) (inputs : List ℤ) (writes : List Write) (n : ℕ) → HasFewRecords image o inputs writes n
