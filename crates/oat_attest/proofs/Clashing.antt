@@ -27,7 +27,7 @@ use Rattle.oat_journal.specs.Run.{Entry}
 use Rattle.oat_journal.specs.Journal.{IsEntryBounded}
 use Rattle.oat_journal.specs.Window.{made_call, returned, returns_of_run}
 use Rattle.oat_journal.specs.Measured.{dev, body_of, window_of, opening_of}
-use Rattle.oat_journal.proofs.Traces.{windows_are_traces, runs_report_their_window}
+use Rattle.oat_journal.proofs.RunLaws.{windows_are_traces, runs_report_their_window}
 use Rattle.oat_verify.specs.Verdict.{Accepts, head_of, subject_of}
 use Rattle.oat_attest.specs.Lockstep.{ClashOfUnequalReturns}
 

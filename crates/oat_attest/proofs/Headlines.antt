@@ -11,8 +11,7 @@ use Rattle.oat_map.specs.Walk.{returns_of}
 use Rattle.oat_journal.specs.Uses.{IsSound}
 use Rattle.oat_journal.specs.Window.{returns_of_run}
 use Rattle.oat_journal.specs.Measured.{dev, body_of, window_of, uses_of, opening_of}
-use Rattle.oat_journal.proofs.Sealing.{sound-uses}
-use Rattle.oat_journal.proofs.Reports.{runs_report_exactly}
+use Rattle.oat_journal.proofs.RunLaws.{no_violation_means_sound}
 use Rattle.oat_verify.specs.Verdict.{Accepts, subject_of}
 use Rattle.oat_attest.proofs.Joining.{same_path}
 use Rattle.oat_attest.proofs.Clashing.{clash_of_unequal_returns}
@@ -29,7 +28,7 @@ all_sound image session begin_at bytes path accepted inputs writes n reported =
     let run = dev image o inputs writes n in
     let same = one_body bytes (body_of o run.state) accepted.body _ accepted.mac reported.blob accepted.is_blob in
     let none : run.state.violation ≡ None = ap (λ (body : Body). body.head.violation) same.0 ∙ accepted.clean in
-    sound-uses (uses_of image o run) (sym (runs_report_exactly image o inputs writes n reported.sealed) ∙ none)
+    (no_violation_means_sound image o inputs writes n reported.sealed).sound none
 
 headline_from : SamePath → ClashOfUnequalReturns → Headline
 headline_from same_path clash image session begin_at setting bytes path accepted inputs writes n given reported =

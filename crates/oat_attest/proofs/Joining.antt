@@ -25,7 +25,7 @@ use Rattle.oat_journal.specs.Window.{made_call, executed_path, returned, bits_of
 use Rattle.oat_journal.specs.Uses.{CheckedUse, defined_value, use_behind, uses_behind}
 use Rattle.oat_journal.specs.Measured.{dev, body_of, window_of, start_cells, opening_of}
 use Rattle.oat_journal.specs.Trace.{IsQuiet, IsTrace}
-use Rattle.oat_journal.proofs.Traces.{windows_are_traces, runs_report_their_window}
+use Rattle.oat_journal.proofs.RunLaws.{windows_are_traces, runs_report_their_window}
 use Rattle.oat_verify.specs.Verdict.{Accepts, subject_of}
 use Rattle.oat_attest.specs.Headline.{IsSetting, IsReported, calls_before}
 use Rattle.oat_attest.specs.Lockstep.{placed_of, Makes, ExecutesWalk, ExecutesUpToFirst, PassesCells, SamePath, Lockstep}

@@ -10,7 +10,6 @@ mod RowRuns
 mod Executing
 mod Sync
 mod Joining
-mod Lengths
 mod Walking
 mod Running
 mod Working

@@ -17,8 +17,8 @@ use Rattle.oat_journal.specs.Uses.{CheckedUse, IsSound}
 use Rattle.oat_journal.specs.Window.{made_call, executed_path, returned, recorded_bit, recorded_target}
 use Rattle.oat_journal.specs.Measured.{dev, body_of, window_of, uses_of, first_unsound, opening_of}
 use Rattle.oat_journal.specs.Trace.{IsQuiet, IsTrace}
-use Rattle.oat_journal.proofs.Reports.{runs_report_exactly}
-use Rattle.oat_journal.proofs.Traces.{windows_are_traces, runs_report_their_window}
+use Rattle.oat_journal.proofs.RunLaws.{no_violation_means_sound}
+use Rattle.oat_journal.proofs.RunLaws.{windows_are_traces, runs_report_their_window}
 use Rattle.oat_verify.proofs.OneVerdict.{one_verdict, acceptance_at_once}
 use Rattle.oat_verify.specs.Verdict.{IsVerdict, subject_of, head_of}
 use Rattle.oat_verify.specs.declared.verdict.Verdict.TheVariants.{Accept}
@@ -30,7 +30,7 @@ use Rattle.oat_attest.proofs.Stretches.{Runs, moved_to}
 use Rattle.oat_attest.proofs.Places.{called_none}
 use Rattle.oat_attest.proofs.Executing.{bits_agree, targets_agree, returns_agree, executed_leads}
 use Rattle.oat_attest.proofs.Joining.{trace_runs, starts_at, walk_path, walk_records, walk_length}
-use Rattle.oat_attest.proofs.Lengths.{window-within}
+use Rattle.oat_journal.proofs.RunLaws.{windows_are_short}
 use Rattle.oat_attest.proofs.Walking.{NoneBegins, finds}
 
 -- ---- no operation begins in a trace
@@ -99,7 +99,7 @@ honest_runs_walk image session begin_at setting inputs writes n given sealed bac
       bits = w.bits ∙ sym reports.bits;
       targets = w.targets ∙ sym reports.targets;
       hash = reports.hash ∙ ap (chain (head_of (subject_of image session))) (sym w.returns);
-      within = (let s = w.short in let m = window-within image o inputs writes n in omega arith);
+      within = (let s = w.short in let m = windows_are_short image o inputs writes n in omega arith);
     }
 
 -- ---- the verdict
@@ -132,18 +132,11 @@ honest_runs_are_accepted image session begin_at setting inputs writes n given se
 
 -- ---- as `verify` sees it
 
-none_unsound : (checked : List CheckedUse) → ((k : ℕ) (u : CheckedUse) → slice_get checked k ≡ Some u → IsSound u) → first_unsound checked ≡ None
-none_unsound [] sound = refl
-none_unsound (u ∷ others) sound =
-    let here : eqb u.defined u.found ≡ true = eq-eqb u.defined u.found (sym (sound 0 u refl)) in
-    rw here (none_unsound others (λ k. sound (suc k)))
-
 pub sound_runs_are_accepted : SoundRunsAreAccepted
 sound_runs_are_accepted image session begin_at setting inputs writes n given sealed back sound few bytes blob v =
     let o = opening_of image session begin_at in
     let run = dev image o inputs writes n in
-    let checked = uses_of image o run in
-    let clean = runs_report_exactly image o inputs writes n sealed ∙ none_unsound checked (λ k u at. All-contains IsSound checked u sound (contains_get checked k u at)) in
+    let clean = (no_violation_means_sound image o inputs writes n sealed).none sound in
     let path = executed_path image.map session.op (window_of o run) in
     let accepts = honest_runs_are_accepted image session begin_at setting inputs writes n given sealed back clean few bytes blob in
     let verdict = (acceptance_at_once (subject_of image session) bytes path).1 accepts in (

@@ -21,7 +21,7 @@ use Rattle.oat_device.specs.declared.bare.BareRun.{BareRun}
 use Rattle.oat_device.specs.declared.course.Course.{Course}
 use Rattle.oat_device.specs.Standing.{HasRoom, IsReady, IsSpaced, engine_opening, spare_bits, spare_targets}
 use Rattle.oat_journal.specs.Progress.{call_told}
-use Rattle.oat_journal.proofs.Progress.{turn-going}
+use Rattle.oat_journal.proofs.RunLaws.{turns_make_steps}
 
 -- an instruction that takes a record of one kind, and leads on
 abbrev pub Takes : List ℕ → ℕ → ℕ → ℕ → ℕ → Type 0
@@ -168,7 +168,7 @@ told-pc s m (event.Fault kind) = refl
 
 pub turn-pc : (code : List ℕ) (writes : List Write) (s : Running) → s.end ≡ None → (turn code writes s).machine.regs.pc ≡ (step code (found writes s)).machine.regs.pc
 turn-pc code writes s going =
-    ap (λ (x : Running). x.machine.regs.pc) (turn-going code writes s going) ∙ told-pc s (step code (found writes s)).machine (step code (found writes s)).event
+    ap (λ (x : Running). x.machine.regs.pc) (turns_make_steps code writes s going) ∙ told-pc s (step code (found writes s)).machine (step code (found writes s)).event
 
 pub turn-takes : (code : List ℕ) (writes : List Write) (s next : Running) (e : Event) (call : MonitorCall) → s.end ≡ None → e ≡ (step code (found writes s)).event
     → Some call ≡ call_told e s.machine.regs → next ≡ turn code writes s

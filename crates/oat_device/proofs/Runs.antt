@@ -15,9 +15,7 @@ use Rattle.oat_journal.specs.declared.end.DeviceEnd.TheVariants.{OutOfSteps}
 use Rattle.oat_journal.specs.Run.{found, makes, start_memory, turn, turn_of}
 use Rattle.oat_journal.specs.Measured.{Run, IsSealed, body_of, dev, end_of, opening_of, start_cells}
 use Rattle.oat_journal.specs.Progress.{Progress, after_turns, call_told, first_of, going_on, measured_turn, progress_of_run, with_measurement}
-use Rattle.oat_journal.proofs.Progress.{Ends, turns_are_the_run}
-use Rattle.oat_journal.proofs.Reports.{runs_report_exactly}
-use Rattle.oat_journal.proofs.TurnLaws.{measured-next, measured-stays}
+use Rattle.oat_journal.proofs.RunLaws.{measured_ends_stay, measured_turns_follow, runs_report_exactly, turns_are_the_run}
 use Rattle.oat_device.specs.declared.course.Course.{Course}
 use Rattle.oat_device.specs.Bare.{DoesFrom}
 use Rattle.oat_device.specs.DeviceRun.{DeviceRun, ReportsItsBody, reported, run_so_far, window_opening}
@@ -95,11 +93,9 @@ run-next now next image case begin_at s t going =
     let all : progress_of next ≡ measured_turn image.code case.writes o (progress_of now) = first ∙ next-left image.code now.bare.writes.now case.writes o (progress_of now) s.writes in
     let on : measured_turn image.code case.writes o (progress_of now) ≡ going_on now.bare.end (progress_of now) (measured_turn image.code case.writes o (progress_of now)) =
     sym (ap (λ (e : Option DeviceEnd). going_on e (progress_of now) (measured_turn image.code case.writes o (progress_of now))) going) in
-    let count : suc k ≡ k + 1 = omega arith in
     all ∙ on
     ∙ ap (λ (q : Progress). going_on q.running.end q (measured_turn image.code case.writes o q)) here
-    ∙ sym (measured-next image.code case.writes o k p)
-    ∙ ap (λ (n : ℕ). after_turns image.code case.writes o n p) count
+    ∙ sym (measured_turns_follow image.code case.writes o k p)
 
 -- as many turns as a device counts
 counted-run : (next : Course) (image : Image) (case : Case) (begin_at k : ℕ) → next.bare.made ≡ k → k ≤ next.steps → progress_of next ≡ made-by image case begin_at k
@@ -116,9 +112,9 @@ counted-run next image case begin_at k made low run = by-end next.bare.end refl 
       run ∙ ap (λ (n : ℕ). after_turns image.code case.writes o n p) (sym made ∙ sym (turns-going next going))
       ∙ turns_are_the_run image o case.inputs case.writes (turns_of next)
   by-end (Some why) ended =
-      let ends : Ends (after_turns image.code case.writes o k p).running = record { why = why; is = sym (ap (λ (q : Progress). q.running.end) run) ∙ ended } in
+      let ends : (after_turns image.code case.writes o k p).running.end ≡ Some why = sym (ap (λ (q : Progress). q.running.end) run) ∙ ended in
       let reach : k + (next.steps - k) ≡ next.steps = omega (arith, low) in
-      run ∙ sym (measured-stays image.code case.writes o k p ends (next.steps - k))
+      run ∙ sym (measured_ends_stay image.code case.writes o k (next.steps - k) p why ends)
       ∙ ap (λ (n : ℕ). after_turns image.code case.writes o n p) (reach ∙ sym (turns-ended next why ended))
       ∙ turns_are_the_run image o case.inputs case.writes (turns_of next)
 

@@ -1,10 +1,11 @@
-pub mod Turns
-pub mod Linkage
-pub mod Bounds
-pub mod Sealing
-pub mod Reports
-pub mod Traces
-pub mod Progress
-pub mod OneJump
-pub mod TurnLaws
-pub mod Lengths
+mod Turns
+mod Linkage
+mod Bounds
+mod Sealing
+mod Reports
+mod Traces
+mod Progress
+mod OneJump
+mod TurnLaws
+mod Lengths
+pub mod RunLaws

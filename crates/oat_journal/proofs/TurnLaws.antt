@@ -7,9 +7,12 @@ use Rattle.oat_journal.specs.declared.end.DeviceEnd.{DeviceEnd}
 use Rattle.oat_journal.specs.Run.{Running, Entry, entry, found, from_entry, journal_from, made_entry, makes, turn, turns}
 use Rattle.oat_measure.specs.declared.opening.Opening.{Opening}
 use Rattle.oat_journal.specs.Progress.{Progress, after_turns, going_on, measured_turn}
-use Rattle.oat_journal.specs.TurnLaws.{OneTurn, EndedRunsRest, Adds, TurnsAdd}
+use Rattle.oat_journal.specs.TurnLaws.{OneTurn, EndedRunsRest, Adds, TurnsAdd, TurnsMakeSteps, MeasuredTurnsFollow, MeasuredEndsStay}
 use Rattle.oat_journal.proofs.Turns.{turn-is}
-use Rattle.oat_journal.proofs.Progress.{Ends, no-entries, no-entry, stays, turns-stay}
+use Rattle.oat_journal.proofs.Progress.{Ends, no-entries, no-entry, stays, turn-going, turns-stay}
+
+pub turns_make_steps : TurnsMakeSteps
+turns_make_steps code writes s going = turn-going code writes s going
 
 pub one_turn : OneTurn
 one_turn code writes s i going at = record {
@@ -86,20 +89,22 @@ turns_add code writes (suc m) n s = adds-entry code writes m n s (turns_add code
 
 -- ---- measured turns
 
--- n + 1 measured turns are n and then one, where the run goes on
-pub measured-next : (code : List ℕ) (writes : List Write) (o : Opening) (n : ℕ) (p : Progress)
+measured-next : (code : List ℕ) (writes : List Write) (o : Opening) (n : ℕ) (p : Progress)
     → after_turns code writes o (suc n) p ≡ going_on (after_turns code writes o n p).running.end (after_turns code writes o n p) (measured_turn code writes o (after_turns code writes o n p))
 unfolding after_turns
 measured-next code writes o zero p = refl
 measured-next code writes o (suc n) p = measured-next code writes o n (going_on p.running.end p (measured_turn code writes o p))
 
--- a measured run that ended is that of each greater number of turns
-pub measured-stays : (code : List ℕ) (writes : List Write) (o : Opening) (k : ℕ) (p : Progress) → Ends (after_turns code writes o k p).running → (d : ℕ)
-    → after_turns code writes o (k + d) p ≡ after_turns code writes o k p
-measured-stays code writes o k p ends zero = let same : k + 0 ≡ k = omega arith in ap (λ (n : ℕ). after_turns code writes o n p) same
-measured-stays code writes o k p ends (suc d) =
-    let same : k + suc d ≡ suc (k + d) = omega arith in
-    ap (λ (n : ℕ). after_turns code writes o n p) same
-    ∙ measured-next code writes o (k + d) p
-    ∙ ap (λ (q : Progress). going_on q.running.end q (measured_turn code writes o q)) (measured-stays code writes o k p ends d)
-    ∙ ap (λ (e : Option DeviceEnd). going_on e (after_turns code writes o k p) (measured_turn code writes o (after_turns code writes o k p))) ends.is
+pub measured_turns_follow : MeasuredTurnsFollow
+measured_turns_follow code writes o n p =
+    let count : n + 1 ≡ suc n = omega arith in
+    ap (λ (k : ℕ). after_turns code writes o k p) count ∙ measured-next code writes o n p
+
+pub measured_ends_stay : MeasuredEndsStay
+measured_ends_stay code writes o n zero p why ends = let same : n + 0 ≡ n = omega arith in ap (λ (k : ℕ). after_turns code writes o k p) same
+measured_ends_stay code writes o n (suc more) p why ends =
+    let same : n + suc more ≡ suc (n + more) = omega arith in
+    ap (λ (k : ℕ). after_turns code writes o k p) same
+    ∙ measured-next code writes o (n + more) p
+    ∙ ap (λ (q : Progress). going_on q.running.end q (measured_turn code writes o q)) (measured_ends_stay code writes o n more p why ends)
+    ∙ ap (λ (e : Option DeviceEnd). going_on e (after_turns code writes o n p) (measured_turn code writes o (after_turns code writes o n p))) ends

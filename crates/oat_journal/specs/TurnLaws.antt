@@ -1,15 +1,20 @@
 -- What a turn of a run does, and what so many of them come to, whatever is given and written (docs/DEFINITIONS.md, "Bare run").
 use Rattle.std.specs.Prelude.{◌≡◌, ◌+◌, ◌≤◌, ℕ, ℤ, List, [], ◌++◌, Option, Some, None, length}
 use Rattle.oat_a64.specs.declared.inst.Inst.{Inst}
-use Rattle.oat_a64.specs.Step.{act, instruction_at}
+use Rattle.oat_a64.specs.Step.{act, instruction_at, step}
 use Rattle.oat_case.specs.declared.case.Write.{Write}
 use Rattle.oat_image.specs.declared.image.Image.{Image}
 use Rattle.oat_measure.specs.declared.opening.Opening.{Opening}
 use Rattle.oat_journal.specs.declared.end.DeviceEnd.{DeviceEnd}
 use Rattle.oat_journal.specs.Run.{Running, entry, found, journal, journal_from, makes, turn, turns}
 use Rattle.oat_journal.specs.Measured.{dev, window_of}
+use Rattle.oat_journal.specs.Progress.{Progress, after_turns, going_on, measured_turn}
 
 -- ---- turns
+
+-- While a run goes on, a turn of it makes the machine step, on the machine as the writes before it leave it.
+abbrev pub TurnsMakeSteps : Type 0
+TurnsMakeSteps = (code : List ℕ) (writes : List Write) (s : Running) → s.end ≡ None → turn code writes s ≡ makes s (step code (found writes s))
 
 -- One turn: the run makes the instruction that stands at its PC, on the machine as the writes before it leave it; where that doesn't end the run, it has an entry.
 pub record MakesOne (code : List ℕ) (writes : List Write) (s : Running) (i : Inst) : Type 0 where
@@ -36,6 +41,21 @@ pub record Adds (code : List ℕ) (writes : List Write) (m n : ℕ) (s : Running
 
 abbrev pub TurnsAdd : Type 0
 TurnsAdd = (code : List ℕ) (writes : List Write) (m n : ℕ) (s : Running) → Adds code writes m n s
+
+-- ---- measured turns
+
+-- n + 1 measured turns are n and then one, where the run goes on.
+abbrev pub MeasuredTurnsFollow : Type 0
+MeasuredTurnsFollow =
+    (code : List ℕ) (writes : List Write) (o : Opening) (n : ℕ) (p : Progress)
+    → let behind = after_turns code writes o n p in
+    after_turns code writes o (n + 1) p ≡ going_on behind.running.end behind (measured_turn code writes o behind)
+
+-- A measured run that ended is that of each greater number of turns.
+abbrev pub MeasuredEndsStay : Type 0
+MeasuredEndsStay =
+    (code : List ℕ) (writes : List Write) (o : Opening) (n more : ℕ) (p : Progress) (why : DeviceEnd)
+    → (after_turns code writes o n p).running.end ≡ Some why → after_turns code writes o (n + more) p ≡ after_turns code writes o n p
 
 -- ---- lengths
 

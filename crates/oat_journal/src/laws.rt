@@ -4,7 +4,17 @@ ghost use Rattle.oat_journal.specs.Measured.{NoViolationMeansSound, RunsReportEx
 ghost use Rattle.oat_journal.specs.Progress.{TurnsAreTheRun};
 ghost use Rattle.oat_journal.specs.Trace.{RunsReportTheirWindow, WindowsAreTraces};
 ghost use Rattle.oat_journal.specs.Worked.{OneJumpIsMeasured};
-ghost use Rattle.oat_journal.specs.TurnLaws.{EndedRunsRest, JournalsAreShort, OneTurn, RecordsAreFew, TurnsAdd, WindowsAreShort};
+ghost use Rattle.oat_journal.specs.TurnLaws.{
+  EndedRunsRest,
+  JournalsAreShort,
+  MeasuredEndsStay,
+  MeasuredTurnsFollow,
+  OneTurn,
+  RecordsAreFew,
+  TurnsAdd,
+  TurnsMakeSteps,
+  WindowsAreShort,
+};
 ghost use Rattle.oat_journal.specs.Violations.{NoViolationIsSound, ViolationsAreExact};
 
 /// Each entry of a journal is an instruction of the code, and left what the machine step leaves.
@@ -57,6 +67,11 @@ pub fn turns_are_the_run()
     ensures { TurnsAreTheRun }
 {}
 
+/// While a run goes on, a turn of it makes the machine step.
+pub fn turns_make_steps()
+    ensures { TurnsMakeSteps }
+{}
+
 /// One turn makes the instruction that stands at the PC, and has its entry where that doesn't end the run.
 pub fn one_turn()
     ensures { OneTurn }
@@ -90,4 +105,14 @@ pub fn records_are_few()
 /// A sealed run reports no violation exactly where each checked use of its window was sound.
 pub fn no_violation_means_sound()
     ensures { NoViolationMeansSound }
+{}
+
+/// One measured turn more is one behind the others, where the run goes on.
+pub fn measured_turns_follow()
+    ensures { MeasuredTurnsFollow }
+{}
+
+/// A measured run that ended is that of each greater number of turns.
+pub fn measured_ends_stay()
+    ensures { MeasuredEndsStay }
 {}

@@ -1,4 +1,4 @@
-use Rattle.oat_journal.proofs.Reports.{runs_report_exactly}
+use Rattle.oat_journal.proofs.RunLaws.{runs_report_exactly}
 use Rattle.oat_journal.specs.Measured.{opening_of}
 use Rattle.oat_attest.proofs.laws.exact_violations.Goals as goal
 

@@ -4,7 +4,7 @@ use Rattle.std.proofs.lemmas.Bool.{false≢true}
 use Rattle.oat_case.specs.declared.case.Case.{Case}
 use Rattle.oat_journal.specs.Measured.{dev, opening_of}
 use Rattle.oat_journal.specs.Progress.{Progress}
-use Rattle.oat_journal.proofs.Reports.{no_violation_means_sound, runs_report_exactly}
+use Rattle.oat_journal.proofs.RunLaws.{no_violation_means_sound, runs_report_exactly}
 use Rattle.oat_device.specs.DeviceRun.{DeviceRun, run_so_far}
 use Rattle.oat_device.specs.Standing.{turns_of}
 use Rattle.oat_device.proofs.Runs.{Turned, all-made, end-is, is-none, made-next}
