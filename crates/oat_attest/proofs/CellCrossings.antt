@@ -10,7 +10,7 @@ use Rattle.oat_map.specs.declared.edge.Edge.TheVariants as edges
 use Rattle.oat_map.specs.declared.row.Row.{Row}
 use Rattle.oat_map.specs.declared.row.Row.TheVariants as rows
 use Rattle.oat_image.specs.declared.image.Image.{Image}
-use Rattle.oat_measure.specs.Monitor.{call_of}
+use Rattle.oat_measure.specs.Monitor.{monitor_call}
 use Rattle.oat_measure.specs.declared.call.MonitorCall.{MonitorCall}
 use Rattle.oat_measure.specs.declared.call.MonitorCall.TheVariants as svc
 use Rattle.oat_shape.specs.Groups.{Stands}
@@ -111,7 +111,7 @@ loads_use image row load move call rest cell value index among none none' used h
 
 -- an instruction in front that is neither a transfer nor a call
 silent : (image : Image) (op : ℕ) (i : Inst) (r : Regs) (memory : ℕ → ℕ) (rest es : List Entry) (group : List Placed) (to : ℕ)
-    → es ≡ entry_by i r memory ∷ rest → shown_edge image.map op (entry_by i r memory) ≡ None → call_of i r ≡ None
+    → es ≡ entry_by i r memory ∷ rest → shown_edge image.map op (entry_by i r memory) ≡ None → monitor_call i r ≡ None
     → Crossed image op rest group [] to → Crossed image op es (plain r.pc ∷ group) [] to
 silent image op i r memory rest es group to whole shows none crossed =
     subst (λ (call : Option MonitorCall). Crossed image op es (record { at = r.pc; call = call } ∷ group) [] to) none
@@ -243,7 +243,7 @@ record EndsThere (image : Image) (op p : ℕ) (r : Regs) (es : List Entry) : Typ
 ends_there : (image : Image) (op p : ℕ) (r : Regs) (es : List Entry) → Stands image.code p (Svc 2) → Runs image.code op (moved_to r p) es → EndsThere image op p r es
 ends_there image op p r es stands (last r' e made at seals) =
     let same : e.inst ≡ Svc 2 = inst_is image.code (Svc 2) (moved_to r p) e stands made at in
-    let both : Some (svc.End (e.found.regs.x 9)) ≡ Some (svc.End op) = sym (ap (λ (i : Inst). call_of i e.found.regs) same) ∙ seals in
+    let both : Some (svc.End (e.found.regs.x 9)) ≡ Some (svc.End op) = sym (ap (λ (i : Inst). monitor_call i e.found.regs) same) ∙ seals in
     let nine : e.found.regs.x 9 ≡ op = cc in
     record {
       nine = sym (ap (λ (q : Regs). q.x 9) at) ∙ nine;
@@ -253,7 +253,7 @@ ends_there image op p r es stands (last r' e made at seals) =
     }
 ends_there image op p r es stands (more r' e rest made at quiet runs) =
     let same : e.inst ≡ Svc 2 = inst_is image.code (Svc 2) (moved_to r p) e stands made at in
-    absurd (quiet (e.found.regs.x 9) (ap (λ (i : Inst). call_of i e.found.regs) same))
+    absurd (quiet (e.found.regs.x 9) (ap (λ (i : Inst). monitor_call i e.found.regs) same))
 
 pub cross_end : (image : Image) → IsLaid image → (op at ended : ℕ) → Contains image.map.rows (rows.End at ended) → (r : Regs) (es : List Entry)
     → Runs image.code op (moved_to r at) es → EndedBy image op at ended es

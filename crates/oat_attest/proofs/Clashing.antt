@@ -20,7 +20,7 @@ use Rattle.oat_map.specs.declared.map.Map.{Map}
 use Rattle.oat_map.specs.declared.row.Row.{Row}
 use Rattle.oat_map.specs.declared.row.Row.TheVariants as rows
 use Rattle.oat_map.specs.Walk.{Step, passed, moved, edge_of, path_of, return_of, returns_of, return_site_of, Returns, RowGoes, Leads, Walk}
-use Rattle.oat_measure.specs.Monitor.{call_of}
+use Rattle.oat_measure.specs.Monitor.{monitor_call}
 use Rattle.oat_measure.specs.declared.call.MonitorCall.{MonitorCall}
 use Rattle.oat_measure.specs.declared.call.MonitorCall.TheVariants as svc
 use Rattle.oat_journal.specs.Run.{Entry}
@@ -51,7 +51,7 @@ fits_if : (t : Bool) (a b : Option MonitorCall) → ReturnFits a → ReturnFits 
 fits_if true a b p q = p
 fits_if false a b p q = q
 
-call_fits : (i : Inst) (r : Regs) → ((k : ℕ) → r.x k < 2 ^ 64) → ReturnFits (call_of i r)
+call_fits : (i : Inst) (r : Regs) → ((k : ℕ) → r.x k < 2 ^ 64) → ReturnFits (monitor_call i r)
 call_fits (Svc number) r low =
     fits_if (eqb number 1) (Some (svc.Begin (r.x 9) r.pc)) _ (λ a q. absurd (cc))
     (fits_if (eqb number 2) (Some (svc.End (r.x 9))) _ (λ a q. absurd (cc))

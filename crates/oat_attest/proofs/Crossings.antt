@@ -10,7 +10,7 @@ use Rattle.oat_map.specs.declared.map.Map.{Map}
 use Rattle.oat_map.specs.declared.row.Row.{Row}
 use Rattle.oat_map.specs.declared.row.Row.TheVariants as rows
 use Rattle.oat_image.specs.declared.image.Image.{Image}
-use Rattle.oat_measure.specs.Monitor.{call_of}
+use Rattle.oat_measure.specs.Monitor.{monitor_call}
 use Rattle.oat_measure.specs.declared.call.MonitorCall.{MonitorCall}
 use Rattle.oat_measure.specs.declared.call.MonitorCall.TheVariants as svc
 use Rattle.oat_shape.specs.Groups.{Stands}
@@ -31,7 +31,7 @@ pub record Led (image : Image) (op : ℕ) (i : Inst) (r : Regs) (p q : ℕ) (s :
   pub runs : Runs image.code op (moved_to (s memory) q) rest
 
 pub lead : (image : Image) (op : ℕ) (i : Inst) (r : Regs) (p q : ℕ) (s : (ℕ → ℕ) → Regs) (es : List Entry)
-    → Stands image.code p i → takes_input i ≡ false → GoesOn (call_of i (moved_to r p))
+    → Stands image.code p i → takes_input i ≡ false → GoesOn (monitor_call i (moved_to r p))
     → ((memory : ℕ → ℕ) → (act i (machine (moved_to r p) memory)).machine.regs ≡ moved_to (s memory) q)
     → Runs image.code op (moved_to r p) es → Led image op i r p q s es
 lead image op i r p q s es stands dry goes_on leaves runs =
@@ -175,7 +175,7 @@ stuck code op r p number stands (e ∷ es) runs =
 
 -- a skip by a test of a register or of the flags
 skips : (image : Image) → IsLaid image → (op at number : ℕ) → Contains image.map.rows (rows.Check at) → (r : Regs) (es : List Entry)
-    → (i : Inst) → Stands image.code at i → Stands image.code (at + 4) (Brk number) → takes_input i ≡ false → call_of i (moved_to r at) ≡ None
+    → (i : Inst) → Stands image.code at i → Stands image.code (at + 4) (Brk number) → takes_input i ≡ false → monitor_call i (moved_to r at) ≡ None
     → (test : Bool) → ((memory : ℕ → ℕ) → (act i (machine (moved_to r at) memory)).machine.regs ≡ moved_to r (cond test (branch_target at (pos 2)) (next_pc at)))
     → ((memory : ℕ → ℕ) → shown_edge image.map op (entry_by i (moved_to r at) memory) ≡ None)
     → Runs image.code op (moved_to r at) es → Crossed image op es (plain at ∷ []) [] (at + 8)

@@ -11,7 +11,7 @@ use Rattle.oat_map.specs.declared.row.Row.TheVariants.{Jump, Branch, Call, ICall
 use Rattle.oat_map.specs.declared.row.Row.TheVariants as rows
 use Rattle.oat_map.specs.Rows.{address_of, next}
 use Rattle.oat_image.specs.declared.image.Image.{Image}
-use Rattle.oat_measure.specs.Monitor.{call_of, call_numbered}
+use Rattle.oat_measure.specs.Monitor.{monitor_call, call_numbered}
 use Rattle.oat_measure.specs.declared.call.MonitorCall.TheVariants as svc
 use Rattle.oat_shape.specs.Groups.{Stands, IsGroup}
 use Rattle.oat_journal.specs.Run.{Entry, pc_of}
@@ -45,7 +45,7 @@ unmeasured_svc n r none =
     let e = λ (k : ℕ) (a : 1 ≤ k) (b : k ≤ 7). ne_eqb n k (none k a b) in
     rw (e 1 (omega arith) (omega arith), e 2 (omega arith) (omega arith), e 3 (omega arith) (omega arith), e 4 (omega arith) (omega arith), e 5 (omega arith) (omega arith), e 6 (omega arith) (omega arith), e 7 (omega arith) (omega arith)) refl
 
-pub plain_call : (i : Inst) (r : Regs) → is_measured i ≡ false → call_of i r ≡ None
+pub plain_call : (i : Inst) (r : Regs) → is_measured i ≡ false → monitor_call i r ≡ None
 plain_call (Svc n) r h =
     elim (unmeasured_number n h) [
       | inl zero_is ↦ unmeasured_svc n r (λ k a b q. omega arith)

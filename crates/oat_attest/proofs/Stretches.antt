@@ -5,7 +5,7 @@ use Rattle.oat_a64.specs.declared.inst.Inst.{Inst}
 use Rattle.oat_a64.specs.Step.{Regs, Machine, act, instruction_at}
 use Rattle.oat_map.specs.declared.edge.Edge.{Edge}
 use Rattle.oat_image.specs.declared.image.Image.{Image}
-use Rattle.oat_measure.specs.Monitor.{call_of}
+use Rattle.oat_measure.specs.Monitor.{monitor_call}
 use Rattle.oat_measure.specs.declared.call.MonitorCall.{MonitorCall}
 use Rattle.oat_measure.specs.declared.call.MonitorCall.TheVariants as svc
 use Rattle.oat_shape.specs.Groups.{Stands}
@@ -81,9 +81,9 @@ dry_is : (i j : Inst) → i ≡ j → takes_input j ≡ false → not (takes_inp
 dry_is i j same dry = ap (λ (k : Inst). not (takes_input k)) same ∙ ap not dry
 
 pub pop : (code : List ℕ) (op : ℕ) (i : Inst) (r : Regs) (es : List Entry) → Stands code r.pc i → takes_input i ≡ false
-    → GoesOn (call_of i r) → Runs code op r es → Popped code op i r es
+    → GoesOn (monitor_call i r) → Runs code op r es → Popped code op i r es
 pop code op i r es stands dry goes_on (last r' e made at seals) =
-    absurd (goes_on op (sym (ap₂ call_of (inst_is code i r e stands made at) at) ∙ seals))
+    absurd (goes_on op (sym (ap₂ monitor_call (inst_is code i r e stands made at) at) ∙ seals))
 pop code op i r es stands dry goes_on (more r' e rest made at quiet runs) =
     let same = inst_is code i r e stands made at in
     let whole = entry_is i r e same at (made.steps (dry_is e.inst i same dry)) in
@@ -160,8 +160,8 @@ arrives image op r es p q same runs = record {
 
 -- one more instruction in front
 pub crossed_cons : (image : Image) (op : ℕ) (i : Inst) (r : Regs) (memory : ℕ → ℕ) (rest es : List Entry) (group : List Placed) (first : Option Edge) (shown : List Edge) (to : ℕ)
-    → es ≡ entry_by i r memory ∷ rest → shown_edge image.map op (entry_by i r memory) ≡ first → IsNoUse (call_of i r)
-    → Crossed image op rest group shown to → Crossed image op es (record { at = r.pc; call = call_of i r } ∷ group) (cons_option first shown) to
+    → es ≡ entry_by i r memory ∷ rest → shown_edge image.map op (entry_by i r memory) ≡ first → IsNoUse (monitor_call i r)
+    → Crossed image op rest group shown to → Crossed image op es (record { at = r.pc; call = monitor_call i r } ∷ group) (cons_option first shown) to
 crossed_cons image op i r memory rest es group first shown to whole shows none c =
     let e = entry_by i r memory in
     record {
@@ -170,7 +170,7 @@ crossed_cons image op i r memory rest es group first shown to whole shows none c
       whole = whole ∙ ap (λ (x : List Entry). e ∷ x) c.whole;
       regs = c.regs;
       runs = c.runs;
-      places = ap (λ (x : List Placed). record { at = r.pc; call = call_of i r } ∷ x) c.places;
+      places = ap (λ (x : List Placed). record { at = r.pc; call = monitor_call i r } ∷ x) c.places;
       shows = ap₂ cons_option shows c.shows;
       loads = λ all. subst (AllReadByLoad image) (sym whole) (read_cons image e rest none (c.loads all));
     }

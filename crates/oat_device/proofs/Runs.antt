@@ -12,7 +12,7 @@ use Rattle.oat_measure.specs.Measurement.{State, booted, measured, sealed}
 use Rattle.oat_measure.specs.Monitored.{Monitored}
 use Rattle.oat_journal.specs.declared.end.DeviceEnd.{DeviceEnd}
 use Rattle.oat_journal.specs.declared.end.DeviceEnd.TheVariants.{OutOfSteps}
-use Rattle.oat_journal.specs.Run.{found, makes, start_memory, turn, turn_of}
+use Rattle.oat_journal.specs.Run.{found, makes, start_memory, turn, unless_ended}
 use Rattle.oat_journal.specs.Measured.{Run, IsSealed, body_of, dev, end_of, opening_of, start_cells}
 use Rattle.oat_journal.specs.Progress.{Progress, after_turns, call_told, first_of, going_on, measured_turn, progress_of_run, with_measurement}
 use Rattle.oat_journal.proofs.RunLaws.{measured_ends_stay, measured_turns_follow, runs_report_exactly, turns_are_the_run}
@@ -58,7 +58,7 @@ unfolding turn
 next-left code left writes o p does =
     let s = p.running in
     let same : found left s ≡ found writes s = ap (λ (memory : ℕ → ℕ). record s.machine { memory = memory }) (does s.made s.machine.memory (omega arith)) in
-    ap (λ (m : Machine). with_measurement (record p { running = turn_of s.end s (makes s (step code m)) }) (measured o p.state (call_told (step code m).event s.machine.regs))) same
+    ap (λ (m : Machine). with_measurement (record p { running = unless_ended s.end s (makes s (step code m)) }) (measured o p.state (call_told (step code m).event s.machine.regs))) same
 
 -- what one turn does
 pub record Turned (now next : Course) : Type 0 where

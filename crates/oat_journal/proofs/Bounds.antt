@@ -12,7 +12,7 @@ use Rattle.oat_case.specs.declared.case.Write.{Write}
 use Rattle.oat_image.specs.declared.image.Image.{Image}
 use Rattle.oat_image.specs.declared.image.InitWord.{InitWord}
 use Rattle.oat_journal.specs.declared.end.DeviceEnd.{DeviceEnd}
-use Rattle.oat_journal.specs.Run.{Running, Entry, IsWrite, start_memory, started, poked, found, told, with_input, makes, turn, turn_of, entry, from_entry, journal_from}
+use Rattle.oat_journal.specs.Run.{Running, Entry, IsWrite, start_memory, started, poked, found, told, with_input, makes, turn, unless_ended, entry, from_entry, journal_from}
 use Rattle.oat_journal.specs.Journal.{IsEntryBounded, JournalIsBounded}
 use Rattle.oat_journal.proofs.Turns.{EntryIs, entry-is}
 
@@ -89,15 +89,15 @@ found-bounded : (writes : List Write) → All IsWrite writes → (s : Running) �
 found-bounded writes given s b =
     record { x = b.x; sp = b.sp; pc = b.pc; bytes = poked-bytes writes given s.made s.machine.memory b.bytes }
 
-within-turn_of : (end : Option DeviceEnd) (s next : Running) → Within s → Within next → Within (turn_of end s next)
-within-turn_of None s next p q = q
-within-turn_of (Some why) s next p q = p
+within-unless_ended : (end : Option DeviceEnd) (s next : Running) → Within s → Within next → Within (unless_ended end s next)
+within-unless_ended None s next p q = q
+within-unless_ended (Some why) s next p q = p
 
 within-turn : (code : List ℕ) (writes : List Write) → All IsWrite writes → (s : Running) → Within s → Within (turn code writes s)
 unfolding turn
 within-turn code writes given s w =
     let o = step code (found writes s) in
-    within-turn_of s.end s (makes s o) w
+    within-unless_ended s.end s (makes s o) w
     (within-told s o.machine (step_keeps_bounds code (found writes s) (found-bounded writes given s w.machine)) w.inputs o.event)
 
 -- ---- the journal

@@ -10,13 +10,13 @@ use Rattle.oat_mem.specs.DataMemory.{can_access}
 use Rattle.oat_case.specs.declared.case.Write.{Write}
 use Rattle.oat_image.specs.declared.image.Image.{Image}
 use Rattle.oat_measure.specs.declared.opening.Opening.{Opening}
-use Rattle.oat_measure.specs.Monitor.{call_of, call_numbered}
+use Rattle.oat_measure.specs.Monitor.{monitor_call, call_numbered}
 use Rattle.oat_measure.specs.declared.call.MonitorCall.{MonitorCall}
 use Rattle.oat_measure.specs.Measurement.{State, Measured, booted, with_rest, measured, measures}
 use Rattle.oat_measure.specs.declared.stop.StopKind.{StopKind}
 use Rattle.oat_journal.specs.declared.end.DeviceEnd.{DeviceEnd}
 use Rattle.oat_journal.specs.declared.end.DeviceEnd.TheVariants.{Stopped}
-use Rattle.oat_journal.specs.Run.{Running, Entry, started, found, makes, told, called, turn, turns, turn_of, entry, made_entry, from_entry, journal_from}
+use Rattle.oat_journal.specs.Run.{Running, Entry, started, found, makes, told, called, turn, turns, unless_ended, entry, made_entry, from_entry, journal_from}
 use Rattle.oat_journal.specs.Window.{made_call}
 use Rattle.oat_journal.proofs.Turns.{EntryIs, entry-is, step-is}
 use Rattle.oat_journal.specs.Measured.{run_until, start_cells}
@@ -27,7 +27,7 @@ use Rattle.oat_journal.specs.Progress.{Progress, call_told, kept, stop_of, stopp
 -- an event that ends no run: it tells the call that the instruction makes
 abbrev Fits : Event → Inst → Regs → Type 0
 Fits (event.Fault kind) i r = Unit {0}
-Fits e i r = call_told e r ≡ call_of i r
+Fits e i r = call_told e r ≡ monitor_call i r
 
 fits-if : (t : Bool) (a b : Effect) (i : Inst) (r : Regs) → Fits a.event i r → Fits b.event i r → Fits (cond t a b).event i r
 fits-if true a b i r p q = p
@@ -44,7 +44,7 @@ tells (Brk number) m r = fits-if (leb 1 number && leb number 4) _ _ (Brk number)
 tells _ m r = refl
 
 -- where the run goes on, no fault was told
-fits-going : (s : Running) (m : Machine) (e : Event) (i : Inst) (r : Regs) → (told s m e).end ≡ None → Fits e i r → call_told e r ≡ call_of i r
+fits-going : (s : Running) (m : Machine) (e : Event) (i : Inst) (r : Regs) → (told s m e).end ≡ None → Fits e i r → call_told e r ≡ monitor_call i r
 fits-going s m event.Next i r on fits = fits
 fits-going s m (event.Svc number) i r on fits = fits
 fits-going s m (event.Brk number) i r on fits = fits
@@ -52,7 +52,7 @@ fits-going s m (event.Fault kind) i r on fits = absurd (cc)
 
 pub turn-going : (code : List ℕ) (writes : List Write) (s : Running) → s.end ≡ None → turn code writes s ≡ makes s (step code (found writes s))
 unfolding turn
-turn-going code writes s going = ap (λ (e : Option DeviceEnd). turn_of e s (makes s (step code (found writes s)))) going
+turn-going code writes s going = ap (λ (e : Option DeviceEnd). unless_ended e s (makes s (step code (found writes s)))) going
 
 call-of-entry : (code : List ℕ) (writes : List Write) (s : Running) (e : Entry) → EntryIs code writes s e
     → call_told (step code (found writes s)).event s.machine.regs ≡ made_call e
@@ -63,7 +63,7 @@ call-of-entry code writes s e is =
     let on : (makes s (act e.inst m)).end ≡ None = sym (ap (λ (x : Running). x.end) made) ∙ is.goes_on in
     ap (λ (o : Effect). call_told o.event s.machine.regs) stepped
     ∙ fits-going s (act e.inst m).machine (act e.inst m).event e.inst s.machine.regs on (tells e.inst m s.machine.regs)
-    ∙ ap (λ (x : Machine). call_of e.inst x.regs) (sym is.found)
+    ∙ ap (λ (x : Machine). monitor_call e.inst x.regs) (sym is.found)
 
 -- ---- a turn without an entry ends the run, and makes no call that is measured
 
@@ -101,7 +101,7 @@ no-entry code writes s going None None at is h =
 
 pub stays : (code : List ℕ) (writes : List Write) (s : Running) → Ends s → turn code writes s ≡ s
 unfolding turn
-stays code writes s ends = ap (λ (e : Option DeviceEnd). turn_of e s (makes s (step code (found writes s)))) ends.is
+stays code writes s ends = ap (λ (e : Option DeviceEnd). unless_ended e s (makes s (step code (found writes s)))) ends.is
 
 pub turns-stay : (code : List ℕ) (writes : List Write) (n : ℕ) (s : Running) → Ends s → turns code writes n s ≡ s
 unfolding turns

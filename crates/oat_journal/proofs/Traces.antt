@@ -9,7 +9,7 @@ use Rattle.oat_case.specs.declared.case.Write.{Write}
 use Rattle.oat_chain.specs.Chain.{begin_record, chain, link}
 use Rattle.oat_image.specs.declared.image.Image.{Image}
 use Rattle.oat_measure.specs.declared.opening.Opening.{Opening}
-use Rattle.oat_measure.specs.Monitor.{call_of, opens, seals}
+use Rattle.oat_measure.specs.Monitor.{monitor_call, opens, seals}
 use Rattle.oat_measure.specs.declared.call.MonitorCall.{MonitorCall}
 use Rattle.oat_measure.specs.declared.call.MonitorCall.TheVariants as svc
 use Rattle.oat_measure.specs.Measurement.{State, unmeasured, measuring, sealed, booted, violated, after_window, measured, measures}
@@ -435,7 +435,7 @@ begin-if : (number : ℕ) (r : Regs) (other : Option MonitorCall) → NoBegin ot
 begin-if number r other none true is op at h = (ap Svc (eqb-true number 1 is), cc)
 begin-if number r other none false is op at h = absurd (none op at h)
 
-begin-is : (i : Inst) (r : Regs) (op at : ℕ) → call_of i r ≡ Some (svc.Begin op at) → (i ≡ Svc 1) × (r.pc ≡ at)
+begin-is : (i : Inst) (r : Regs) (op at : ℕ) → monitor_call i r ≡ Some (svc.Begin op at) → (i ≡ Svc 1) × (r.pc ≡ at)
 begin-is (Svc number) r op at h =
     begin-if number r _
     (no-begin-if (eqb number 2) (Some (svc.End (r.x 9))) _ (λ a b q. cc)

@@ -7,7 +7,7 @@ use Rattle.oat_journal.specs.declared.end.DeviceEnd.{DeviceEnd}
 use Rattle.oat_journal.specs.Run.{Running, Entry, entry, found, from_entry, journal_from, made_entry, makes, turn, turns}
 use Rattle.oat_measure.specs.declared.opening.Opening.{Opening}
 use Rattle.oat_journal.specs.Progress.{Progress, after_turns, going_on, measured_turn}
-use Rattle.oat_journal.specs.TurnLaws.{OneTurn, EndedRunsRest, Adds, TurnsAdd, TurnsMakeSteps, MeasuredTurnsFollow, MeasuredEndsStay}
+use Rattle.oat_journal.specs.TurnLaws.{OneTurn, EndedRunsRest, AddsUp, TurnsAdd, TurnsMakeSteps, MeasuredTurnsFollow, MeasuredEndsStay}
 use Rattle.oat_journal.proofs.Turns.{turn-is}
 use Rattle.oat_journal.proofs.Progress.{Ends, no-entries, no-entry, stays, turn-going, turns-stay}
 
@@ -61,8 +61,8 @@ one-more m n = omega arith
 none-more : (n : ℕ) → 0 + n ≡ n
 none-more n = omega arith
 
-adds-entry : (code : List ℕ) (writes : List Write) (m n : ℕ) (s : Running) → Adds code writes m n (turn code writes s)
-    → (e : Option Entry) → entry code writes s ≡ e → Adds code writes (suc m) n s
+adds-entry : (code : List ℕ) (writes : List Write) (m n : ℕ) (s : Running) → AddsUp code writes m n (turn code writes s)
+    → (e : Option Entry) → entry code writes s ≡ e → AddsUp code writes (suc m) n s
 unfolding turns journal_from
 adds-entry code writes m n s rest (Some e) is = record {
   run = ap (λ (k : ℕ). turns code writes k s) (one-more m n) ∙ rest.run;

@@ -10,7 +10,7 @@ use Rattle.oat_a64.specs.Step.{Regs, Machine, Effect, instruction_at, word_at, d
 use Rattle.oat_mem.specs.DataMemory.{can_access}
 use Rattle.oat_case.specs.declared.case.Write.{Write}
 use Rattle.oat_journal.specs.declared.end.DeviceEnd.{DeviceEnd}
-use Rattle.oat_journal.specs.Run.{Running, Entry, found, makes, told, called, with_input, turn, turn_of, entry, made_entry}
+use Rattle.oat_journal.specs.Run.{Running, Entry, found, makes, told, called, with_input, turn, unless_ended, entry, made_entry}
 use Rattle.oat_journal.specs.Journal.{takes_input}
 
 -- ---- fetch
@@ -32,16 +32,16 @@ decodes-none (Some word) m h = ap (λ (o : Option Inst). (acts o m).machine) h
 pub turn-is : (code : List ℕ) (writes : List Write) (s : Running) (i : Inst) → s.end ≡ None → instruction_at code s.machine.regs.pc ≡ Some i → turn code writes s ≡ makes s (act i (found writes s))
 unfolding turn
 turn-is code writes s i going at =
-    ap (λ (e : Option DeviceEnd). turn_of e s (makes s (step code (found writes s)))) going ∙ ap (makes s) (step-is code (found writes s) i at)
+    ap (λ (e : Option DeviceEnd). unless_ended e s (makes s (step code (found writes s)))) going ∙ ap (makes s) (step-is code (found writes s) i at)
 
-turn_of-ended : (end : Option DeviceEnd) (s next : Running) → s.end ≡ end → (turn_of end s next).end ≡ None → end ≡ None
-turn_of-ended None s next was h = refl
-turn_of-ended (Some why) s next was h = sym was ∙ h
+unless_ended-going : (end : Option DeviceEnd) (s next : Running) → s.end ≡ end → (unless_ended end s next).end ≡ None → end ≡ None
+unless_ended-going None s next was h = refl
+unless_ended-going (Some why) s next was h = sym was ∙ h
 
 -- a run that goes on was going on
 pub was_going : (code : List ℕ) (writes : List Write) (s : Running) → (turn code writes s).end ≡ None → s.end ≡ None
 unfolding turn
-was_going code writes s h = turn_of-ended s.end s (makes s (step code (found writes s))) refl h
+was_going code writes s h = unless_ended-going s.end s (makes s (step code (found writes s))) refl h
 
 -- ---- the entry of a turn
 

@@ -91,12 +91,12 @@ abbrev pub makes : Running → Effect → Running
 makes s o = told s o.machine o.event
 
 -- the writes before the next instruction and that instruction; an ended run stays as it is
-abbrev pub turn_of : Option DeviceEnd → Running → Running → Running
-turn_of None s next = next
-turn_of (Some why) s next = s
+abbrev pub unless_ended : Option DeviceEnd → Running → Running → Running
+unless_ended None s next = next
+unless_ended (Some why) s next = s
 
 unfoldable pub turn : List ℕ → List Write → Running → Running
-turn code writes s = turn_of s.end s (makes s (step code (found writes s)))
+turn code writes s = unless_ended s.end s (makes s (step code (found writes s)))
 
 unfoldable pub turns : List ℕ → List Write → ℕ → Running → Running
 turns code writes zero s = s

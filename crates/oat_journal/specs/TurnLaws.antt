@@ -35,12 +35,12 @@ abbrev pub EndedRunsRest : Type 0
 EndedRunsRest = (code : List ℕ) (writes : List Write) (n : ℕ) (s : Running) (why : DeviceEnd) → s.end ≡ Some why → Rests code writes n s
 
 -- Turns behind turns: m + n of them are m and then n, and their entries stand one behind the other.
-pub record Adds (code : List ℕ) (writes : List Write) (m n : ℕ) (s : Running) : Type 0 where
+pub record AddsUp (code : List ℕ) (writes : List Write) (m n : ℕ) (s : Running) : Type 0 where
   pub run : turns code writes (m + n) s ≡ turns code writes n (turns code writes m s)
   pub journal : journal_from code writes (m + n) s ≡ journal_from code writes m s ++ journal_from code writes n (turns code writes m s)
 
 abbrev pub TurnsAdd : Type 0
-TurnsAdd = (code : List ℕ) (writes : List Write) (m n : ℕ) (s : Running) → Adds code writes m n s
+TurnsAdd = (code : List ℕ) (writes : List Write) (m n : ℕ) (s : Running) → AddsUp code writes m n s
 
 -- ---- measured turns
 

@@ -1,7 +1,7 @@
 -- The window of an operation in a run's journal, and what the run shows there: its path, its returns, its branch bits and its indirect targets (docs/DEFINITIONS.md, "Window").
 use Rattle.std.specs.Prelude.{◌+◌, ℕ, Bool, true, false, not, nat_eq, if◌then◌else◌, List, Option, Some, None}
 use Rattle.std.specs.List.{filter_map, list_any}
-use Rattle.oat_measure.specs.Monitor.{call_of, opens, seals}
+use Rattle.oat_measure.specs.Monitor.{monitor_call, opens, seals}
 use Rattle.oat_measure.specs.declared.call.MonitorCall.{MonitorCall}
 use Rattle.oat_measure.specs.declared.call.MonitorCall.TheVariants as svc
 use Rattle.oat_map.specs.declared.map.Map.{Map}
@@ -16,7 +16,7 @@ use Rattle.oat_a64.specs.Kinds.{is_transfer}
 
 -- the monitor call that an instruction made
 abbrev pub made_call : Entry → Option MonitorCall
-made_call e = call_of e.inst e.found.regs
+made_call e = monitor_call e.inst e.found.regs
 
 abbrev pub is_made : (MonitorCall → Bool) → Option MonitorCall → Bool
 is_made test None = false

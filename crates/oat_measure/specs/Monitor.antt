@@ -19,9 +19,9 @@ call_numbered number r =
     else None))))))
 
 -- the monitor call that an instruction makes
-abbrev pub call_of : Inst → Regs → Option MonitorCall
-call_of (Svc number) r = call_numbered number r
-call_of _ r = None
+abbrev pub monitor_call : Inst → Regs → Option MonitorCall
+monitor_call (Svc number) r = call_numbered number r
+monitor_call _ r = None
 
 -- A begin opens the window of an operation only by the call in that operation's Begin group.
 abbrev pub opens : ℕ → ℕ → MonitorCall → Bool
