@@ -7,7 +7,6 @@ use Rattle.oat_case.specs.declared.case.Session.{Session}
 use Rattle.oat_case.specs.declared.case.Write.{Write}
 use Rattle.oat_image.specs.declared.image.Image.{Image}
 use Rattle.oat_image.specs.Grammar.{image_text}
-use Rattle.oat_map.specs.Rows.{BeginsAt}
 use Rattle.sha2.specs.Sha256.{sha256}
 use Rattle.oat_mem.specs.DataMemory.{word_in, global_address}
 use Rattle.oat_measure.specs.declared.opening.Opening.{Opening}
@@ -24,10 +23,6 @@ use Rattle.oat_journal.specs.Uses.{CheckedUse, IsSound, uses_behind}
 -- what a window on an image is opened for: the session's nonce and operation, the image's digest, and where the operation's window opens
 abbrev pub opening_of : Image → Session → ℕ → Opening
 opening_of image session begin_at = record { nonce = session.nonce; op = session.op; digest = sha256 (image_text image); begin_at = begin_at }
-
--- an opening for a session's operation: its window opens at the SVC of that operation's Begin group
-abbrev pub IsOpenedFor : Image → Session → Opening → Type 0
-IsOpenedFor image session o = (begin_at : ℕ) × BeginsAt image.map session.op begin_at × (o ≡ opening_of image session begin_at)
 
 -- a cell holds the word of global data whose index the image gives it
 abbrev pub start_cells : Image → Cells

@@ -15,7 +15,8 @@ use Rattle.oat_case.specs.declared.case.Case.{Case}
 use Rattle.oat_shape.specs.MapRules.{S7}
 use Rattle.oat_shape.specs.Shape.{Everywhere}
 use Rattle.oat_map.specs.Rows.{BeginsAt, IsOperation}
-use Rattle.oat_journal.specs.Measured.{Run, IsSealed, body_of, IsOpenedFor, opening_of}
+use Rattle.oat_journal.specs.Measured.{Run, IsSealed, body_of, opening_of}
+use Rattle.oat_shape.proofs.Laid.{opens_once}
 use Rattle.oat_first.specs.First.{IsOne}
 use Rattle.oat_tool.specs.declared.page.Stop.{Stop}
 use Rattle.oat_tool.specs.declared.page.Ended.TheVariants.{Done, Unsealed}
@@ -43,39 +44,6 @@ stops_rejecting image case stop stops =
 pub runs_admitted : (image case : File) (i : Image) (c : Case) (a : Answer) → AreAdmitted image case i c → RunsCase i c a → Runs (image ∷ case ∷ []) a
 runs_admitted image case i c a admitted runs = Admits-admitted image case RunsCase a i c admitted runs
 
--- ---- where the window opens
-
-pub begins : (flow : Map) (op : ℕ) → (begun : IsOperation flow op) → BeginsAt flow op (begun.0 + 4)
-begins flow op begun = (begun.0, begun.1, refl)
-
-pub opens : (image : Image) (case : Case) → (begun : IsOperation image.map case.session.op)
-    → IsOpenedFor image case.session (opening_of image case.session (begun.0 + 4))
-opens image case begun = (begun.0 + 4, begins image.map case.session.op begun, refl)
-
-at_place : (rows : List Row) (row : Row) (among : Contains rows row) → slice_get rows among.0 ≡ Some row
-at_place rows row among = slice_get-get_or rows among.0 row among.1 ∙ ap (λ r. Some r) among.2
-
-never_twice : (flow : Map) (op at other k later : ℕ) → Everywhere (S7 flow) → slice_get flow.rows k ≡ Some (Begin at op)
-    → slice_get flow.rows later ≡ Some (Begin other op) → k < later → ⊥
-never_twice flow op at other k later paired first second below = paired other later (Begin other op) second refl k at below first
-
-one_begin : (flow : Map) (op one two : ℕ) → Everywhere (S7 flow) → BeginsAt flow op one → BeginsAt flow op two → two ≡ one
-one_begin flow op one two paired (at, among, is) (other, among', is') =
-    let first = at_place flow.rows (Begin at op) among in
-    let second = at_place flow.rows (Begin other op) among' in
-    elim (cases_lt among.0 among'.0) [
-      | inl before ↦ absurd (never_twice flow op at other among.0 among'.0 paired first second before)
-      | inr not_before ↦ elim (cases_lt among'.0 among.0) [
-        | inl behind ↦ absurd (never_twice flow op other at among'.0 among.0 paired second first behind)
-        | inr not_behind ↦
-            let same : among.0 ≡ among'.0 = omega (arith, not_before, not_behind) in
-            let third : slice_get flow.rows among.0 ≡ Some (Begin other op) = subst (λ (k : ℕ). slice_get flow.rows k ≡ Some (Begin other op)) (sym same) second in
-            let rows : Begin at op ≡ Begin other op = cc in
-            let places : at ≡ other = cc in
-            omega (arith, is, is', places)
-      ]
-    ]
-
 -- ---- one answer
 
 one_blob : (body : Body) (key one two : List ℕ) → IsBlobOf body key one → IsBlobOf body key two → one ≡ two
@@ -91,7 +59,7 @@ one_shown o key run a b (unsealed none shown) (unsealed none' shown') = shown �
 
 one_run : (image : Image) (case : Case) → Everywhere (S7 image.map) → IsOne Answer (RunsCase image case)
 one_run image case paired a b one two =
-    let same = one_begin image.map case.session.op one.begin_at two.begin_at paired one.begins two.begins in
+    let same = opens_once image.map case.session.op one.begin_at two.begin_at paired one.begins two.begins in
     one_shown (opening_of image case.session one.begin_at) case.session.key (run_of image case one.begin_at) a b one.shown
     (subst (λ (at : ℕ). ShowsRun (opening_of image case.session at) case.session.key (run_of image case at) b) same two.shown)
 

@@ -6,8 +6,7 @@ use Rattle.oat_blob.specs.Layout.{IsBlobOf}
 use Rattle.oat_image.specs.declared.image.Image.{Image}
 use Rattle.oat_map.specs.Rows.{BeginsAt}
 use Rattle.oat_case.specs.declared.case.Case.{Case}
-use Rattle.oat_journal.specs.Measured.{Run, dev, opening_of, IsSealed, body_of}
-use Rattle.oat_device.specs.Standing.{end_of}
+use Rattle.oat_journal.specs.Measured.{Run, dev, end_of, opening_of, IsSealed, body_of}
 use Rattle.oat_tool.specs.declared.page.Ended.TheVariants.{Done, Unsealed}
 use Rattle.oat_tool.specs.Outcome.{line}
 use Rattle.oat_tool.specs.Answer.{Answer, shows}

@@ -2,7 +2,7 @@ ghost use Rattle.std.specs.Prelude.{◌≡◌, ◌<◌, ◌^◌, ◌++◌, [], l
 ghost use Rattle.oat_blob.specs.Layout.{IsBlobOf};
 ghost use Rattle.oat_case.specs.Limits.{IsWellFormedCase};
 ghost use Rattle.oat_map.specs.Rows.{IsOperation};
-ghost use Rattle.oat_device.specs.Standing.{reported};
+ghost use Rattle.oat_device.specs.DeviceRun.{reported};
 ghost use Rattle.oat_tool.specs.declared.command.Command.TheVariants as commands;
 ghost use Rattle.oat_tool.specs.Commands.{limits_of};
 ghost use Rattle.oat_tool.specs.declared.page.Ended.TheVariants.{Done, Unsealed};

@@ -1,64 +1,53 @@
-use Rattle.std.proofs.Common.{◌+◌, subst}
+use Rattle.std.proofs.Common.{◌≡◌, sym, ap, subst, ◌∙◌}
 use Rattle.std.proofs.lemmas.Result.{IfOk-weaker}
 use Rattle.oat_blob.specs.Body.{Body}
 use Rattle.oat_blob.specs.Layout.{IsBlobOf}
-use Rattle.oat_journal.specs.Measured.{opening_of}
-use Rattle.oat_tool.specs.Device.{sealed, unsealed}
-use Rattle.oat_tool.proofs.Running.{begins, opens}
-use Rattle.oat_tool.proofs.Records.{reported_small}
+use Rattle.oat_journal.specs.Measured.{Run, IsSealed, body_of, end_of, opening_of}
+use Rattle.oat_device.specs.DeviceRun.{HasRun, reported}
+use Rattle.oat_device.proofs.Whole.{steps_make_the_run}
+use Rattle.oat_tool.specs.Device.{run_of, sealed, unsealed}
+use Rattle.oat_tool.proofs.Records.{IsSmall, reported_small}
 use Rattle.oat_tool.proofs.device.run_case.Goals as goal
 
+-- what the device has made
+has : (c : goal.After-run-end) → HasRun c.run-end.new.self c.args.shaped.now c.args.case.now
+has c = steps_make_the_run c.args.shaped.now c.args.case.now _ _ c.in_ok-device.ensures c.run-end.ensures.whole
+
+-- the body that it reports is that of the case's run
+body : (c : goal.After-blob_under-arg-3) → reported c.in-Some.sealed.now
+    ≡ body_of (opening_of c.args.shaped.now c.args.case.now.session c.run-end.new.self.begin_at) (run_of c.args.shaped.now c.args.case.now c.run-end.new.self.begin_at).state
+body c = let h = has c in c.in-Some.ensures.body ∙ (λ i. body_of (h.opening i) (h.run i).state)
+
+small : (c : goal.After-blob_under-arg-3) → IsSmall c.in-Some.sealed.now
+small c = reported_small c.args.shaped.now c.args.case.now c.run-end.new.self.begin_at c.in-Some.sealed.now c.requires.well_formed (body c)
+
 pub blob_under-requires-clause-few_bits : goal.blob_under-requires-clause-few_bits
-blob_under-requires-clause-few_bits c =
-    let image = c.args.shaped.now in
-    let case = c.args.case.now in
-    let begun = c.requires.operation in
-    let stands = c.run-end.ensures.whole image case 0 c.in_ok-device.ensures in
-    let told = c.in-Some.ensures image case case.steps (opening_of image case.session (begun.0 + 4)) stands (opens image case begun) in
-    (reported_small image case (begun.0 + 4) c.in-Some.sealed.now c.requires.well_formed told.1).bits
+blob_under-requires-clause-few_bits c = (small c).bits
 
 pub blob_under-requires-clause-few_targets : goal.blob_under-requires-clause-few_targets
-blob_under-requires-clause-few_targets c =
-    let image = c.args.shaped.now in
-    let case = c.args.case.now in
-    let begun = c.requires.operation in
-    let stands = c.run-end.ensures.whole image case 0 c.in_ok-device.ensures in
-    let told = c.in-Some.ensures image case case.steps (opening_of image case.session (begun.0 + 4)) stands (opens image case begun) in
-    (reported_small image case (begun.0 + 4) c.in-Some.sealed.now c.requires.well_formed told.1).targets
+blob_under-requires-clause-few_targets c = (small c).targets
 
 pub returns-in-Some : goal.returns-in-Some
 returns-in-Some c =
-    let image = c.args.shaped.now in
-    let case = c.args.case.now in
-    let begun = c.requires.operation in
-    let o = opening_of image case.session (begun.0 + 4) in
-    let is = opens image case begun in
-    let stands = c.run-end.ensures.whole image case 0 c.in_ok-device.ensures in
-    let told = c.in-Some.ensures image case case.steps o stands is in
-    let end = c.run-end.ensures.ended image case case.steps o stands is in
-    let outputs = c.outputs.ensures image case case.steps o stands is in
+    let h = has c in
+    let end = c.run-end.ensures.ended ∙ ap end_of h.run in
+    let outputs = c.outputs.ensures ∙ ap (λ (run : Run). run.running.outputs) h.run in
     let laid = rw c.as_slice.ensures at c.in_ok-blob-in-Some.ensures in
-    let blob = subst (λ (body : Body). IsBlobOf body case.session.key c.in_ok-blob-in-Some.blob.items) told.1 laid in
+    let blob = subst (λ (body : Body). IsBlobOf body c.args.case.now.session.key c.in_ok-blob-in-Some.blob.items) (body c) laid in
     record {
-      begin_at = begun.0 + 4;
-      begins = begins image.map case.session.op begun;
-      shown = sealed told.0 c.in_ok-blob-in-Some.blob.items blob (rw (c.in_ok-lines.ensures, outputs, end) at c.sealed_page.ensures);
+      begin_at = c.run-end.new.self.begin_at;
+      begins = h.begins;
+      shown = sealed (subst IsSealed h.run c.in-Some.ensures.sealed) c.in_ok-blob-in-Some.blob.items blob (rw (c.in_ok-lines.ensures, outputs, end) at c.sealed_page.ensures);
     }
 
 pub returns : goal.returns
 returns c =
-    let image = c.args.shaped.now in
-    let case = c.args.case.now in
-    let begun = c.requires.operation in
-    let o = opening_of image case.session (begun.0 + 4) in
-    let is = opens image case begun in
-    let stands = c.run-end.ensures.whole image case 0 c.in_ok-device.ensures in
-    let none = c.in-None.ensures image case case.steps o stands is in
-    let end = c.run-end.ensures.ended image case case.steps o stands is in
-    let outputs = c.outputs.ensures image case case.steps o stands is in
+    let h = has c in
+    let end = c.run-end.ensures.ended ∙ ap end_of h.run in
+    let outputs = c.outputs.ensures ∙ ap (λ (run : Run). run.running.outputs) h.run in
     let paged = rw (c.in_ok-lines.ensures, outputs, end) at c.unsealed_page.ensures in
     IfOk-weaker c.unsealed_page.result _ _ (λ page shown. record {
-      begin_at = begun.0 + 4;
-      begins = begins image.map case.session.op begun;
-      shown = unsealed none shown;
+      begin_at = c.run-end.new.self.begin_at;
+      begins = h.begins;
+      shown = unsealed (λ shut. c.in-None.ensures (subst IsSealed (sym h.run) shut)) shown;
     }) paged
