@@ -1,39 +1,30 @@
-use Rattle.std.proofs.Common.{◌≡◌, sym, ap, subst, ◌∙◌}
+use Rattle.std.proofs.Common.{sym, ap, subst, ◌∙◌}
 use Rattle.std.proofs.lemmas.Result.{IfOk-weaker}
 use Rattle.oat_blob.specs.Body.{Body}
 use Rattle.oat_blob.specs.Layout.{IsBlobOf}
-use Rattle.oat_journal.specs.Measured.{Run, IsSealed, body_of, end_of, opening_of}
-use Rattle.oat_device.specs.DeviceRun.{HasRun, reported}
+use Rattle.oat_journal.specs.Measured.{Run, IsSealed, end_of}
 use Rattle.oat_device.proofs.Whole.{steps_make_the_run}
-use Rattle.oat_tool.specs.Device.{run_of, sealed, unsealed}
-use Rattle.oat_tool.proofs.Records.{IsSmall, reported_small}
+use Rattle.oat_tool.specs.Device.{sealed, unsealed}
+use Rattle.oat_tool.proofs.Records.{body_reported, device_small}
 use Rattle.oat_tool.proofs.device.run_case.Goals as goal
 
--- what the device has made
-has : (c : goal.After-run-end) → HasRun c.run-end.new.self c.args.shaped.now c.args.case.now
-has c = steps_make_the_run c.args.shaped.now c.args.case.now _ _ c.in_ok-device.ensures c.run-end.ensures.whole
-
--- the body that it reports is that of the case's run
-body : (c : goal.After-blob_under-arg-3) → reported c.in-Some.sealed.now
-    ≡ body_of (opening_of c.args.shaped.now c.args.case.now.session c.run-end.new.self.begin_at) (run_of c.args.shaped.now c.args.case.now c.run-end.new.self.begin_at).state
-body c = let h = has c in c.in-Some.ensures.body ∙ (λ i. body_of (h.opening i) (h.run i).state)
-
-small : (c : goal.After-blob_under-arg-3) → IsSmall c.in-Some.sealed.now
-small c = reported_small c.args.shaped.now c.args.case.now c.run-end.new.self.begin_at c.in-Some.sealed.now c.requires.well_formed (body c)
-
 pub blob_under-requires-clause-few_bits : goal.blob_under-requires-clause-few_bits
-blob_under-requires-clause-few_bits c = (small c).bits
+blob_under-requires-clause-few_bits c =
+    let has = steps_make_the_run c.args.shaped.now c.args.case.now _ _ c.in_ok-device.ensures c.run-end.ensures.whole in
+    (device_small _ c.args.shaped.now c.args.case.now c.in-Some.sealed.now c.requires.well_formed has c.in-Some.ensures).bits
 
 pub blob_under-requires-clause-few_targets : goal.blob_under-requires-clause-few_targets
-blob_under-requires-clause-few_targets c = (small c).targets
+blob_under-requires-clause-few_targets c =
+    let has = steps_make_the_run c.args.shaped.now c.args.case.now _ _ c.in_ok-device.ensures c.run-end.ensures.whole in
+    (device_small _ c.args.shaped.now c.args.case.now c.in-Some.sealed.now c.requires.well_formed has c.in-Some.ensures).targets
 
 pub returns-in-Some : goal.returns-in-Some
 returns-in-Some c =
-    let h = has c in
+    let h = steps_make_the_run c.args.shaped.now c.args.case.now _ _ c.in_ok-device.ensures c.run-end.ensures.whole in
     let end = c.run-end.ensures.ended ∙ ap end_of h.run in
     let outputs = c.outputs.ensures ∙ ap (λ (run : Run). run.running.outputs) h.run in
     let laid = rw c.as_slice.ensures at c.in_ok-blob-in-Some.ensures in
-    let blob = subst (λ (body : Body). IsBlobOf body c.args.case.now.session.key c.in_ok-blob-in-Some.blob.items) (body c) laid in
+    let blob = subst (λ (body : Body). IsBlobOf body c.args.case.now.session.key c.in_ok-blob-in-Some.blob.items) (body_reported _ c.args.shaped.now c.args.case.now c.in-Some.sealed.now h c.in-Some.ensures) laid in
     record {
       begin_at = c.run-end.new.self.begin_at;
       begins = h.begins;
@@ -42,7 +33,7 @@ returns-in-Some c =
 
 pub returns : goal.returns
 returns c =
-    let h = has c in
+    let h = steps_make_the_run c.args.shaped.now c.args.case.now _ _ c.in_ok-device.ensures c.run-end.ensures.whole in
     let end = c.run-end.ensures.ended ∙ ap end_of h.run in
     let outputs = c.outputs.ensures ∙ ap (λ (run : Run). run.running.outputs) h.run in
     let paged = rw (c.in_ok-lines.ensures, outputs, end) at c.unsealed_page.ensures in
