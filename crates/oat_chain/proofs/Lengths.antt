@@ -1,11 +1,11 @@
 -- Lengths of digests, chains and begin records.
-use Rattle.std.proofs.Common.{◌≡◌, ℕ, List, [], ◌∷◌, ◌++◌, length, refl, arith, length-append}
-use Rattle.std.specs.Int.{w16, to_be_bytes}
+use Rattle.std.proofs.Common.{◌≡◌, ℕ, List, [], ◌∷◌, ◌++◌, length, Option, Some, None, refl, arith, length-append}
+use Rattle.std.specs.Int.{w16, w32, to_be_bytes}
 use Rattle.std.specs.List.{fold}
 use Rattle.sha2.specs.Sha256.{sha256}
 use Rattle.sha2.proofs.Facts256.{length-sha256}
-use Rattle.oat_chain.specs.Chain.{chain, link}
-use Rattle.oat_chain.specs.Laws.{BeginLength, ChainLength, DigestLength}
+use Rattle.oat_chain.specs.Chain.{begin_record, window_digest, chain, link}
+use Rattle.oat_chain.specs.Laws.{HeadLength, ChainLength, DigestLength}
 
 pub length-digest : DigestLength
 length-digest message = length-sha256 message
@@ -18,12 +18,17 @@ pub length-chain : ChainLength
 unfolding chain
 length-chain head addresses = length-fold (sha256 head) addresses (length-sha256 head)
 
-pub length-begin_record : BeginLength
+length-begin_record : (nonce : List ℕ) (op : ℕ) (digest : List ℕ) → length nonce ≡ 16 → length digest ≡ 32 → length (begin_record nonce op digest) ≡ 50
 length-begin_record nonce op digest of_nonce of_digest =
     let number : length (to_be_bytes w16 op) ≡ 2 = refl in
     let both = length-append (to_be_bytes w16 op) digest in
     let whole = length-append nonce (to_be_bytes w16 op ++ digest) in
     omega arith
+
+pub length-window_head : HeadLength
+length-window_head nonce op digest None of_nonce of_digest = length-begin_record nonce op digest of_nonce of_digest
+length-window_head nonce op digest (Some serial) of_nonce of_digest =
+    length-begin_record nonce op (window_digest digest (Some serial)) of_nonce (length-sha256 (digest ++ to_be_bytes w32 serial))
 
 fold-push : (before addresses : List ℕ) (a : ℕ) → fold (λ h b. sha256 (link h b)) before (addresses ++ a ∷ []) ≡ sha256 (link (fold (λ h b. sha256 (link h b)) before addresses) a)
 fold-push before [] a = refl

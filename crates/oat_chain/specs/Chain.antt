@@ -1,13 +1,22 @@
 -- The begin record, the return chain and the messages that it hashes: docs/FORMATS.md, over the
 -- SHA-256 of FIPS 180-4. Numbers stand with the high byte first.
-use Rattle.std.specs.Prelude.{◌≡◌, ◌≢◌, ℕ, List, [], ◌∷◌, ◌++◌}
-use Rattle.std.specs.Int.{w16, w64, to_be_bytes}
+use Rattle.std.specs.Prelude.{◌≡◌, ◌≢◌, ℕ, List, [], ◌∷◌, ◌++◌, Option, Some, None}
+use Rattle.std.specs.Int.{w16, w32, w64, to_be_bytes}
 use Rattle.std.specs.List.{fold}
 use Rattle.sha2.specs.Sha256.{sha256}
 
--- what a window begins with: its nonce, the number of its operation and the digest of its image
+-- a nonce, the number of an operation, and a digest
 abbrev pub begin_record : List ℕ → ℕ → List ℕ → List ℕ
 begin_record nonce op digest = nonce ++ (to_be_bytes w16 op ++ digest)
+
+-- the digest in a window's begin record: that of the image, or where the windows of a session are numbered, the one of it and the window's number
+abbrev pub window_digest : List ℕ → Option ℕ → List ℕ
+window_digest digest None = digest
+window_digest digest (Some serial) = sha256 (digest ++ to_be_bytes w32 serial)
+
+-- what a window begins with
+abbrev pub window_head : List ℕ → ℕ → List ℕ → Option ℕ → List ℕ
+window_head nonce op digest serial = begin_record nonce op (window_digest digest serial)
 
 -- the chain so far, and the address of one return behind it
 abbrev pub link : List ℕ → ℕ → List ℕ

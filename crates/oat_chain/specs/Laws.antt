@@ -1,9 +1,9 @@
 -- The lengths that tell a begin record from a link: a digest of FIPS 180-4's SHA-256 has 32 bytes, a
 -- link 40 and a begin record 50. And what follows where different lists have one chain.
-use Rattle.std.specs.Prelude.{◌≡◌, ◌≢◌, ◌<◌, ◌^◌, ℕ, List, length}
+use Rattle.std.specs.Prelude.{◌≡◌, ◌≢◌, ◌<◌, ◌^◌, ℕ, List, length, Option}
 use Rattle.std.specs.List.{All}
 use Rattle.sha2.specs.Sha256.{sha256}
-use Rattle.oat_chain.specs.Chain.{begin_record, chain, messages, DiffersAt}
+use Rattle.oat_chain.specs.Chain.{window_head, chain, messages, DiffersAt}
 
 abbrev pub DigestLength : Type 0
 DigestLength = (message : List ℕ) → length (sha256 message) ≡ 32
@@ -11,9 +11,9 @@ DigestLength = (message : List ℕ) → length (sha256 message) ≡ 32
 abbrev pub ChainLength : Type 0
 ChainLength = (head addresses : List ℕ) → length (chain head addresses) ≡ 32
 
-abbrev pub BeginLength : Type 0
-BeginLength = (nonce : List ℕ) (op : ℕ) (digest : List ℕ) → length nonce ≡ 16 → length digest ≡ 32
-    → length (begin_record nonce op digest) ≡ 50
+abbrev pub HeadLength : Type 0
+HeadLength = (nonce : List ℕ) (op : ℕ) (digest : List ℕ) (serial : Option ℕ) → length nonce ≡ 16 → length digest ≡ 32
+    → length (window_head nonce op digest serial) ≡ 50
 
 -- two different messages with one digest, at the first place from the ends where the lists' messages differ
 pub record HasClash (head run replay : List ℕ) : Type 0 where

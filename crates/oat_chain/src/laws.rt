@@ -1,6 +1,6 @@
 //! Facts about digests, for proofs that rest on them: each function's contract is the fact.
 
-ghost use Rattle.oat_chain.specs.Laws.{BeginLength, ChainLength, ClashExists, DigestLength};
+ghost use Rattle.oat_chain.specs.Laws.{ChainLength, ClashExists, DigestLength, HeadLength};
 
 /// A digest has 32 bytes.
 pub fn digest_length()
@@ -12,9 +12,9 @@ pub fn chain_length()
     ensures { ChainLength }
 {}
 
-/// A begin record has 50 bytes, and so isn't a link, which has 40.
-pub fn begin_length()
-    ensures { BeginLength }
+/// A window's head has 50 bytes, and so isn't a link, which has 40.
+pub fn head_length()
+    ensures { HeadLength }
 {}
 
 /// Different lists of returns with one chain exhibit two different messages with one SHA-256 digest.

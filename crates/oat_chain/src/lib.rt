@@ -2,7 +2,7 @@
 #![tactic(auto)]
 
 ghost use Rattle.std.specs.Prelude.{◌≡◌, ℕ, ◌+◌, ◌≤◌, List, [], ◌∷◌, ◌++◌, length, take, drop};
-ghost use Rattle.oat_chain.specs.Chain.{begin_record, chain};
+ghost use Rattle.oat_chain.specs.Chain.{begin_record, window_digest, window_head, chain};
 ghost use Rattle.oat_chain.specs.Standing.{StandsFor};
 
 use sha2::{Digest, Sha256};
@@ -12,7 +12,7 @@ mod laws;
 mod message;
 
 pub use comparison::clash;
-pub use laws::{begin_length, chain_length, clash_exists, digest_length};
+pub use laws::{chain_length, clash_exists, digest_length, head_length};
 pub use message::{Clash, Message};
 
 // Writes `part` over the bytes of `message` from `at` on.
@@ -24,7 +24,7 @@ fn put(message: &mut [u8; 50], at: usize, part: &[u8])
     message[at..end].copy_from_slice(part);
 }
 
-/// The message with which a window begins, and its chain with it.
+/// A nonce, the number of an operation and a digest, as one message of 50 bytes.
 pub fn begin_record(nonce: &[u8; 16], op: u16, digest: &[u8; 32]) -> [u8; 50]
     ensures { result ≡ begin_record nonce.now op digest.now }
 {
@@ -33,6 +33,25 @@ pub fn begin_record(nonce: &[u8; 16], op: u16, digest: &[u8; 32]) -> [u8; 50]
     put(&mut message, 16, &op.to_be_bytes());
     put(&mut message, 18, digest);
     message
+}
+
+fn window_digest(digest: &[u8; 32], serial: Option<u32>) -> [u8; 32]
+    ensures { result ≡ window_digest digest.now serial }
+{
+    let Some(serial) = serial else {
+        return *digest;
+    };
+    let mut hasher = Sha256::new();
+    hasher.update(digest);
+    hasher.update(&serial.to_be_bytes());
+    hasher.finalize()
+}
+
+/// The message with which a window begins, and its chain with it: its serial number is in it where the windows of a session are numbered.
+pub fn window_head(nonce: &[u8; 16], op: u16, digest: &[u8; 32], serial: Option<u32>) -> [u8; 50]
+    ensures { result ≡ window_head nonce.now op digest.now serial }
+{
+    begin_record(nonce, op, &window_digest(digest, serial))
 }
 
 /// The running digest of a window's returns.
