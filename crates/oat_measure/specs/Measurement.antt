@@ -1,13 +1,13 @@
--- The measurement step: what each monitor call from 1 to 7 does to what the monitor knows (docs/FORMATS.md, "Monitor calls").
+-- The measurement step: what each monitor call from 1 to 7 does to what the monitor knows of a window (docs/FORMATS.md, "Monitor calls").
 --
 -- It speaks of calls alone and knows no machine.
-use Rattle.std.specs.Prelude.{◌+◌, ◌&&◌, if◌then◌else◌, ℕ, Bool, not, List, [], ◌∷◌, ◌++◌, Option, Some, None, is_some, Result, Ok, Err, nat_eq}
+use Rattle.std.specs.Prelude.{if◌then◌else◌, ℕ, Bool, not, List, [], ◌∷◌, ◌++◌, Option, Some, None, Result, Ok, Err, nat_eq}
 use Rattle.sha2.specs.Sha256.{sha256}
 use Rattle.oat_blob.specs.declared.body.Violation.{Violation}
 use Rattle.oat_measure.specs.Monitor.{opens}
 use Rattle.oat_measure.specs.declared.call.MonitorCall.{MonitorCall}
 use Rattle.oat_measure.specs.declared.call.MonitorCall.TheVariants as svc
-use Rattle.oat_chain.specs.Chain.{begin_record, link}
+use Rattle.oat_chain.specs.Chain.{window_head, link}
 use Rattle.oat_events.specs.Cells.{Cells, defined}
 use Rattle.oat_measure.specs.declared.opening.Opening.{Opening}
 use Rattle.oat_measure.specs.declared.stop.StopKind.{StopKind}
@@ -20,6 +20,8 @@ pub data Stage : Type 0 where
 
 pub record State : Type 0 where
   pub stage : Stage
+  -- the window's number, where the windows of a session are numbered
+  pub serial : Option ℕ
   pub cells : Cells
   -- the chain of the returns so far
   pub hash : List ℕ
@@ -27,9 +29,9 @@ pub record State : Type 0 where
   pub targets : List ℕ
   pub violation : Option Violation
 
--- before the window, with the cells as the image gives them
-abbrev pub booted : Cells → State
-booted cells = record { stage = unmeasured; cells = cells; hash = []; bits = []; targets = []; violation = None }
+-- before the window of this number, with these cells
+abbrev pub booted : Option ℕ → Cells → State
+booted serial cells = record { stage = unmeasured; serial = serial; cells = cells; hash = []; bits = []; targets = []; violation = None }
 
 -- The violation behind a use: that of a value other than the cell's. The first one is kept.
 abbrev pub violated : Option Violation → ℕ → Option ℕ → ℕ → Option Violation
@@ -49,7 +51,7 @@ inside_window o s (svc.Use cell value) = Ok (record s { violation = violated s.v
 
 -- before the window: a begin may open it, a define sets its cell, and nothing else counts
 abbrev pub before_window : Opening → State → MonitorCall → State
-before_window o s (svc.Begin op at) = if opens o.op o.begin_at (svc.Begin op at) then record s { stage = measuring; hash = sha256 (begin_record o.nonce o.op o.digest) } else s
+before_window o s (svc.Begin op at) = if opens o.op o.begin_at (svc.Begin op at) then record s { stage = measuring; hash = sha256 (window_head o.nonce o.op o.digest s.serial) } else s
 before_window o s (svc.Define cell value) = record s { cells = defined s.cells cell value }
 before_window o s _ = s
 
@@ -62,18 +64,3 @@ after_window s _ = s
 abbrev pub measured : Opening → State → Option MonitorCall → Result State StopKind
 measured o s None = Ok s
 measured o s (Some call) = elim s.stage [ unmeasured ↦ Ok (before_window o s call) | measuring ↦ inside_window o s call | sealed ↦ Ok (after_window s call) ]
-
--- what a run of instructions led to: the state, and the first stop with the number of instructions up to it
-pub record Measured : Type 0 where
-  pub state : State
-  pub taken : ℕ
-  pub stop : Option StopKind
-
-abbrev pub with_rest : State → Result State StopKind → (State → Measured) → Measured
-with_rest s (Ok next) rest = let others = rest next in record others { taken = others.taken + 1 }
-with_rest s (Err stop) rest = record { state = s; taken = 1; stop = Some stop }
-
--- the measurement step over the calls of a run, up to the first stop
-unfoldable pub measures : Opening → State → List (Option MonitorCall) → Measured
-measures o s [] = record { state = s; taken = 0; stop = None }
-measures o s (call ∷ calls) = with_rest s (measured o s call) (λ next. measures o next calls)

@@ -1,6 +1,5 @@
 -- What the measurement states show: the state of the measurement step, the window's opening, and the room for records (docs/FORMATS.md, "Monitor calls").
 use Rattle.std.specs.Prelude.{◌≡◌, ℕ, Bool, List, Option, slice_get}
-use Rattle.oat_blob.specs.declared.body.BodyHead.{BodyHead}
 use Rattle.oat_blob.specs.declared.body.Violation.{Violation}
 use Rattle.oat_measure.specs.declared.opening.Opening.{Opening}
 use Rattle.oat_measure.specs.Measurement.{Stage, State}
@@ -25,6 +24,7 @@ cells_of words = slice_get words
 abbrev pub state_at : Stage → Monitored → State
 state_at stage shown = record {
   stage = stage;
+  serial = shown.opening.serial;
   cells = cells_of shown.cells;
   hash = shown.hash;
   bits = shown.bits;
@@ -37,7 +37,3 @@ pub record Keeps (old new : Monitored) : Type 0 where
   pub opening : new.opening ≡ old.opening
   pub spare_bits : new.spare_bits ≡ old.spare_bits
   pub spare_targets : new.spare_targets ≡ old.spare_targets
-
--- a blob's body but for its bits and targets
-abbrev pub body_head : Opening → State → BodyHead
-body_head o s = record { op = o.op; nonce = o.nonce; digest = o.digest; hash = s.hash; violation = s.violation }

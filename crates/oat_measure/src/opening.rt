@@ -1,4 +1,4 @@
-/// What a window is opened for.
+/// What the windows of a session are opened for, and the number of the present one.
 #[derive(Clone, Copy, Debug, PartialEq, Eq)]
 pub struct Opening {
     pub nonce: [u8; 16],
@@ -7,4 +7,8 @@ pub struct Opening {
     pub digest: [u8; 32],
     /// The address of the SVC 1 in the operation's Begin group.
     pub begin_at: u64,
+    /// The present window's number, where the windows of the session are numbered.
+    pub serial: Option<u32>,
+    /// How many windows the session has.
+    pub calls: u32,
 }

@@ -3,14 +3,15 @@
 ghost use Rattle.std.specs.Prelude.{◌≡◌, ◌+◌, ◌≤◌, ℕ, length, not, nat_eq, IfOk, Ok, Some};
 ghost use Rattle.oat_measure.specs.Measurement.{booted, measured, unmeasured, measuring, sealed};
 ghost use Rattle.oat_measure.specs.declared.call.MonitorCall.TheVariants as svc;
-ghost use Rattle.oat_measure.specs.Monitored.{Keeps, body_head, cells_of, state_at};
+ghost use Rattle.oat_measure.specs.Monitored.{Keeps, cells_of, state_at};
+ghost use Rattle.oat_measure.specs.Shelving.{body_head};
 ghost use Rattle.oat_measure.specs.Transitions.{begun_shown, begun_state, BegunUnchanged, ended_shown, ended_state, EndedUnchanged};
 
 use crate::cells::{define, unsound};
 use crate::opening::Opening;
 use oat_bits::PackedBits;
 use oat_blob::{BodyHead, Violation};
-use oat_chain::{Chain, begin_record};
+use oat_chain::{Chain, window_head};
 use std::alloc::{AllocError, Global};
 use std::marker::Model;
 
@@ -130,7 +131,7 @@ impl Unmeasured {
         room: usize,
     ) -> Result<Unmeasured, AllocError>
         requires few { length cells.now ≤ 65536 }
-        ensures state { IfOk result (λ made. state_at unmeasured made ≡ booted (cells_of cells.now)) }
+        ensures state { IfOk result (λ made. state_at unmeasured made ≡ booted opening.serial (cells_of cells.now)) }
         ensures opening { IfOk result (λ made. made.opening ≡ opening) }
         ensures bits_fit { IfOk result (λ made. room ≤ made.spare_bits) }
         ensures targets_fit { IfOk result (λ made. room ≤ made.spare_targets) }
@@ -153,7 +154,7 @@ impl Unmeasured {
         if op != u64::from(opening.op) || at != opening.begin_at {
             return Begun::Other(self);
         }
-        let head = begin_record(&opening.nonce, opening.op, &opening.digest);
+        let head = window_head(&opening.nonce, opening.op, &opening.digest, opening.serial);
         Begun::Opened(Measuring {
             opening,
             cells: self.cells,

@@ -18,6 +18,8 @@ const OPENING: Opening = Opening {
     op: 0x0102,
     digest: DIGEST,
     begin_at: 0x10014,
+    serial: None,
+    calls: 1,
 };
 
 // The chain of returns to 0x10014 and 0x7FFF_FFE0_0000_0001, by another SHA-256.
