@@ -71,6 +71,16 @@ impl PackedBits {
         self.spare -= 1;
     }
 
+    /// Leaves no bits, and takes no memory.
+    pub fn clear(&mut self)
+        ensures empty { self.new.bits ≡ [] }
+        ensures spare { self.new.spare ≡ self.old.spare + length self.old.bits }
+    {
+        self.bytes.clear();
+        self.spare += self.count;
+        self.count = 0;
+    }
+
     pub fn get(&self, i: usize) -> bool
         requires within { i < length self.now.bits }
         ensures { slice_get self.now.bits i ≡ Some result }

@@ -53,5 +53,8 @@ fn pushed_bits_are_packed(rt: HostRuntime) -> Result<(), Fail> {
         }
     }
     assert_eq!(rt; bits.bytes(), &[0xBB, 0x80][..]);
+    bits.clear();
+    assert_eq!(rt; bits.len(), 0);
+    assert!(rt; bits.spare() >= 11);
     Ok(())
 }
