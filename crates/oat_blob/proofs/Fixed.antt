@@ -1,14 +1,15 @@
 -- Parts of a fixed length: arrays, numbers, the magic and a violation.
-use Rattle.std.proofs.Common.{◌≡◌, ℕ, zero, suc, ◌+◌, ◌-◌, ◌<◌, ◌≤◌, ◌^◌, ◌/◌, List, [], ◌∷◌, ◌++◌, Option, Some, None, length, take, drop, get_or, replicate, refl, ap, sym, ◌∙◌, arith, length-append, append_assoc, Fits, w8}
+use Rattle.std.proofs.Common.{◌≡◌, ℕ, zero, suc, ◌+◌, ◌-◌, ◌<◌, ◌≤◌, ◌^◌, ◌/◌, Bool, true, false, List, [], ◌∷◌, ◌++◌, Option, Some, None, length, take, drop, get_or, replicate, refl, ap, sym, ◌∙◌, arith, length-append, append_assoc, Fits, w8}
 use Rattle.std.proofs.lemmas.List.{append-nil, append_cancel_left, take_more, length-replicate, length-take-le, take-append-drop, take_all, take_at}
 use Rattle.std.proofs.lemmas.List.Elements.{All-append, All-cons, All-same, All-from_get_or, All-head, All-nil, All-replicate, All-tail, All-take}
+use Rattle.std.proofs.lemmas.Bool.{false≢true}
 use Rattle.std.proofs.lemmas.Nat.{be_bytes_2, be_bytes_4, be_bytes_8, mod_below}
 use Rattle.std.specs.Int.{w16, w32, w64, to_be_bytes, from_be_bytes, byte_at, bytes_high_first}
 use Rattle.std.specs.List.{All}
 use Rattle.oat_blob.specs.declared.body.Violation.{Violation}
 use Rattle.oat_blob.specs.Body.{AreBytes, IsViolation}
-use Rattle.oat_blob.specs.Layout.{magic, violation_part}
-use Rattle.oat_blob.specs.Parts.{IfViolation, IsBelow, IsCut, IsFront, IsMagic, Breaks, plain_part, violation_fields}
+use Rattle.oat_blob.specs.Layout.{magic, serial_part, version_part, violation_part}
+use Rattle.oat_blob.specs.Parts.{IfViolation, IsBelow, IsCut, IsFront, IsMagic, IsSerial, IsVersion, Breaks, plain_part, violation_fields}
 use Rattle.oat_blob.proofs.Parts.{number_part_32, number_part_64}
 use Rattle.oat_blob.proofs.Joined.{IsRecoded, joined_fits, joined_front, joined_part, recoded_front, recoded_stops, stops_first, stops_second}
 
@@ -142,7 +143,7 @@ number_front_64 bytes rest field = recoded_front plain_part (AreBytes 8) (to_be_
 -- ---- the magic
 
 -- the bytes go on with another than the next letter of the magic, or end
-pub opening_stops : (bytes rest : List ℕ) (at : ℕ) → at < 5 → bytes ≡ take at magic ++ rest → ((behind : List ℕ) → rest ≡ get_or magic at 0 ∷ behind → ⊥) → Breaks plain_part IsMagic bytes (length rest)
+pub opening_stops : (bytes rest : List ℕ) (at : ℕ) → at < 4 → bytes ≡ take at magic ++ rest → ((behind : List ℕ) → rest ≡ get_or magic at 0 ∷ behind → ⊥) → Breaks plain_part IsMagic bytes (length rest)
 opening_stops bytes rest at below same apart = record {
   front = take at magic;
   behind = rest;
@@ -162,14 +163,60 @@ opening_stops bytes rest at below same apart = record {
       apart more (append_cancel_left (take at magic) rest (get_or magic at 0 ∷ more) goes_on);
 }
 
-pub opening_more : (bytes rest behind : List ℕ) (at byte : ℕ) → at < 5 → bytes ≡ take at magic ++ rest → rest ≡ byte ∷ behind → byte ≡ get_or magic at 0 → bytes ≡ take (at + 1) magic ++ behind
+pub opening_more : (bytes rest behind : List ℕ) (at byte : ℕ) → at < 4 → bytes ≡ take at magic ++ rest → rest ≡ byte ∷ behind → byte ≡ get_or magic at 0 → bytes ≡ take (at + 1) magic ++ behind
 opening_more bytes rest behind at byte below same next letter =
     same
     ∙ (ap (λ xs. take at magic ++ xs) (next ∙ ap (λ b. b ∷ behind) letter)
     ∙ (sym (append_assoc (take at magic) (get_or magic at 0 ∷ []) behind) ∙ ap (λ xs. xs ++ behind) (sym (take_more magic at 0 (omega arith)))))
 
-pub opening_front : (bytes rest : List ℕ) (at : ℕ) → 5 ≤ at → bytes ≡ take at magic ++ rest → IsFront plain_part IsMagic bytes magic rest
+pub opening_front : (bytes rest : List ℕ) (at : ℕ) → 4 ≤ at → bytes ≡ take at magic ++ rest → IsFront plain_part IsMagic bytes magic rest
 opening_front bytes rest at past same = record { fitting = refl; spelled = same ∙ ap (λ xs. xs ++ rest) (take_all at magic (omega arith)) }
+
+-- bytes that begin no value of a part
+none_begins : {X : Type 0} (spell : X → List ℕ) (fits : X → Type 0) (bytes : List ℕ) (value : X) → fits value → ((other : X) (rest : List ℕ) → fits other → bytes ≡ take 1 (spell other) ++ rest → ⊥) → Breaks spell fits bytes (length bytes)
+none_begins spell fits bytes value fitting halts = record {
+  front = [];
+  behind = bytes;
+  parted = refl;
+  counted = refl;
+  value = value;
+  more = spell value;
+  fitting = fitting;
+  begins = refl;
+  halts = halts;
+}
+
+-- ---- the version, and the serial number behind the operation
+
+no_version : (bytes : List ℕ) → ((rest : List ℕ) → bytes ≡ 1 ∷ rest → ⊥) → ((rest : List ℕ) → bytes ≡ 2 ∷ rest → ⊥) → (numbered : Bool) (rest : List ℕ) → IsVersion numbered → bytes ≡ take 1 (version_part numbered) ++ rest → ⊥
+no_version bytes not_1 not_2 false rest fits same = not_1 rest same
+no_version bytes not_1 not_2 true rest fits same = not_2 rest same
+
+pub version_stops : (bytes : List ℕ) → ((rest : List ℕ) → bytes ≡ 1 ∷ rest → ⊥) → ((rest : List ℕ) → bytes ≡ 2 ∷ rest → ⊥) → Breaks version_part IsVersion bytes (length bytes)
+version_stops bytes not_1 not_2 = none_begins version_part IsVersion bytes false tt (no_version bytes not_1 not_2)
+
+abbrev number_of : Option ℕ → ℕ
+number_of None = 0
+number_of (Some serial) = serial
+
+number_below : (serial : Option ℕ) → IsSerial true serial → IsBelow 32 (number_of serial)
+number_below None fits = absurd (false≢true fits.version)
+number_below (Some serial) fits = fits.below
+
+number_spelled : (serial : Option ℕ) → IsSerial true serial → serial_part serial ≡ to_be_bytes w32 (number_of serial)
+number_spelled None fits = absurd (false≢true fits.version)
+number_spelled (Some serial) fits = refl
+
+as_serial : IsRecoded (to_be_bytes w32) (IsBelow 32) serial_part (IsSerial true) (λ n. Some n) number_of
+as_serial = record {
+  to_fits = λ n fits. record { version = refl; below = fits };
+  to_same = λ n fits. refl;
+  from_fits = number_below;
+  from_same = number_spelled;
+}
+
+pub serial_stops : (bytes : List ℕ) (left : ℕ) → Breaks (to_be_bytes w32) (IsBelow 32) bytes left → Breaks serial_part (IsSerial true) bytes left
+serial_stops bytes left = recoded_stops (to_be_bytes w32) (IsBelow 32) serial_part (IsSerial true) (λ n. Some n) number_of bytes left as_serial
 
 -- ---- a violation behind its flag
 
@@ -184,17 +231,7 @@ no_flag bytes not_0 not_1 None rest fits same = not_0 rest same
 no_flag bytes not_0 not_1 (Some violation) rest fits same = not_1 rest same
 
 pub flag_stops : (bytes : List ℕ) → ((rest : List ℕ) → bytes ≡ 0 ∷ rest → ⊥) → ((rest : List ℕ) → bytes ≡ 1 ∷ rest → ⊥) → Breaks violation_part IfViolation bytes (length bytes)
-flag_stops bytes not_0 not_1 = record {
-  front = [];
-  behind = bytes;
-  parted = refl;
-  counted = refl;
-  value = None;
-  more = 0 ∷ [];
-  fitting = tt;
-  begins = refl;
-  halts = no_flag bytes not_0 not_1;
-}
+flag_stops bytes not_0 not_1 = none_begins violation_part IfViolation bytes None tt (no_flag bytes not_0 not_1)
 
 -- no bytes
 pub ended : (bytes : List ℕ) → length bytes ≡ 0 → Breaks violation_part IfViolation bytes 0

@@ -1,5 +1,5 @@
 -- Where a blob stops, part by part, and the offset that this is.
-use Rattle.std.proofs.Common.{◌≡◌, ℕ, zero, suc, ◌+◌, ◌-◌, ◌<◌, ◌≤◌, ◌^◌, Bool, true, false, List, [], ◌++◌, Option, None, length, take, drop, refl, ap, sym, subst, ◌∙◌, arith, append_assoc, length-append, length-drop}
+use Rattle.std.proofs.Common.{◌≡◌, ℕ, zero, suc, ◌+◌, ◌-◌, ◌<◌, ◌≤◌, ◌^◌, Bool, true, false, List, [], ◌++◌, Option, Some, None, length, take, drop, refl, ap, sym, subst, ◌∙◌, arith, append_assoc, length-append, length-drop}
 use Rattle.std.proofs.lemmas.List.{append-nil, nil_from_length, length-take-le, take-append-drop, take-append-le, take-take, take_at}
 use Rattle.std.proofs.lemmas.List.Elements.{All-nil}
 use Rattle.std.proofs.lemmas.Bool.{eqb-true, false≢true}
@@ -8,78 +8,100 @@ use Rattle.std.specs.Int.{w16, to_be_bytes}
 use Rattle.oat_blob.specs.declared.body.BodyHead.{BodyHead}
 use Rattle.oat_blob.specs.declared.body.Violation.{Violation}
 use Rattle.oat_blob.specs.Body.{AreBytes, Body}
-use Rattle.oat_blob.specs.Layout.{IsBlob, bits_part, covered_of, magic, targets_part, violation_part}
+use Rattle.oat_blob.specs.Layout.{IsBlob, bits_part, covered_of, magic, serial_part, targets_part, version_part, violation_part}
 use Rattle.oat_blob.specs.Faults.{BeginsBlob, IsFormOffset}
-use Rattle.oat_blob.specs.Parts.{AreFewBits, AreFewTargets, IfViolation, IsBelow, IsFront, IsHead, IsMagic, Breaks, head_part, plain_part}
+use Rattle.oat_blob.specs.Parts.{AreFewBits, AreFewTargets, IfViolation, IsBelow, IsFront, IsHead, IsMagic, IsSerial, IsVersion, Breaks, head_part, plain_part}
 use Rattle.oat_blob.specs.Shown.{IsWhole, Shown, blob_part}
 use Rattle.oat_blob.proofs.Parts.{bytes_part, number_part_16}
 use Rattle.oat_blob.proofs.Fixed.{filled, filled_bytes}
 use Rattle.oat_blob.proofs.Joined.{joined_front, recoded_front, recoded_stops, stops_first, stops_second}
-use Rattle.oat_blob.proofs.OneLayout.{DigestFits, EndFits, FieldsFit, HashFits, NonceFits, OpFits, PiecesFit, RecordsFit, bits_one, blob_pieces, digest_part, end_part, fields_of, fields_part, hash_part, head_fields, head_of, head_one, nonce_part, no_proper_prefix, op_part, opening_one, pieces_of, pieces_part, records_part, shown_of, targets_one}
+use Rattle.oat_blob.proofs.OneLayout.{DigestFits, EndFits, FieldsFit, HashFits, NonceFits, OpFits, PiecesFit, RecordsFit, SerialFits, VersionFits, bits_one, blob_pieces, digest_part, end_part, fields_of, fields_part, hash_part, head_fields, head_of, head_one, nonce_part, no_proper_prefix, op_part, opening_one, pieces_of, pieces_part, records_part, serial_fields, serial_one, shown_of, targets_one, version_fields, version_one}
 
 zeros : (n : ℕ) → AreBytes (suc n) (filled (suc n) [])
 zeros n = filled_bytes (suc n) [] (All-nil (λ byte. byte < 256)) (omega arith)
 
 -- ---- a head
 
-some_violation : (x : List ℕ) → AreBytes 32 x → (v : Option Violation) × IfViolation v
-some_violation x fits = (None, tt)
+some_violation : (v : Option Violation) × IfViolation v
+some_violation = (None, tt)
 
-some_hash : (x : List ℕ) → AreBytes 32 x → (p : List ℕ × Option Violation) × HashFits p
-some_hash x fits = ((filled 32 [], None), (zeros 31, tt))
+some_hash : (p : List ℕ × Option Violation) × HashFits p
+some_hash = ((filled 32 [], some_violation.0), (zeros 31, some_violation.1))
 
-some_digest : (x : List ℕ) → AreBytes 16 x → (p : List ℕ × (List ℕ × Option Violation)) × DigestFits p
-some_digest x fits = ((filled 32 [], (filled 32 [], None)), (zeros 31, (zeros 31, tt)))
+some_digest : (p : List ℕ × (List ℕ × Option Violation)) × DigestFits p
+some_digest = ((filled 32 [], some_hash.0), (zeros 31, some_hash.1))
 
-some_nonce : (x : ℕ) → IsBelow 16 x → (p : List ℕ × (List ℕ × (List ℕ × Option Violation))) × NonceFits p
-some_nonce x fits = ((filled 16 [], (filled 32 [], (filled 32 [], None))), (zeros 15, (zeros 31, (zeros 31, tt))))
+some_nonce : (p : List ℕ × (List ℕ × (List ℕ × Option Violation))) × NonceFits p
+some_nonce = ((filled 16 [], some_digest.0), (zeros 15, some_digest.1))
 
-some_op : (x : List ℕ) → IsMagic x → (p : ℕ × (List ℕ × (List ℕ × (List ℕ × Option Violation)))) × OpFits p
-some_op x fits = ((0, (filled 16 [], (filled 32 [], (filled 32 [], None)))), (omega arith, (zeros 15, (zeros 31, (zeros 31, tt)))))
+some_serial : (numbered : Bool) → (p : Option ℕ × (List ℕ × (List ℕ × (List ℕ × Option Violation)))) × SerialFits numbered p
+some_serial false = ((None, some_nonce.0), (record { version = refl; below = tt }, some_nonce.1))
+some_serial true = ((Some 0, some_nonce.0), (record { version = refl; below = omega arith }, some_nonce.1))
+
+some_op : (numbered : Bool) → (p : ℕ × (Option ℕ × (List ℕ × (List ℕ × (List ℕ × Option Violation))))) × OpFits numbered p
+some_op numbered = ((0, (some_serial numbered).0), (omega arith, (some_serial numbered).1))
+
+some_version : (p : Bool × (ℕ × (Option ℕ × (List ℕ × (List ℕ × (List ℕ × Option Violation)))))) × VersionFits p
+some_version = ((false, (some_op false).0), (tt, (some_op false).1))
 
 of_fields : (bytes : List ℕ) (left : ℕ) → Breaks fields_part FieldsFit bytes left → Breaks head_part IsHead bytes left
 of_fields bytes left = recoded_stops fields_part FieldsFit head_part IsHead head_of fields_of bytes left head_fields
 
 pub at_opening : (bytes : List ℕ) (left : ℕ) → Breaks plain_part IsMagic bytes left → Breaks head_part IsHead bytes left
-at_opening bytes left stops = of_fields bytes left (stops_first plain_part op_part IsMagic (λ _. OpFits) bytes left some_op stops)
+at_opening bytes left stops = of_fields bytes left (stops_first plain_part version_fields IsMagic (λ _. VersionFits) bytes left (λ x fits. some_version) stops)
 
-pub behind_opening : (bytes rest : List ℕ) (left : ℕ) → IsFront plain_part IsMagic bytes magic rest → Breaks op_part OpFits rest left → Breaks head_part IsHead bytes left
-behind_opening bytes rest left front stops = of_fields bytes left (stops_second plain_part op_part IsMagic (λ _. OpFits) bytes rest magic left opening_one front stops)
+pub behind_opening : (bytes rest : List ℕ) (left : ℕ) → IsFront plain_part IsMagic bytes magic rest → Breaks version_fields VersionFits rest left → Breaks head_part IsHead bytes left
+behind_opening bytes rest left front stops = of_fields bytes left (stops_second plain_part version_fields IsMagic (λ _. VersionFits) bytes rest magic left opening_one front stops)
 
-pub at_op : (bytes : List ℕ) (left : ℕ) → Breaks (to_be_bytes w16) (IsBelow 16) bytes left → Breaks op_part OpFits bytes left
-at_op bytes left = stops_first (to_be_bytes w16) nonce_part (IsBelow 16) (λ _. NonceFits) bytes left some_nonce
+pub at_version : (bytes : List ℕ) (left : ℕ) → Breaks version_part IsVersion bytes left → Breaks version_fields VersionFits bytes left
+at_version bytes left = stops_first version_part op_part IsVersion OpFits bytes left (λ numbered fits. some_op numbered)
 
-pub behind_op : (bytes rest : List ℕ) (op left : ℕ) → IsFront (to_be_bytes w16) (IsBelow 16) bytes op rest → Breaks nonce_part NonceFits rest left → Breaks op_part OpFits bytes left
-behind_op bytes rest op left = stops_second (to_be_bytes w16) nonce_part (IsBelow 16) (λ _. NonceFits) bytes rest op left number_part_16
+pub behind_version : (bytes rest : List ℕ) (numbered : Bool) (left : ℕ) → IsFront version_part IsVersion bytes numbered rest → Breaks op_part (OpFits numbered) rest left → Breaks version_fields VersionFits bytes left
+behind_version bytes rest numbered left = stops_second version_part op_part IsVersion OpFits bytes rest numbered left version_one
+
+pub at_op : (numbered : Bool) (bytes : List ℕ) (left : ℕ) → Breaks (to_be_bytes w16) (IsBelow 16) bytes left → Breaks op_part (OpFits numbered) bytes left
+at_op numbered bytes left = stops_first (to_be_bytes w16) serial_fields (IsBelow 16) (λ _. SerialFits numbered) bytes left (λ op fits. some_serial numbered)
+
+pub behind_op : (numbered : Bool) (bytes rest : List ℕ) (op left : ℕ) → IsFront (to_be_bytes w16) (IsBelow 16) bytes op rest → Breaks serial_fields (SerialFits numbered) rest left → Breaks op_part (OpFits numbered) bytes left
+behind_op numbered bytes rest op left = stops_second (to_be_bytes w16) serial_fields (IsBelow 16) (λ _. SerialFits numbered) bytes rest op left number_part_16
+
+pub at_serial : (numbered : Bool) (bytes : List ℕ) (left : ℕ) → Breaks serial_part (IsSerial numbered) bytes left → Breaks serial_fields (SerialFits numbered) bytes left
+at_serial numbered bytes left = stops_first serial_part nonce_part (IsSerial numbered) (λ _. NonceFits) bytes left (λ serial fits. some_nonce)
+
+pub behind_serial : (numbered : Bool) (bytes rest : List ℕ) (serial : Option ℕ) (left : ℕ) → IsFront serial_part (IsSerial numbered) bytes serial rest → Breaks nonce_part NonceFits rest left → Breaks serial_fields (SerialFits numbered) bytes left
+behind_serial numbered bytes rest serial left = stops_second serial_part nonce_part (IsSerial numbered) (λ _. NonceFits) bytes rest serial left (serial_one numbered)
 
 pub at_nonce : (bytes : List ℕ) (left : ℕ) → Breaks plain_part (AreBytes 16) bytes left → Breaks nonce_part NonceFits bytes left
-at_nonce bytes left = stops_first plain_part digest_part (AreBytes 16) (λ _. DigestFits) bytes left some_digest
+at_nonce bytes left = stops_first plain_part digest_part (AreBytes 16) (λ _. DigestFits) bytes left (λ nonce fits. some_digest)
 
 pub behind_nonce : (bytes nonce rest : List ℕ) (left : ℕ) → IsFront plain_part (AreBytes 16) bytes nonce rest → Breaks digest_part DigestFits rest left → Breaks nonce_part NonceFits bytes left
 behind_nonce bytes nonce rest left = stops_second plain_part digest_part (AreBytes 16) (λ _. DigestFits) bytes rest nonce left (bytes_part 16)
 
 pub at_digest : (bytes : List ℕ) (left : ℕ) → Breaks plain_part (AreBytes 32) bytes left → Breaks digest_part DigestFits bytes left
-at_digest bytes left = stops_first plain_part hash_part (AreBytes 32) (λ _. HashFits) bytes left some_hash
+at_digest bytes left = stops_first plain_part hash_part (AreBytes 32) (λ _. HashFits) bytes left (λ digest fits. some_hash)
 
 pub behind_digest : (bytes digest rest : List ℕ) (left : ℕ) → IsFront plain_part (AreBytes 32) bytes digest rest → Breaks hash_part HashFits rest left → Breaks digest_part DigestFits bytes left
 behind_digest bytes digest rest left = stops_second plain_part hash_part (AreBytes 32) (λ _. HashFits) bytes rest digest left (bytes_part 32)
 
 pub at_hash : (bytes : List ℕ) (left : ℕ) → Breaks plain_part (AreBytes 32) bytes left → Breaks hash_part HashFits bytes left
-at_hash bytes left = stops_first plain_part violation_part (AreBytes 32) (λ _. IfViolation) bytes left some_violation
+at_hash bytes left = stops_first plain_part violation_part (AreBytes 32) (λ _. IfViolation) bytes left (λ hash fits. some_violation)
 
 pub behind_hash : (bytes hash rest : List ℕ) (left : ℕ) → IsFront plain_part (AreBytes 32) bytes hash rest → Breaks violation_part IfViolation rest left → Breaks hash_part HashFits bytes left
 behind_hash bytes hash rest left = stops_second plain_part violation_part (AreBytes 32) (λ _. IfViolation) bytes rest hash left (bytes_part 32)
 
-pub head_front : (bytes r0 r1 r2 r3 r4 rest : List ℕ) (op : ℕ) (nonce digest hash : List ℕ) (violation : Option Violation) → IsFront plain_part IsMagic bytes magic r0 → IsFront (to_be_bytes w16) (IsBelow 16) r0 op r1
-    → IsFront plain_part (AreBytes 16) r1 nonce r2 → IsFront plain_part (AreBytes 32) r2 digest r3 → IsFront plain_part (AreBytes 32) r3 hash r4 → IsFront violation_part IfViolation r4 violation rest
-    → IsFront head_part IsHead bytes (record { op = op; nonce = nonce; digest = digest; hash = hash; violation = violation }) rest
-head_front bytes r0 r1 r2 r3 r4 rest op nonce digest hash violation a b c d e f =
-    recoded_front fields_part FieldsFit head_part IsHead head_of fields_of bytes rest (magic, (op, (nonce, (digest, (hash, violation))))) head_fields
-    (joined_front plain_part op_part IsMagic (λ _. OpFits) bytes r0 rest magic (op, (nonce, (digest, (hash, violation)))) a
-    (joined_front (to_be_bytes w16) nonce_part (IsBelow 16) (λ _. NonceFits) r0 r1 rest op (nonce, (digest, (hash, violation))) b
-    (joined_front plain_part digest_part (AreBytes 16) (λ _. DigestFits) r1 r2 rest nonce (digest, (hash, violation)) c
-    (joined_front plain_part hash_part (AreBytes 32) (λ _. HashFits) r2 r3 rest digest (hash, violation) d
-    (joined_front plain_part violation_part (AreBytes 32) (λ _. IfViolation) r3 r4 rest hash violation e f)))))
+pub head_front : (bytes r0 r1 r2 r3 r4 r5 r6 rest : List ℕ) (numbered : Bool) (op : ℕ) (serial : Option ℕ) (nonce digest hash : List ℕ) (violation : Option Violation) → IsFront plain_part IsMagic bytes magic r0 → IsFront version_part IsVersion r0 numbered r1
+    → IsFront (to_be_bytes w16) (IsBelow 16) r1 op r2 → IsFront serial_part (IsSerial numbered) r2 serial r3 → IsFront plain_part (AreBytes 16) r3 nonce r4 → IsFront plain_part (AreBytes 32) r4 digest r5
+    → IsFront plain_part (AreBytes 32) r5 hash r6 → IsFront violation_part IfViolation r6 violation rest
+    → IsFront head_part IsHead bytes (record { op = op; nonce = nonce; digest = digest; hash = hash; violation = violation; serial = serial }) rest
+head_front bytes r0 r1 r2 r3 r4 r5 r6 rest numbered op serial nonce digest hash violation a b c d e f g h =
+    recoded_front fields_part FieldsFit head_part IsHead head_of fields_of bytes rest (magic, (numbered, (op, (serial, (nonce, (digest, (hash, violation))))))) head_fields
+    (joined_front plain_part version_fields IsMagic (λ _. VersionFits) bytes r0 rest magic (numbered, (op, (serial, (nonce, (digest, (hash, violation)))))) a
+    (joined_front version_part op_part IsVersion OpFits r0 r1 rest numbered (op, (serial, (nonce, (digest, (hash, violation))))) b
+    (joined_front (to_be_bytes w16) serial_fields (IsBelow 16) (λ _. SerialFits numbered) r1 r2 rest op (serial, (nonce, (digest, (hash, violation)))) c
+    (joined_front serial_part nonce_part (IsSerial numbered) (λ _. NonceFits) r2 r3 rest serial (nonce, (digest, (hash, violation))) d
+    (joined_front plain_part digest_part (AreBytes 16) (λ _. DigestFits) r3 r4 rest nonce (digest, (hash, violation)) e
+    (joined_front plain_part hash_part (AreBytes 32) (λ _. HashFits) r4 r5 rest digest (hash, violation) f
+    (joined_front plain_part violation_part (AreBytes 32) (λ _. IfViolation) r5 r6 rest hash violation g h)))))))
 
 -- ---- a blob
 

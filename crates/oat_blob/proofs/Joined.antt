@@ -100,12 +100,13 @@ stops_second first second fa fb bytes middle x left part a b = record {
 }
 
 -- two parts determine both values
-pub joined_one : {X Y : Type 0} (first : X → List ℕ) (second : Y → List ℕ) (fa : X → Type 0) (fb : Y → Type 0) → IsPart first fa → IsPart second fb → IsPart (joined_part first second) (joined_fits fa (λ _. fb))
+pub joined_one : {X Y : Type 0} (first : X → List ℕ) (second : Y → List ℕ) (fa : X → Type 0) (fb : X → Y → Type 0) → IsPart first fa → ((x : X) → IsPart second (fb x)) → IsPart (joined_part first second) (joined_fits fa fb)
 joined_one {X} {Y} first second fa fb a b = record { one = both } where
-  both : (x y : X × Y) (r s : List ℕ) → joined_fits fa (λ _. fb) x → joined_fits fa (λ _. fb) y → joined_part first second x ++ r ≡ joined_part first second y ++ s → (x ≡ y) × (r ≡ s)
+  both : (x y : X × Y) (r s : List ℕ) → joined_fits fa fb x → joined_fits fa fb y → joined_part first second x ++ r ≡ joined_part first second y ++ s → (x ≡ y) × (r ≡ s)
   both x y r s of_x of_y same =
       let here = a.one x.0 y.0 (second x.1 ++ r) (second y.1 ++ s) of_x.0 of_y.0 (sym (append_assoc (first x.0) (second x.1) r) ∙ (same ∙ append_assoc (first y.0) (second y.1) s)) in
-      let next = b.one x.1 y.1 r s of_x.1 of_y.1 here.1 in
+      let of_next : fb x.0 y.1 = subst (λ (v : X). fb v y.1) (sym here.0) of_y.1 in
+      let next = (b x.0).one x.1 y.1 r s of_x.1 of_next here.1 in
       ((λ i. (here.0 i, next.0 i)), next.1)
 
 -- ---- the same bytes with another value

@@ -1,7 +1,8 @@
 -- The layout of a blob determines its body and its MAC, whatever stands behind it.
-use Rattle.std.proofs.Common.{◌≡◌, ℕ, ◌<◌, ◌^◌, Bool, List, [], ◌++◌, Option, Some, None, length, drop, get_or, refl, ap, sym, ◌∙◌, arith, append_assoc}
+use Rattle.std.proofs.Common.{◌≡◌, ℕ, ◌<◌, ◌^◌, Bool, true, false, List, [], ◌++◌, Option, Some, None, length, drop, get_or, refl, ap, sym, ◌∙◌, arith, append_assoc}
+use Rattle.std.proofs.lemmas.Bool.{false≢true}
 use Rattle.std.proofs.lemmas.List.{append-nil}
-use Rattle.std.specs.Prelude.{IfSome}
+use Rattle.std.specs.Prelude.{IfSome, is_some}
 use Rattle.std.specs.Int.{w16, w32, w64, to_be_bytes}
 use Rattle.std.specs.List.{flat_map}
 use Rattle.oat_blob.specs.declared.body.BodyHead.{BodyHead}
@@ -9,9 +10,9 @@ use Rattle.oat_blob.specs.declared.body.Violation.{Violation}
 use Rattle.oat_blob.specs.Body.{AreBytes, IsViolation}
 use Rattle.oat_bits.specs.Packed.{packed}
 use Rattle.oat_bits.proofs.OnePackedForm.{packed-one}
-use Rattle.oat_blob.specs.Layout.{bits_part, covered_of, magic, targets_part, violation_part}
+use Rattle.oat_blob.specs.Layout.{bits_part, covered_of, magic, serial_part, targets_part, version_part, violation_part}
 use Rattle.oat_blob.specs.Laws.{NoProperPrefix, OneBody}
-use Rattle.oat_blob.specs.Parts.{AreFewBits, AreFewTargets, IfViolation, IsBelow, IsHead, IsMagic, head_part, plain_part}
+use Rattle.oat_blob.specs.Parts.{AreFewBits, AreFewTargets, IfViolation, IsBelow, IsHead, IsMagic, IsSerial, IsVersion, head_part, plain_part}
 use Rattle.oat_blob.specs.Shown.{IsWhole, Shown, blob_part}
 use Rattle.oat_blob.proofs.Parts.{IsPart, behind, bytes_part, fixed_part, listed_parts, number_part_16, number_part_32, number_part_64}
 use Rattle.oat_blob.proofs.Joined.{IsRecoded, joined_fits, joined_one, joined_part}
@@ -47,7 +48,7 @@ pub targets_one : IsPart targets_part AreFewTargets
 targets_one = record { one = targets-one }
 
 pub opening_one : IsPart plain_part IsMagic
-opening_one = fixed_part plain_part IsMagic 5 (λ bytes opens. ap length opens) (λ x y of_x of_y same. same)
+opening_one = fixed_part plain_part IsMagic 4 (λ bytes opens. ap length opens) (λ x y of_x of_y same. same)
 
 recoded_one : {X Y : Type 0} (first : X → List ℕ) (fa : X → Type 0) (second : Y → List ℕ) (fb : Y → Type 0) (to : X → Y) (from : Y → X)
     → IsRecoded first fa second fb to from → ((y : Y) → to (from y) ≡ y) → IsPart first fa → IsPart second fb
@@ -78,43 +79,93 @@ nonce_part = joined_part plain_part digest_part
 abbrev pub NonceFits : List ℕ × (List ℕ × (List ℕ × Option Violation)) → Type 0
 NonceFits = joined_fits (AreBytes 16) (λ _. DigestFits)
 
-abbrev pub op_part : ℕ × (List ℕ × (List ℕ × (List ℕ × Option Violation))) → List ℕ
-op_part = joined_part (to_be_bytes w16) nonce_part
+abbrev pub serial_fields : Option ℕ × (List ℕ × (List ℕ × (List ℕ × Option Violation))) → List ℕ
+serial_fields = joined_part serial_part nonce_part
 
-abbrev pub OpFits : ℕ × (List ℕ × (List ℕ × (List ℕ × Option Violation))) → Type 0
-OpFits = joined_fits (IsBelow 16) (λ _. NonceFits)
+-- what stands behind depends on whether windows are numbered
+abbrev pub SerialFits : Bool → Option ℕ × (List ℕ × (List ℕ × (List ℕ × Option Violation))) → Type 0
+SerialFits numbered = joined_fits (IsSerial numbered) (λ _. NonceFits)
+
+abbrev pub op_part : ℕ × (Option ℕ × (List ℕ × (List ℕ × (List ℕ × Option Violation)))) → List ℕ
+op_part = joined_part (to_be_bytes w16) serial_fields
+
+abbrev pub OpFits : Bool → ℕ × (Option ℕ × (List ℕ × (List ℕ × (List ℕ × Option Violation)))) → Type 0
+OpFits numbered = joined_fits (IsBelow 16) (λ _. SerialFits numbered)
+
+abbrev pub version_fields : Bool × (ℕ × (Option ℕ × (List ℕ × (List ℕ × (List ℕ × Option Violation))))) → List ℕ
+version_fields = joined_part version_part op_part
+
+abbrev pub VersionFits : Bool × (ℕ × (Option ℕ × (List ℕ × (List ℕ × (List ℕ × Option Violation))))) → Type 0
+VersionFits = joined_fits IsVersion OpFits
 
 abbrev pub Fields : Type 0
-Fields = List ℕ × (ℕ × (List ℕ × (List ℕ × (List ℕ × Option Violation))))
+Fields = List ℕ × (Bool × (ℕ × (Option ℕ × (List ℕ × (List ℕ × (List ℕ × Option Violation))))))
 
 abbrev pub fields_part : Fields → List ℕ
-fields_part = joined_part plain_part op_part
+fields_part = joined_part plain_part version_fields
 
 abbrev pub FieldsFit : Fields → Type 0
-FieldsFit = joined_fits IsMagic (λ _. OpFits)
+FieldsFit = joined_fits IsMagic (λ _. VersionFits)
 
 abbrev pub head_of : Fields → BodyHead
-head_of p = record { op = p.1.0; nonce = p.1.1.0; digest = p.1.1.1.0; hash = p.1.1.1.1.0; violation = p.1.1.1.1.1 }
+head_of p = record { op = p.1.1.0; nonce = p.1.1.1.1.0; digest = p.1.1.1.1.1.0; hash = p.1.1.1.1.1.1.0; violation = p.1.1.1.1.1.1.1; serial = p.1.1.1.0 }
 
 abbrev pub fields_of : BodyHead → Fields
-fields_of head = (magic, (head.op, (head.nonce, (head.digest, (head.hash, head.violation)))))
+fields_of head = (magic, (is_some head.serial, (head.op, (head.serial, (head.nonce, (head.digest, (head.hash, head.violation)))))))
+
+head_spelled : (p : Fields) → FieldsFit p → fields_part p ≡ head_part (head_of p)
+head_spelled p fits =
+    ap (λ xs. xs ++ version_fields p.1) fits.0 ∙ ap (λ numbered. magic ++ (version_part numbered ++ op_part p.1.1)) (sym fits.1.1.1.0.version)
 
 pub head_fields : IsRecoded fields_part FieldsFit head_part IsHead head_of fields_of
 head_fields = record {
-  to_fits = λ p fits. record { op = fits.1.0; nonce = fits.1.1.0; digest = fits.1.1.1.0; hash = fits.1.1.1.1.0; violation = fits.1.1.1.1.1 };
-  to_same = λ p fits. ap (λ xs. xs ++ op_part p.1) fits.0;
-  from_fits = λ head fits. (refl, (fits.op, (fits.nonce, (fits.digest, (fits.hash, fits.violation)))));
+  to_fits = λ p fits. record {
+    op = fits.1.1.0;
+    nonce = fits.1.1.1.1.0;
+    digest = fits.1.1.1.1.1.0;
+    hash = fits.1.1.1.1.1.1.0;
+    violation = fits.1.1.1.1.1.1.1;
+    serial = fits.1.1.1.0.below;
+  };
+  to_same = head_spelled;
+  from_fits = λ head fits. (refl, (tt, (fits.op, (record { version = refl; below = fits.serial }, (fits.nonce, (fits.digest, (fits.hash, fits.violation)))))));
   from_same = λ head fits. refl;
 }
+
+version-one : (x y : Bool) → IsVersion x → IsVersion y → version_part x ≡ version_part y → x ≡ y
+version-one false false of_x of_y same = refl
+version-one false true of_x of_y same = let byte : ◌≡◌ {A = ℕ} 1 2 = ap (λ bytes. get_or bytes 0 0) same in absurd (omega arith)
+version-one true false of_x of_y same = let byte : ◌≡◌ {A = ℕ} 2 1 = ap (λ bytes. get_or bytes 0 0) same in absurd (omega arith)
+version-one true true of_x of_y same = refl
+
+version-long : (numbered : Bool) → IsVersion numbered → length (version_part numbered) ≡ 1
+version-long false fits = refl
+version-long true fits = refl
+
+pub version_one : IsPart version_part IsVersion
+version_one = fixed_part version_part IsVersion 1 version-long version-one
+
+serial-one : (numbered : Bool) (x y : Option ℕ) (r s : List ℕ) → IsSerial numbered x → IsSerial numbered y → serial_part x ++ r ≡ serial_part y ++ s → (x ≡ y) × (r ≡ s)
+serial-one numbered None None r s of_x of_y same = (refl, same)
+serial-one numbered None (Some y) r s of_x of_y same = absurd (false≢true (of_x.version ∙ sym of_y.version))
+serial-one numbered (Some x) None r s of_x of_y same = absurd (false≢true (of_y.version ∙ sym of_x.version))
+serial-one numbered (Some x) (Some y) r s of_x of_y same =
+    let one = number_part_32.one x y r s of_x.below of_y.below same in
+    (ap (λ n. Some n) one.0, one.1)
+
+pub serial_one : (numbered : Bool) → IsPart serial_part (IsSerial numbered)
+serial_one numbered = record { one = serial-one numbered }
 
 pub head_one : IsPart head_part IsHead
 head_one =
     recoded_one fields_part FieldsFit head_part IsHead head_of fields_of head_fields (λ head. refl)
-    (joined_one plain_part op_part IsMagic OpFits opening_one
-    (joined_one (to_be_bytes w16) nonce_part (IsBelow 16) NonceFits number_part_16
-    (joined_one plain_part digest_part (AreBytes 16) DigestFits (bytes_part 16)
-    (joined_one plain_part hash_part (AreBytes 32) HashFits (bytes_part 32)
-    (joined_one plain_part violation_part (AreBytes 32) IfViolation (bytes_part 32) violation_one)))))
+    (joined_one plain_part version_fields IsMagic (λ _. VersionFits) opening_one (λ _.
+    joined_one version_part op_part IsVersion OpFits version_one (λ numbered.
+    joined_one (to_be_bytes w16) serial_fields (IsBelow 16) (λ _. SerialFits numbered) number_part_16 (λ _.
+    joined_one serial_part nonce_part (IsSerial numbered) (λ _. NonceFits) (serial_one numbered) (λ _.
+    joined_one plain_part digest_part (AreBytes 16) (λ _. DigestFits) (bytes_part 16) (λ _.
+    joined_one plain_part hash_part (AreBytes 32) (λ _. HashFits) (bytes_part 32) (λ _.
+    joined_one plain_part violation_part (AreBytes 32) (λ _. IfViolation) (bytes_part 32) (λ _. violation_one))))))))
 
 -- ---- a blob, part by part
 
@@ -145,14 +196,14 @@ shown_of p = record { body = record { head = p.0; bits = p.1.0; targets = p.1.1.
 abbrev pub pieces_of : Shown → Pieces
 pieces_of shown = (shown.body.head, (shown.body.bits, (shown.body.targets, shown.mac)))
 
-regrouped : (a b c d e f g h m : List ℕ) → (a ++ (b ++ (c ++ (d ++ (e ++ f))))) ++ (g ++ (h ++ m)) ≡ (a ++ (b ++ (c ++ (d ++ (e ++ (f ++ (g ++ h))))))) ++ m
-regrouped a b c d e f g h m = simp append_assoc
+regrouped : (a b c d e f g h i j m : List ℕ) → (a ++ (b ++ (c ++ (d ++ (e ++ (f ++ (g ++ h))))))) ++ (i ++ (j ++ m)) ≡ (a ++ (b ++ (c ++ (d ++ (e ++ (f ++ (g ++ (h ++ (i ++ j))))))))) ++ m
+regrouped a b c d e f g h i j m = simp append_assoc
 
 spelled : (shown : Shown) → pieces_part (pieces_of shown) ≡ blob_part shown
 unfolding covered_of
 spelled shown =
     let head = shown.body.head in
-    regrouped magic (to_be_bytes w16 head.op) head.nonce head.digest head.hash (violation_part head.violation) (bits_part shown.body.bits) (targets_part shown.body.targets) shown.mac
+    regrouped magic (version_part (is_some head.serial)) (to_be_bytes w16 head.op) (serial_part head.serial) head.nonce head.digest head.hash (violation_part head.violation) (bits_part shown.body.bits) (targets_part shown.body.targets) shown.mac
 
 pub blob_pieces : IsRecoded pieces_part PiecesFit blob_part IsWhole shown_of pieces_of
 blob_pieces = record {
@@ -163,6 +214,7 @@ blob_pieces = record {
       digest = fits.0.digest;
       hash = fits.0.hash;
       violation = fits.0.violation;
+      serial = fits.0.serial;
       bits = fits.1.0;
       targets = fits.1.1.0.few;
       addresses = fits.1.1.0.addresses;
@@ -171,7 +223,7 @@ blob_pieces = record {
   };
   to_same = λ p fits. spelled (shown_of p);
   from_fits = λ shown fits. (
-    record { op = fits.body.op; nonce = fits.body.nonce; digest = fits.body.digest; hash = fits.body.hash; violation = fits.body.violation },
+    record { op = fits.body.op; nonce = fits.body.nonce; digest = fits.body.digest; hash = fits.body.hash; violation = fits.body.violation; serial = fits.body.serial },
     (fits.body.bits, (record { few = fits.body.targets; addresses = fits.body.addresses }, fits.mac)),
   );
   from_same = λ shown fits. sym (spelled shown);
@@ -180,9 +232,9 @@ blob_pieces = record {
 pub blob_one : IsPart blob_part IsWhole
 blob_one =
     recoded_one pieces_part PiecesFit blob_part IsWhole shown_of pieces_of blob_pieces (λ shown. refl)
-    (joined_one head_part records_part IsHead RecordsFit head_one
-    (joined_one bits_part end_part AreFewBits EndFits bits_one
-    (joined_one targets_part plain_part AreFewTargets (AreBytes 32) targets_one (bytes_part 32))))
+    (joined_one head_part records_part IsHead (λ _. RecordsFit) head_one (λ _.
+    joined_one bits_part end_part AreFewBits (λ _. EndFits) bits_one (λ _.
+    joined_one targets_part plain_part AreFewTargets (λ _. AreBytes 32) targets_one (λ _. bytes_part 32))))
 
 pub no_proper_prefix : NoProperPrefix
 no_proper_prefix bytes rest body other mac other_mac first second =

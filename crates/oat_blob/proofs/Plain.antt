@@ -1,15 +1,16 @@
 -- The bytes of a blob without violation and records.
-use Rattle.std.proofs.Common.{◌≡◌, ℕ, zero, suc, List, [], ◌∷◌, ◌++◌, Some, None, length, replicate, refl, ap, sym, ◌∙◌, arith, append_assoc, length-append}
-use Rattle.std.specs.Prelude.{slice_get}
+use Rattle.std.proofs.Common.{◌≡◌, ℕ, zero, suc, ◌+◌, List, [], ◌∷◌, ◌++◌, Some, None, length, replicate, refl, ap, sym, ◌∙◌, arith, append_assoc, length-append}
+use Rattle.std.specs.Prelude.{Option, is_some, slice_get}
 use Rattle.std.specs.Int.{w16, to_be_bytes}
 use Rattle.oat_blob.specs.Body.{Body, IsBody, IsPlain}
 use Rattle.oat_bits.specs.Packed.{octets, packed}
-use Rattle.oat_blob.specs.Layout.{IsBlob, bits_part, covered_of, magic, targets_part, violation_part}
-use Rattle.oat_blob.specs.Laws.{PlainLength}
+use Rattle.oat_blob.specs.Layout.{IsBlob, bits_part, covered_of, magic, serial_part, targets_part, version_part, violation_part}
+use Rattle.oat_blob.specs.Laws.{PlainLength, flag_place, shortest_length}
 
 -- all before the flag
 abbrev pub front_of : Body → List ℕ
-front_of body = magic ++ (to_be_bytes w16 body.head.op ++ (body.head.nonce ++ (body.head.digest ++ body.head.hash)))
+front_of body =
+    magic ++ (version_part (is_some body.head.serial) ++ (to_be_bytes w16 body.head.op ++ (serial_part body.head.serial ++ (body.head.nonce ++ (body.head.digest ++ body.head.hash)))))
 
 no_records : (body : Body) → IsPlain body → violation_part body.head.violation ++ (bits_part body.bits ++ targets_part body.targets) ≡ replicate 9 0
 unfolding packed octets
@@ -18,20 +19,34 @@ no_records body plain =
     ∙ (ap (λ bits. violation_part None ++ (bits_part bits ++ targets_part body.targets)) plain.bits
     ∙ ap (λ targets. violation_part None ++ (bits_part [] ++ targets_part targets)) plain.targets)
 
-regrouped : (a b c d e f : List ℕ) → a ++ (b ++ (c ++ (d ++ (e ++ f)))) ≡ (a ++ (b ++ (c ++ (d ++ e)))) ++ f
-regrouped a b c d e f = sym (simp append_assoc)
+regrouped : (a b c d e f g h : List ℕ) → a ++ (b ++ (c ++ (d ++ (e ++ (f ++ (g ++ h)))))) ≡ (a ++ (b ++ (c ++ (d ++ (e ++ (f ++ g)))))) ++ h
+regrouped a b c d e f g h = sym (simp append_assoc)
 
 -- the front, the flag 0 and two counts of 0
 pub plain-covered : (body : Body) → IsPlain body → covered_of body ≡ front_of body ++ replicate 9 0
 unfolding covered_of
 plain-covered body plain =
-    ap (λ records. magic ++ (to_be_bytes w16 body.head.op ++ (body.head.nonce ++ (body.head.digest ++ (body.head.hash ++ records))))) (no_records body plain)
-    ∙ regrouped magic (to_be_bytes w16 body.head.op) body.head.nonce body.head.digest body.head.hash (replicate 9 0)
+    ap (λ records. magic ++ (version_part (is_some body.head.serial) ++ (to_be_bytes w16 body.head.op ++ (serial_part body.head.serial ++ (body.head.nonce ++ (body.head.digest ++ (body.head.hash ++ records))))))) (no_records body plain)
+    ∙ regrouped magic (version_part (is_some body.head.serial)) (to_be_bytes w16 body.head.op) (serial_part body.head.serial) body.head.nonce body.head.digest body.head.hash (replicate 9 0)
 
-length-front_of : (body : Body) → IsBody body → length (front_of body) ≡ 87
+-- what the version and the serial number add
+record Announced (serial : Option ℕ) : Type 0 where
+  version : length (version_part (is_some serial)) ≡ 1
+  flag : length (serial_part serial) + 87 ≡ flag_place (is_some serial)
+  shortest : flag_place (is_some serial) + 41 ≡ shortest_length (is_some serial)
+
+announced : (serial : Option ℕ) → Announced serial
+announced None = record { version = refl; flag = refl; shortest = refl }
+announced (Some serial) = record { version = refl; flag = refl; shortest = refl }
+
+length-front_of : (body : Body) → IsBody body → length (front_of body) ≡ flag_place (is_some body.head.serial)
 length-front_of body fits =
+    let serial = announced body.head.serial in
+    let fields : List ℕ = body.head.nonce ++ (body.head.digest ++ body.head.hash) in
     let last = length-append body.head.digest body.head.hash in
     let more = length-append body.head.nonce (body.head.digest ++ body.head.hash) in
+    let behind_op = length-append (serial_part body.head.serial) fields in
+    let behind_version = length-append (version_part (is_some body.head.serial)) (to_be_bytes w16 body.head.op ++ (serial_part body.head.serial ++ fields)) in
     omega (arith, fits.nonce.counted, fits.digest.counted, fits.hash.counted)
 
 -- what a plain blob's bytes are
@@ -50,4 +65,7 @@ plain_length bytes body mac plain blob =
     let whole = plain_bytes bytes mac body plain blob in
     let long = length-front_of body blob.body_fits in
     let sum = length-append (front_of body) (replicate 9 0 ++ mac) in
-    (ap length whole ∙ (sum ∙ omega (arith, long, blob.mac_fits.counted)), ap (λ xs. slice_get xs 87) whole ∙ slice_get-behind (front_of body) (replicate 8 0 ++ mac) 0 87 (length-front_of body blob.body_fits))
+    let serial = announced body.head.serial in (
+      ap length whole ∙ (sum ∙ omega (arith, long, blob.mac_fits.counted)),
+      ap (λ xs. slice_get xs (flag_place (is_some body.head.serial))) whole ∙ slice_get-behind (front_of body) (replicate 8 0 ++ mac) 0 (flag_place (is_some body.head.serial)) long,
+    )

@@ -1,5 +1,6 @@
 -- The bytes before the MAC, put one behind the other, and the MAC.
 use Rattle.std.proofs.Common.{◌≡◌, ℕ, ◌<◌, ◌^◌, Bool, List, ◌++◌, length, ap, ◌∙◌, append_assoc}
+use Rattle.std.specs.Prelude.{is_some}
 use Rattle.std.specs.Int.{w16, to_be_bytes}
 use Rattle.std.specs.List.{All}
 use Rattle.sha2.specs.Sha256.{sha256}
@@ -7,17 +8,17 @@ use Rattle.sha2.proofs.Facts256.{length-sha256}
 use Rattle.oat_hmac.specs.Hmac.{hmac, key_block, masked}
 use Rattle.oat_blob.specs.declared.body.BodyHead.{BodyHead}
 use Rattle.oat_blob.specs.Body.{Body}
-use Rattle.oat_blob.specs.Layout.{IsBlobOf, bits_part, covered_of, magic, targets_part, violation_part}
+use Rattle.oat_blob.specs.Layout.{IsBlobOf, bits_part, covered_of, magic, serial_part, targets_part, version_part, violation_part}
 use Rattle.oat_blob.specs.Parts.{IsHead, head_part}
 
-regrouped : (a b c d e f g h : List ℕ) → ((a ++ (b ++ (c ++ (d ++ (e ++ f))))) ++ g) ++ h ≡ a ++ (b ++ (c ++ (d ++ (e ++ (f ++ (g ++ h))))))
-regrouped a b c d e f g h = simp append_assoc
+regrouped : (a b c d e f g h i j : List ℕ) → ((a ++ (b ++ (c ++ (d ++ (e ++ (f ++ (g ++ h))))))) ++ i) ++ j ≡ a ++ (b ++ (c ++ (d ++ (e ++ (f ++ (g ++ (h ++ (i ++ j))))))))
+regrouped a b c d e f g h i j = simp append_assoc
 
 covered : (body : Body) → (head_part body.head ++ bits_part body.bits) ++ targets_part body.targets ≡ covered_of body
 unfolding covered_of
 covered body =
     let head = body.head in
-    regrouped magic (to_be_bytes w16 head.op) head.nonce head.digest head.hash (violation_part head.violation) (bits_part body.bits) (targets_part body.targets)
+    regrouped magic (version_part (is_some head.serial)) (to_be_bytes w16 head.op) (serial_part head.serial) head.nonce head.digest head.hash (violation_part head.violation) (bits_part body.bits) (targets_part body.targets)
 
 length-hmac : (key text : List ℕ) → length (hmac key text) ≡ 32
 unfolding hmac
@@ -37,6 +38,7 @@ is_sealed head bits targets key put code bytes fits few_bits few_targets address
         digest = fits.digest;
         hash = fits.hash;
         violation = fits.violation;
+        serial = fits.serial;
         bits = few_bits;
         targets = few_targets;
         addresses = addresses;

@@ -27,6 +27,7 @@ pub record IsBody (body : Body) : Type 0 where
   pub digest : AreBytes 32 body.head.digest
   pub hash : AreBytes 32 body.head.hash
   pub violation : IfSome body.head.violation IsViolation
+  pub serial : IfSome body.head.serial (λ serial. serial < 2 ^ 32)
   pub bits : length body.bits < 2 ^ 32
   pub targets : length body.targets < 2 ^ 32
   pub addresses : All (λ target. target < 2 ^ 64) body.targets

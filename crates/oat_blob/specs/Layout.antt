@@ -1,5 +1,6 @@
--- The layout of a blob, version 1: docs/FORMATS.md. Numbers stand with the high byte first.
-use Rattle.std.specs.Prelude.{◌≡◌, ℕ, Bool, List, [], ◌∷◌, ◌++◌, length, Option, Some, None}
+-- The layout of a blob, without and with a serial number: docs/FORMATS.md. Numbers stand with the
+-- high byte first.
+use Rattle.std.specs.Prelude.{◌≡◌, ℕ, Bool, true, false, List, [], ◌∷◌, ◌++◌, length, Option, Some, None, is_some}
 use Rattle.std.specs.Int.{w16, w32, w64, to_be_bytes}
 use Rattle.std.specs.List.{flat_map}
 use Rattle.oat_hmac.specs.Hmac.{hmac}
@@ -7,9 +8,18 @@ use Rattle.oat_blob.specs.declared.body.Violation.{Violation}
 use Rattle.oat_blob.specs.Body.{AreBytes, Body, IsBody}
 use Rattle.oat_bits.specs.Packed.{packed}
 
--- 'OATB', and the version
+-- 'OATB'
 abbrev pub magic : List ℕ
-magic = 0x4F ∷ 0x41 ∷ 0x54 ∷ 0x42 ∷ 1 ∷ []
+magic = 0x4F ∷ 0x41 ∷ 0x54 ∷ 0x42 ∷ []
+
+-- the version: 2 where the window has a serial number, else 1
+abbrev pub version_part : Bool → List ℕ
+version_part false = 1 ∷ []
+version_part true = 2 ∷ []
+
+abbrev pub serial_part : Option ℕ → List ℕ
+serial_part None = []
+serial_part (Some serial) = to_be_bytes w32 serial
 
 -- a flag, and behind the flag 1 the first unsound use
 abbrev pub violation_part : Option Violation → List ℕ
@@ -27,13 +37,15 @@ targets_part targets = to_be_bytes w32 (length targets) ++ flat_map (to_be_bytes
 unfoldable pub covered_of : Body → List ℕ
 covered_of body =
     magic
+    ++ (version_part (is_some body.head.serial)
     ++ (to_be_bytes w16 body.head.op
+    ++ (serial_part body.head.serial
     ++ (body.head.nonce
     ++ (body.head.digest
     ++ (body.head.hash
     ++ (violation_part body.head.violation
     ++ (bits_part body.bits
-    ++ targets_part body.targets))))))
+    ++ targets_part body.targets))))))))
 
 -- the bytes are laid out as a blob of the body, with any 32 bytes in place of the MAC
 pub record IsBlob (bytes : List ℕ) (body : Body) (mac : List ℕ) : Type 0 where

@@ -1,12 +1,12 @@
 -- Parts of the layout: which bytes begin with a whole part, and where bytes stop being one
 -- (docs/FORMATS.md). A part is told by how its values are spelled, and which values fit.
-use Rattle.std.specs.Prelude.{◌≡◌, ℕ, suc, ◌<◌, ◌^◌, Bool, List, ◌++◌, length, take, Option, IfSome}
+use Rattle.std.specs.Prelude.{◌≡◌, ℕ, suc, ◌<◌, ◌^◌, Bool, List, ◌++◌, length, take, Option, IfSome, is_some, ⊤}
 use Rattle.std.specs.Int.{w16, w32, w64, to_be_bytes}
 use Rattle.std.specs.List.{All, flat_map}
 use Rattle.oat_blob.specs.declared.body.BodyHead.{BodyHead}
 use Rattle.oat_blob.specs.declared.body.Violation.{Violation}
 use Rattle.oat_blob.specs.Body.{AreBytes, IsViolation}
-use Rattle.oat_blob.specs.Layout.{magic, violation_part}
+use Rattle.oat_blob.specs.Layout.{magic, version_part, serial_part, violation_part}
 
 -- the bytes are the part with this value, and the rest
 pub record IsFront {X : Type 0} (spell : X → List ℕ) (fits : X → Type 0) (bytes : List ℕ) (value : X) (rest : List ℕ) : Type 0 where
@@ -42,6 +42,15 @@ IsMagic bytes = bytes ≡ magic
 abbrev pub IsBelow : ℕ → ℕ → Type 0
 IsBelow width n = n < 2 ^ width
 
+-- whether windows are numbered
+abbrev pub IsVersion : Bool → Type 0
+IsVersion numbered = ⊤
+
+-- a serial number where windows are numbered
+pub record IsSerial (numbered : Bool) (serial : Option ℕ) : Type 0 where
+  pub version : is_some serial ≡ numbered
+  pub below : IfSome serial (IsBelow 32)
+
 -- behind the flag 1
 abbrev pub violation_fields : Violation → List ℕ
 violation_fields violation = to_be_bytes w32 violation.cell ++ (to_be_bytes w64 violation.expected ++ to_be_bytes w64 violation.found)
@@ -50,7 +59,15 @@ abbrev pub IfViolation : Option Violation → Type 0
 IfViolation violation = IfSome violation IsViolation
 
 abbrev pub head_part : BodyHead → List ℕ
-head_part head = magic ++ (to_be_bytes w16 head.op ++ (head.nonce ++ (head.digest ++ (head.hash ++ violation_part head.violation))))
+head_part head =
+    magic
+    ++ (version_part (is_some head.serial)
+    ++ (to_be_bytes w16 head.op
+    ++ (serial_part head.serial
+    ++ (head.nonce
+    ++ (head.digest
+    ++ (head.hash
+    ++ violation_part head.violation))))))
 
 pub record IsHead (head : BodyHead) : Type 0 where
   pub op : head.op < 2 ^ 16
@@ -58,6 +75,7 @@ pub record IsHead (head : BodyHead) : Type 0 where
   pub digest : AreBytes 32 head.digest
   pub hash : AreBytes 32 head.hash
   pub violation : IfSome head.violation IsViolation
+  pub serial : IfSome head.serial (IsBelow 32)
 
 -- behind the count of bits, and behind that of targets
 abbrev pub AreBits : ℕ → List Bool → Type 0

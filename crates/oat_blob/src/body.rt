@@ -16,4 +16,6 @@ pub struct BodyHead {
     /// The chain of the window's returns.
     pub hash: [u8; 32],
     pub violation: Option<Violation>,
+    /// The window's number, where the session numbers its windows.
+    pub serial: Option<u32>,
 }

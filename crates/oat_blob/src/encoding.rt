@@ -1,9 +1,9 @@
-ghost use Rattle.std.specs.Prelude.{◌≡◌, ◌<◌, ◌^◌, ◌++◌, Option, length, IfOk, OnOk};
+ghost use Rattle.std.specs.Prelude.{◌≡◌, ◌<◌, ◌^◌, ◌++◌, ◌∷◌, [], Option, length, IfOk, IfSome, OnOk, is_some};
 ghost use Rattle.std.specs.Int.{w64, to_be_bytes};
 ghost use Rattle.std.specs.List.{All, flat_map};
 ghost use Rattle.oat_blob.specs.Body.{IsViolation};
-ghost use Rattle.oat_blob.specs.Layout.{IsBlobOf, bits_part, targets_part, violation_part};
-ghost use Rattle.oat_blob.specs.Parts.{IfViolation, IsHead, head_part, violation_fields};
+ghost use Rattle.oat_blob.specs.Layout.{IsBlobOf, bits_part, serial_part, targets_part, version_part, violation_part};
+ghost use Rattle.oat_blob.specs.Parts.{IfViolation, IsBelow, IsHead, head_part, violation_fields};
 
 use crate::body::{BodyHead, Violation};
 use crate::reader::MAGIC;
@@ -23,11 +23,30 @@ fn put_head(out: &mut Vec<u8>, head: &BodyHead) -> Result<(), AllocError>
     ensures fits { OnOk result (IsHead head.now) }
 {
     put_bytes(out, &MAGIC)?;
+    put_bytes(out, &[version(head.serial)])?;
     put_bytes(out, &head.op.to_be_bytes())?;
+    put_serial(out, head.serial)?;
     put_bytes(out, &head.nonce)?;
     put_bytes(out, &head.digest)?;
     put_bytes(out, &head.hash)?;
     put_violation(out, &head.violation)
+}
+
+/// The version that the layout has with such a serial number.
+fn version(serial: Option<u32>) -> u8
+    ensures { result ∷ [] ≡ version_part (is_some serial) }
+{
+    if serial.is_some() { 2 } else { 1 }
+}
+
+fn put_serial(out: &mut Vec<u8>, serial: Option<u32>) -> Result<(), AllocError>
+    ensures put { OnOk result (out.new.items ≡ out.old.items ++ serial_part serial) }
+    ensures fits { IfSome serial (IsBelow 32) }
+{
+    match serial {
+        Some(serial) => put_bytes(out, &serial.to_be_bytes()),
+        None => Ok(()),
+    }
 }
 
 fn put_violation(out: &mut Vec<u8>, violation: &Option<Violation>) -> Result<(), AllocError>

@@ -13,7 +13,7 @@ pub fn one_body()
     ensures { OneBody }
 {}
 
-/// A blob without violation and records has 128 bytes.
+/// A blob without violation and records has 128 bytes, and 132 with a serial number.
 pub fn plain_length()
     ensures { PlainLength }
 {}

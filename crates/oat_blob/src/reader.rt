@@ -5,15 +5,15 @@ ghost use Rattle.std.specs.Int.{w16, w32, w64, to_be_bytes};
 ghost use Rattle.oat_bits.specs.Packed.{packed};
 ghost use Rattle.oat_blob.specs.Body.{AreBytes, IsViolation};
 ghost use Rattle.oat_blob.specs.Layout.{violation_part, bits_part, targets_part};
-ghost use Rattle.oat_blob.specs.Layout.{magic};
-ghost use Rattle.oat_blob.specs.Parts.{IsCut, IsFront, Breaks, plain_part, IsMagic, IsBelow, violation_fields, IfViolation, head_part, IsHead, AreBits, AreTargets, addresses_part, AreFewBits, AreFewTargets};
+ghost use Rattle.oat_blob.specs.Layout.{magic, version_part, serial_part};
+ghost use Rattle.oat_blob.specs.Parts.{IsCut, IsFront, Breaks, plain_part, IsMagic, IsBelow, IsVersion, IsSerial, violation_fields, IfViolation, head_part, IsHead, AreBits, AreTargets, addresses_part, AreFewBits, AreFewTargets};
 ghost use Rattle.oat_blob.specs.Shown.{HasAddresses, HasBits, HasPackedBits, HasTargets};
 
 use crate::body::{BodyHead, Violation};
 use oat_bits::is_filled;
 
-/// The letters OATB, and the version.
-pub const MAGIC: [u8; 5] = [0x4F, 0x41, 0x54, 0x42, 1];
+/// The letters OATB.
+pub const MAGIC: [u8; 4] = [0x4F, 0x41, 0x54, 0x42];
 
 /// Where bytes stop being a part: so many are left from the first wrong one on.
 #[derive(Drop)]
@@ -80,6 +80,27 @@ fn magic(bytes: &[u8]) -> Result<&[u8], Stop>
     Ok(rest)
 }
 
+/// Whether the version is that with a serial number.
+fn version(bytes: &[u8]) -> Result<(bool, &[u8]), Stop>
+    ensures { MatchResult result (λ read. IsFront version_part IsVersion bytes.now read.0 read.1.now) (λ stop. Breaks version_part IsVersion bytes.now stop.left) }
+{
+    match bytes.split_first() {
+        Some((version, rest)) if *version == 1 => Ok((false, rest)),
+        Some((version, rest)) if *version == 2 => Ok((true, rest)),
+        _ => Err(Stop { left: bytes.len() }),
+    }
+}
+
+fn serial(bytes: &[u8], numbered: bool) -> Result<(Option<u32>, &[u8]), Stop>
+    ensures { MatchResult result (λ read. IsFront serial_part (IsSerial numbered) bytes.now read.0 read.1.now) (λ stop. Breaks serial_part (IsSerial numbered) bytes.now stop.left) }
+{
+    if !numbered {
+        return Ok((None, bytes));
+    }
+    let (serial, rest) = number_32(bytes)?;
+    Ok((Some(serial), rest))
+}
+
 fn violation_fields(bytes: &[u8]) -> Result<(Violation, &[u8]), Stop>
     ensures { MatchResult result (λ read. IsFront violation_fields IsViolation bytes.now read.0 read.1.now) (λ stop. Breaks violation_fields IsViolation bytes.now stop.left) }
 {
@@ -116,7 +137,9 @@ pub fn head(bytes: &[u8]) -> Result<(BodyHead, &[u8]), Stop>
     ensures { MatchResult result (λ read. IsFront head_part IsHead bytes.now read.0 read.1.now) (λ stop. Breaks head_part IsHead bytes.now stop.left) }
 {
     let rest = magic(bytes)?;
+    let (numbered, rest) = version(rest)?;
     let (op, rest) = number_16(rest)?;
+    let (serial, rest) = serial(rest, numbered)?;
     let (nonce, rest) = array(rest)?;
     let (digest, rest) = array(rest)?;
     let (hash, rest) = array(rest)?;
@@ -127,6 +150,7 @@ pub fn head(bytes: &[u8]) -> Result<(BodyHead, &[u8]), Stop>
         digest,
         hash,
         violation,
+        serial,
     };
     Ok((head, rest))
 }

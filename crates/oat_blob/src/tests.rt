@@ -20,6 +20,11 @@ const CARRIED: [u8; 32] = [
     0xD2, 0xCE, 0x6E, 0x19, 0x4F, 0x62, 0x4F, 0x7E, 0x1C, 0xFB, 0x4F, 0xFA, 0xFA, 0xF5, 0x58, 0xA5,
 ];
 
+const NUMBERED: [u8; 32] = [
+    0x6B, 0xB0, 0xDF, 0x9F, 0x98, 0x90, 0xF8, 0x06, 0x32, 0x83, 0x88, 0x61, 0x87, 0x22, 0xBB, 0x5E,
+    0x50, 0x3F, 0x7E, 0x5C, 0x88, 0xD4, 0xCB, 0xEF, 0xF6, 0xBF, 0x87, 0x70, 0x81, 0x1C, 0xCB, 0x4F,
+];
+
 // The MACs of the two blobs with records.
 const WITH_A_BIT: [u8; 32] = [
     0xE2, 0xFB, 0xDC, 0x46, 0x21, 0xCF, 0x96, 0x49, 0x24, 0x41, 0x46, 0x27, 0x3F, 0xB6, 0x44, 0x5B,
@@ -51,6 +56,7 @@ fn head_with(violation: Option<Violation>) -> BodyHead {
         digest: DIGEST,
         hash: HASH,
         violation,
+        serial: None,
     }
 }
 
@@ -84,9 +90,9 @@ fn tells_where_bytes_stop_being_a_blob(rt: HostRuntime) {
     let mut longer = [0; 129];
     longer[..128].copy_from_slice(&bytes);
     assert_eq!(rt; fault_of(&longer), Some(128));
-    // a version, a flag, nine bits with a filling bit of one, and counts that the bytes can't meet
+    // a third version, a flag, nine bits with a filling bit of one, and counts that the bytes can't meet
     for (at, field, offset) in [
-        (4, [2, 0, 1, 0, 1, 2], 4),
+        (4, [3, 0, 1, 0, 1, 2], 4),
         (87, [2, 0, 0, 0, 0, 0], 87),
         (91, [9, 0x80, 1, 0, 0, 0], 93),
         (88, [0xFF, 0xFF, 0xFF, 0xFF, 0, 0], 128),
@@ -96,6 +102,31 @@ fn tells_where_bytes_stop_being_a_blob(rt: HostRuntime) {
         other[at..at + 6].copy_from_slice(&field);
         assert_eq!(rt; fault_of(&other), Some(offset));
     }
+}
+
+fn blob_with_a_serial_number() -> [u8; 132] {
+    let mut bytes = [0; 132];
+    bytes[..5].copy_from_slice(b"OATB\x02");
+    bytes[6] = 1;
+    bytes[7..11].copy_from_slice(&[1, 2, 3, 4]);
+    bytes[11..100].copy_from_slice(&blob_without_records()[7..96]);
+    bytes[100..].copy_from_slice(&NUMBERED);
+    bytes
+}
+
+#[test]
+fn seals_a_blob_with_a_serial_number(rt: HostRuntime) -> Result<(), Fail> {
+    let head = BodyHead {
+        serial: Some(0x0102_0304),
+        ..head_with(None)
+    };
+    let bits = PackedBits::from_packed(rt.alloc(), &[], 0)?;
+    let bytes = encode(rt.alloc(), &head, &bits, &[], &KEY)?;
+    let numbered = blob_with_a_serial_number();
+    assert_eq!(rt; bytes.as_slice(), &numbered[..]);
+    assert_eq!(rt; decode(&bytes)?.head(), head);
+    assert_eq!(rt; fault_of(first(&numbered, 131)), Some(131));
+    Ok(())
 }
 
 #[test]
