@@ -1,8 +1,8 @@
 -- Reading gives a case exactly where the text stands for it.
 use Rattle.std.proofs.Common.{◌≡◌, ℕ, ◌+◌, Bool, true, false, cond, ◌&&◌, List, [], ◌∷◌, Option, Some, None, Result, Ok, Err, refl, sym, ap, subst, ◌∙◌, inl, inr}
-use Rattle.std.specs.Prelude.{IsTrue, IfOk, not, map, filter, codes}
+use Rattle.std.specs.Prelude.{IsTrue, IfOk, IfSome, not, map, filter, codes}
 use Rattle.std.specs.List.{AllByRecursion, filter_map}
-use Rattle.std.specs.Option.{ok_or}
+use Rattle.std.specs.Option.{ok_or, option_to_list}
 use Rattle.std.specs.Str.{bytes_eq}
 use Rattle.std.proofs.lemmas.Bool.{cases_Bool, and_parts}
 use Rattle.std.proofs.lemmas.List.{append-nil}
@@ -12,8 +12,8 @@ use Rattle.oat_lines.specs.declared.fault.Fault.TheVariants.{At}
 use Rattle.oat_lines.specs.Lines.{TextWord, lines_of, words_of, is_comment, is_skipped, sole}
 use Rattle.oat_lines.specs.Reading.{◌>>=◌, guard}
 use Rattle.oat_lines.specs.Faults.{Gives}
-use Rattle.oat_case.specs.Limits.{key_fits, operation_fits, steps_fit, IsInLimits, RisesFrom, IsWellFormedCase}
-use Rattle.oat_case.specs.Grammar.{Statement, SaysStatement, SayStatements, key_in, nonce_in, operation_in, steps_in, header, IsCaseText}
+use Rattle.oat_case.specs.Limits.{key_fits, operation_fits, steps_fit, calls_fit, IsInLimits, RisesFrom, IsWellFormedCase}
+use Rattle.oat_case.specs.Grammar.{Statement, SaysStatement, SayStatements, key_in, nonce_in, operation_in, steps_in, calls_in, header, IsCaseText}
 use Rattle.oat_case.specs.Reading.{Gathered, nothing_yet, statement_line, header_line, line_of, session_of, whole, case_from, case_of}
 use Rattle.oat_case.specs.declared.case.Session.{Session}
 use Rattle.oat_case.specs.declared.case.Case.{Case}
@@ -78,7 +78,7 @@ header_sound n g first words h all c count fresh e k0 =
       statements = k.statements;
       counted = rw (count, fresh) (ap (λ (ws : List TextWord). ws ∷ filter counts all) same ∙ ap (λ (ls : List (List TextWord)). header ∷ ls) rest);
       each = k.each;
-      gathers = record { key = k.gathers.key; nonce = k.gathers.nonce; operation = k.gathers.operation; steps = k.gathers.steps; inputs = k.gathers.inputs; writes = k.gathers.writes; limits = k.gathers.limits; order = k.gathers.order };
+      gathers = record { key = k.gathers.key; nonce = k.gathers.nonce; operation = k.gathers.operation; steps = k.gathers.steps; calls = k.gathers.calls; inputs = k.gathers.inputs; writes = k.gathers.writes; limits = k.gathers.limits; order = k.gathers.order };
     }
 
 if_true : {X : Type 0} (b : Bool) (x y : X) → b ≡ true → cond b x y ≡ x
@@ -111,19 +111,19 @@ line_sound n g (first ∷ words) h all c e k =
       ]
     ]
 
-abbrev session : List ℕ → List ℕ → ℕ → Session
-session key nonce op = record { key = key; nonce = nonce; op = op }
+abbrev session : List ℕ → List ℕ → ℕ → Option ℕ → Session
+session key nonce op calls = record { key = key; nonce = nonce; op = op; calls = calls }
 
-session_parts : (n : ℕ) (key nonce : Option (List ℕ)) (op : Option ℕ) (s : Session) → session_of n key nonce op ≡ Ok s → (key ≡ Some s.key) × (nonce ≡ Some s.nonce) × (op ≡ Some s.op)
-session_parts n None x o s e = absurd cc
-session_parts n (Some k) None o s e = absurd cc
-session_parts n (Some k) (Some x) None s e = absurd cc
-session_parts n (Some k) (Some x) (Some o) s e =
-    let same : session k x o ≡ s = ok_is (session k x o) s e in
-    (ap (λ (z : Session). Some z.key) same, ap (λ (z : Session). Some z.nonce) same, ap (λ (z : Session). Some z.op) same)
+session_parts : (n : ℕ) (key nonce : Option (List ℕ)) (op calls : Option ℕ) (s : Session) → session_of n key nonce op calls ≡ Ok s → (key ≡ Some s.key) × (nonce ≡ Some s.nonce) × (op ≡ Some s.op) × (calls ≡ s.calls)
+session_parts n None x o calls s e = absurd cc
+session_parts n (Some k) None o calls s e = absurd cc
+session_parts n (Some k) (Some x) None calls s e = absurd cc
+session_parts n (Some k) (Some x) (Some o) calls s e =
+    let same : session k x o calls ≡ s = ok_is (session k x o calls) s e in
+    (ap (λ (z : Session). Some z.key) same, ap (λ (z : Session). Some z.nonce) same, ap (λ (z : Session). Some z.op) same, ap (λ (z : Session). z.calls) same)
 
-given_once : {X : Type 0} (fits : X → Bool) (given : Option X) (value : X) → given ≡ Some value → Once fits given [] value
-given_once fits given value e = record { one = rw e refl; fit = tt }
+given_once : {X : Type 0} (fits : X → Bool) (given value : Option X) → given ≡ value → Once fits given [] value
+given_once fits given value e = record { one = append-nil (option_to_list given) ∙ ap option_to_list e; fit = tt }
 
 abbrev made : Gathered → Session → ℕ → Case
 made g session steps = record { session = session; steps = steps; inputs = g.inputs; writes = g.writes }
@@ -131,20 +131,21 @@ made g session steps = record { session = session; steps = steps; inputs = g.inp
 whole_sound : (n : ℕ) (g : Gathered) (c : Case) → whole n g ≡ Ok c → Completes g [] c
 unfolding whole
 whole_sound n g c e =
-    let a = guarded_ok g.begun (At n Missing) (λ _. session_of n g.key g.nonce g.operation >>= λ s. ok_or g.steps (At n Missing) >>= λ t. Ok (made g s t)) c e in
-    let b = bind_ok (session_of n g.key g.nonce g.operation) (λ s. ok_or g.steps (At n Missing) >>= λ t. Ok (made g s t)) c a.1 in
+    let a = guarded_ok g.begun (At n Missing) (λ _. session_of n g.key g.nonce g.operation g.calls >>= λ s. ok_or g.steps (At n Missing) >>= λ t. Ok (made g s t)) c e in
+    let b = bind_ok (session_of n g.key g.nonce g.operation g.calls) (λ s. ok_or g.steps (At n Missing) >>= λ t. Ok (made g s t)) c a.1 in
     let d = bind_ok (ok_or g.steps (At n Missing)) (λ t. Ok (made g b.0 t)) c b.2 in
-    let p = session_parts n g.key g.nonce g.operation b.0 b.1 in
+    let p = session_parts n g.key g.nonce g.operation g.calls b.0 b.1 in
     subst (λ (z : Case). Completes g [] z) (ok_is (made g b.0 d.0) c d.2) (record {
       lines = [];
       statements = [];
       counted = rw a.0 refl;
       each = tt;
       gathers = record {
-        key = given_once key_fits g.key b.0.key p.0;
-        nonce = given_once any g.nonce b.0.nonce p.1;
-        operation = given_once operation_fits g.operation b.0.op p.2;
-        steps = given_once steps_fit g.steps d.0 (or_ok g.steps (At n Missing) d.0 d.1);
+        key = given_once key_fits g.key (Some b.0.key) p.0;
+        nonce = given_once any g.nonce (Some b.0.nonce) p.1;
+        operation = given_once operation_fits g.operation (Some b.0.op) p.2;
+        steps = given_once steps_fit g.steps (Some d.0) (or_ok g.steps (At n Missing) d.0 d.1);
+        calls = given_once calls_fit g.calls b.0.calls p.3;
         inputs = append-nil g.inputs;
         writes = append-nil g.writes;
         limits = tt;
@@ -226,7 +227,7 @@ header_back n g first words all c plain fresh k =
         statements = k.statements;
         counted = rest;
         each = k.each;
-        gathers = record { key = k.gathers.key; nonce = k.gathers.nonce; operation = k.gathers.operation; steps = k.gathers.steps; inputs = k.gathers.inputs; writes = k.gathers.writes; limits = k.gathers.limits; order = k.gathers.order };
+        gathers = record { key = k.gathers.key; nonce = k.gathers.nonce; operation = k.gathers.operation; steps = k.gathers.steps; calls = k.gathers.calls; inputs = k.gathers.inputs; writes = k.gathers.writes; limits = k.gathers.limits; order = k.gathers.order };
       };
     }
 
@@ -267,13 +268,14 @@ ended g c k =
 whole_back : (n : ℕ) (g : Gathered) (c : Case) → Ended g c → whole n g ≡ Ok c
 unfolding whole
 whole_back n g c k =
-    let key : g.key ≡ Some c.session.key = once_last key_fits g.key c.session.key k.gathers.key in
-    let nonce : g.nonce ≡ Some c.session.nonce = once_last any g.nonce c.session.nonce k.gathers.nonce in
-    let operation : g.operation ≡ Some c.session.op = once_last operation_fits g.operation c.session.op k.gathers.operation in
-    let steps : g.steps ≡ Some c.steps = once_last steps_fit g.steps c.steps k.gathers.steps in
+    let key : g.key ≡ Some c.session.key = once_last key_fits g.key (Some c.session.key) k.gathers.key in
+    let nonce : g.nonce ≡ Some c.session.nonce = once_last any g.nonce (Some c.session.nonce) k.gathers.nonce in
+    let operation : g.operation ≡ Some c.session.op = once_last operation_fits g.operation (Some c.session.op) k.gathers.operation in
+    let steps : g.steps ≡ Some c.steps = once_last steps_fit g.steps (Some c.steps) k.gathers.steps in
+    let calls : g.calls ≡ c.session.calls = once_last calls_fit g.calls c.session.calls k.gathers.calls in
     let inputs : g.inputs ≡ c.inputs = sym (append-nil g.inputs) ∙ k.gathers.inputs in
     let writes : g.writes ≡ c.writes = sym (append-nil g.writes) ∙ k.gathers.writes in
-    rw (k.begun, key, nonce, operation, steps, inputs, writes) refl
+    rw (k.begun, key, nonce, operation, steps, calls, inputs, writes) refl
 
 complete : (lines : List TextWord) (n : ℕ) (g : Gathered) (c : Case) → Completes g (map words_of lines) c → case_from n g lines ≡ Ok c
 unfolding case_from
@@ -284,13 +286,15 @@ complete (line ∷ lines) n g c k =
 
 -- ---- the law
 
-value_fits : {X : Type 0} (fits : X → Bool) (values : List X) (value : X) → Once fits None values value → IsTrue (fits value)
-value_fits fits values value once =
+value_fits : {X : Type 0} (fits : X → Bool) (values : List X) (value : Option X) → Once fits None values value → IfSome value (λ v. IsTrue (fits v))
+value_fits fits values None once = tt
+value_fits fits values (Some value) once =
     let all : AllByRecursion (λ x. fits x ≡ true) (value ∷ []) = subst (λ xs. AllByRecursion (λ x. fits x ≡ true) xs) once.one once.fit in
     all.0
 
-once_of : {X : Type 0} (fits : X → Bool) (values : List X) (value : X) → values ≡ value ∷ [] → fits value ≡ true → Once fits None values value
-once_of fits values value e fit = record { one = e; fit = subst (λ xs. AllByRecursion (λ x. fits x ≡ true) xs) (sym e) (fit, tt) }
+once_of : {X : Type 0} (fits : X → Bool) (values : List X) (value : Option X) → values ≡ option_to_list value → IfSome value (λ v. IsTrue (fits v)) → Once fits None values value
+once_of fits values None e fit = record { one = e; fit = subst (λ xs. AllByRecursion (λ x. fits x ≡ true) xs) (sym e) tt }
+once_of fits values (Some value) e fit = record { one = e; fit = subst (λ xs. AllByRecursion (λ x. fits x ≡ true) xs) (sym e) (fit, tt) }
 
 pub stands : (text : List ℕ) (c : Case) → case_of text ≡ Ok c → IsCaseText text c
 stands text c e =
@@ -305,12 +309,14 @@ stands text c e =
       nonce = g.nonce.one;
       operation = g.operation.one;
       steps = g.steps.one;
+      calls = g.calls.one;
       inputs = g.inputs;
       writes = g.writes;
       limits = record {
-        key = value_fits key_fits (filter_map key_in k.statements) c.session.key g.key;
-        operation = value_fits operation_fits (filter_map operation_in k.statements) c.session.op g.operation;
-        steps = value_fits steps_fit (filter_map steps_in k.statements) c.steps g.steps;
+        key = value_fits key_fits (filter_map key_in k.statements) (Some c.session.key) g.key;
+        operation = value_fits operation_fits (filter_map operation_in k.statements) (Some c.session.op) g.operation;
+        steps = value_fits steps_fit (filter_map steps_in k.statements) (Some c.steps) g.steps;
+        calls = value_fits calls_fit (filter_map calls_in k.statements) c.session.calls g.calls;
         writes = subst (λ ws. AllByRecursion IsInLimits ws) g.writes g.limits;
         order = subst (λ ws. RisesFrom 0 ws) g.writes g.order;
       };
@@ -324,10 +330,11 @@ is_read text c t =
       counted = t.says;
       each = t.each;
       gathers = record {
-        key = once_of key_fits (filter_map key_in t.statements) c.session.key t.key t.limits.key;
-        nonce = once_of any (filter_map nonce_in t.statements) c.session.nonce t.nonce refl;
-        operation = once_of operation_fits (filter_map operation_in t.statements) c.session.op t.operation t.limits.operation;
-        steps = once_of steps_fit (filter_map steps_in t.statements) c.steps t.steps t.limits.steps;
+        key = once_of key_fits (filter_map key_in t.statements) (Some c.session.key) t.key t.limits.key;
+        nonce = once_of any (filter_map nonce_in t.statements) (Some c.session.nonce) t.nonce refl;
+        operation = once_of operation_fits (filter_map operation_in t.statements) (Some c.session.op) t.operation t.limits.operation;
+        steps = once_of steps_fit (filter_map steps_in t.statements) (Some c.steps) t.steps t.limits.steps;
+        calls = once_of calls_fit (filter_map calls_in t.statements) c.session.calls t.calls t.limits.calls;
         inputs = t.inputs;
         writes = t.writes;
         limits = subst (λ ws. AllByRecursion IsInLimits ws) (sym t.writes) t.limits.writes;

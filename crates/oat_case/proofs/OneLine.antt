@@ -1,5 +1,5 @@
 -- What a step that gave a value says, and the shape of the lines that stand just once.
-use Rattle.std.proofs.Common.{◌≡◌, ℕ, ◌-◌, ◌^◌, ◌<◌, Bool, true, false, List, [], ◌∷◌, ◌++◌, Option, Some, None, Result, Ok, Err, ℤ, refl, ap, arith}
+use Rattle.std.proofs.Common.{◌≡◌, ℕ, ◌-◌, ◌^◌, ◌<◌, Bool, true, List, [], ◌∷◌, ◌++◌, Option, Some, None, Result, Ok, Err, ℤ, refl, ap, arith}
 use Rattle.std.specs.Prelude.{is_none, option_map}
 use Rattle.std.specs.List.{AllByRecursion}
 use Rattle.std.specs.Option.{ok_or, option_to_list}
@@ -96,30 +96,30 @@ pub one_again : {X G : Type 0} (n : ℕ) (parse : TextWord → Step X) (free : B
     → parse word ≡ Ok x → free ≡ true → fits x ≡ true → one_line n parse free fits make (word ∷ []) ≡ Ok (make x)
 one_again n parse free fits make word x parses is_free fit = rw (parses, is_free, fit) refl
 
--- ---- a value that is given once, before or by these statements
+-- ---- a value that is given at most once, before or by these statements
 
-pub record Once {X : Type 0} (fits : X → Bool) (given : Option X) (values : List X) (value : X) : Type 0 where
-  pub one : option_to_list given ++ values ≡ value ∷ []
+pub record Once {X : Type 0} (fits : X → Bool) (given : Option X) (values : List X) (value : Option X) : Type 0 where
+  pub one : option_to_list given ++ values ≡ option_to_list value
   pub fit : AllByRecursion (λ x. fits x ≡ true) values
 
-pub once_step : {X : Type 0} (fits : X → Bool) (given : Option X) (x : X) (values : List X) (value : X) → given ≡ None → fits x ≡ true
+pub once_step : {X : Type 0} (fits : X → Bool) (given : Option X) (x : X) (values : List X) (value : Option X) → given ≡ None → fits x ≡ true
     → Once fits (Some x) values value → Once fits given (x ∷ values) value
 once_step fits given x values value none fit once = record { one = rw none once.one; fit = (fit, once.fit) }
 
-pub once_back : {X : Type 0} (fits : X → Bool) (given : Option X) (x : X) (values : List X) (value : X)
+two_in_one : {X : Type 0} (a b : X) (more : List X) (value : Option X) → a ∷ (b ∷ more) ≡ option_to_list value → ⊥
+two_in_one a b more None e = cc
+two_in_one a b more (Some c) e = cc
+
+pub once_back : {X : Type 0} (fits : X → Bool) (given : Option X) (x : X) (values : List X) (value : Option X)
     → Once fits given (x ∷ values) value → (is_none given ≡ true) × (fits x ≡ true) × Once fits (Some x) values value
 once_back fits None x values value once = (refl, once.fit.0, record { one = once.one; fit = once.fit.1 })
 once_back fits (Some y) x values value once = absurd (two_in_one y x values value once.one)
-  where
-    two_in_one : {X : Type 0} (a b : X) (more : List X) (c : X) → a ∷ (b ∷ more) ≡ c ∷ [] → ⊥
-    two_in_one a b more c e = cc
 
-pub once_last : {X : Type 0} (fits : X → Bool) (given : Option X) (value : X) → Once fits given [] value → given ≡ Some value
-once_last fits None value once = absurd (no_value value once.one)
+pub once_last : {X : Type 0} (fits : X → Bool) (given value : Option X) → Once fits given [] value → given ≡ value
+once_last fits given value once = same given value once.one
   where
-    no_value : {X : Type 0} (c : X) → [] ≡ c ∷ [] → ⊥
-    no_value c e = cc
-once_last fits (Some x) value once = ap (λ w. Some w) (same x value once.one)
-  where
-    same : {X : Type 0} (a c : X) → a ∷ [] ≡ c ∷ [] → a ≡ c
-    same a c e = cc
+    same : {X : Type 0} (given value : Option X) → option_to_list given ++ [] ≡ option_to_list value → given ≡ value
+    same None None e = refl
+    same None (Some c) e = absurd cc
+    same (Some a) None e = absurd cc
+    same (Some a) (Some c) e = let one : a ≡ c = cc in ap (λ w. Some w) one

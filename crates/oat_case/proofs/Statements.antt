@@ -13,9 +13,9 @@ use Rattle.oat_lines.specs.Decimal.{numeral_of}
 use Rattle.oat_lines.specs.Integer.{read_as_integer}
 use Rattle.oat_lines.specs.Reading.{◌>>=◌, guard, between}
 use Rattle.oat_mem.specs.DataMemory.{fits}
-use Rattle.oat_case.specs.Limits.{key_fits, operation_fits, steps_fit, write_fits, IsInLimits, RisesFrom}
-use Rattle.oat_case.specs.Grammar.{Statement, KeyIs, NonceIs, OperationIs, StepsAre, InputIs, WriteIs, SaysStatement, address_numeral, key_in, nonce_in, operation_in, steps_in, input_in, write_in}
-use Rattle.oat_case.specs.Reading.{Gathered, bytes_at, numeral_at, integer_at, key_line, nonce_line, operation_line, steps_line, input_line, write_of, add_write, write_line, statement_line}
+use Rattle.oat_case.specs.Limits.{key_fits, operation_fits, steps_fit, calls_fit, write_fits, IsInLimits, RisesFrom}
+use Rattle.oat_case.specs.Grammar.{Statement, KeyIs, NonceIs, OperationIs, StepsAre, CallsAre, InputIs, WriteIs, SaysStatement, address_numeral, key_in, nonce_in, operation_in, steps_in, calls_in, input_in, write_in}
+use Rattle.oat_case.specs.Reading.{Gathered, bytes_at, numeral_at, integer_at, key_line, nonce_line, operation_line, steps_line, calls_line, input_line, write_of, add_write, write_line, statement_line}
 use Rattle.oat_case.specs.declared.case.Write.{Write}
 use Rattle.oat_case.specs.declared.case.Case.{Case}
 use Rattle.oat_case.specs.declared.fault.CaseFaultKind.TheVariants.{Token, Range, OutsideData, Order}
@@ -31,10 +31,11 @@ nonce_fits nonce = eqb (length nonce) 16
 
 -- What was given and what these statements say is the case, within the limits.
 pub record Gathers (g : Gathered) (statements : List Statement) (c : Case) : Type 0 where
-  pub key : Once key_fits g.key (filter_map key_in statements) c.session.key
-  pub nonce : Once any g.nonce (filter_map nonce_in statements) c.session.nonce
-  pub operation : Once operation_fits g.operation (filter_map operation_in statements) c.session.op
-  pub steps : Once steps_fit g.steps (filter_map steps_in statements) c.steps
+  pub key : Once key_fits g.key (filter_map key_in statements) (Some c.session.key)
+  pub nonce : Once any g.nonce (filter_map nonce_in statements) (Some c.session.nonce)
+  pub operation : Once operation_fits g.operation (filter_map operation_in statements) (Some c.session.op)
+  pub steps : Once steps_fit g.steps (filter_map steps_in statements) (Some c.steps)
+  pub calls : Once calls_fit g.calls (filter_map calls_in statements) c.session.calls
   pub inputs : g.inputs ++ filter_map input_in statements ≡ c.inputs
   pub writes : g.writes ++ filter_map write_in statements ≡ c.writes
   pub limits : AllByRecursion IsInLimits (filter_map write_in statements)
@@ -59,6 +60,9 @@ with_operation g id = record g { operation = Some id }
 abbrev pub with_steps : Gathered → ℕ → Gathered
 with_steps g steps = record g { steps = Some steps }
 
+abbrev pub with_calls : Gathered → ℕ → Gathered
+with_calls g calls = record g { calls = Some calls }
+
 abbrev pub with_input : Gathered → ℤ → Gathered
 with_input g input = record g { inputs = g.inputs ++ input ∷ [] }
 
@@ -75,7 +79,7 @@ key_adds n g words h e =
       statement = KeyIs t.value;
       says = (t.word, ap (λ (ws : List TextWord). codes "key" ∷ ws) t.words, or_token_ok n (decode_of t.word) t.value t.parses);
       begun = refl;
-      gathers = λ ss c k. record { key = once_step key_fits g.key t.value (filter_map key_in ss) c.session.key (none_of g.key t.free) t.fits k.key; nonce = k.nonce; operation = k.operation; steps = k.steps; inputs = k.inputs; writes = k.writes; limits = k.limits; order = k.order };
+      gathers = λ ss c k. record { key = once_step key_fits g.key t.value (filter_map key_in ss) (Some c.session.key) (none_of g.key t.free) t.fits k.key; nonce = k.nonce; operation = k.operation; steps = k.steps; calls = k.calls; inputs = k.inputs; writes = k.writes; limits = k.limits; order = k.order };
     })
 
 nonce_adds : (n : ℕ) (g : Gathered) (words : List TextWord) (h : Gathered) → nonce_line n g words ≡ Ok h → Adds g (codes "nonce" ∷ words) h
@@ -86,7 +90,7 @@ nonce_adds n g words h e =
       statement = NonceIs t.value;
       says = (t.word, ap (λ (ws : List TextWord). codes "nonce" ∷ ws) t.words, or_token_ok n (decode_of t.word) t.value t.parses, eqb-true _ _ t.fits);
       begun = refl;
-      gathers = λ ss c k. record { key = k.key; nonce = once_step any g.nonce t.value (filter_map nonce_in ss) c.session.nonce (none_of g.nonce t.free) refl k.nonce; operation = k.operation; steps = k.steps; inputs = k.inputs; writes = k.writes; limits = k.limits; order = k.order };
+      gathers = λ ss c k. record { key = k.key; nonce = once_step any g.nonce t.value (filter_map nonce_in ss) (Some c.session.nonce) (none_of g.nonce t.free) refl k.nonce; operation = k.operation; steps = k.steps; calls = k.calls; inputs = k.inputs; writes = k.writes; limits = k.limits; order = k.order };
     })
 
 operation_adds : (n : ℕ) (g : Gathered) (words : List TextWord) (h : Gathered) → operation_line n g words ≡ Ok h → Adds g (codes "operation" ∷ words) h
@@ -98,7 +102,7 @@ operation_adds n g words h e =
       statement = OperationIs t.value;
       says = (t.word, ap (λ (ws : List TextWord). codes "operation" ∷ ws) t.words, number_takes n t.word t.value t.parses (omega arith));
       begun = refl;
-      gathers = λ ss c k. record { key = k.key; nonce = k.nonce; operation = once_step operation_fits g.operation t.value (filter_map operation_in ss) c.session.op (none_of g.operation t.free) t.fits k.operation; steps = k.steps; inputs = k.inputs; writes = k.writes; limits = k.limits; order = k.order };
+      gathers = λ ss c k. record { key = k.key; nonce = k.nonce; operation = once_step operation_fits g.operation t.value (filter_map operation_in ss) (Some c.session.op) (none_of g.operation t.free) t.fits k.operation; steps = k.steps; calls = k.calls; inputs = k.inputs; writes = k.writes; limits = k.limits; order = k.order };
     })
 
 steps_adds : (n : ℕ) (g : Gathered) (words : List TextWord) (h : Gathered) → steps_line n g words ≡ Ok h → Adds g (codes "steps" ∷ words) h
@@ -110,7 +114,19 @@ steps_adds n g words h e =
       statement = StepsAre t.value;
       says = (t.word, ap (λ (ws : List TextWord). codes "steps" ∷ ws) t.words, number_takes n t.word t.value t.parses (omega arith));
       begun = refl;
-      gathers = λ ss c k. record { key = k.key; nonce = k.nonce; operation = k.operation; steps = once_step steps_fit g.steps t.value (filter_map steps_in ss) c.steps (none_of g.steps t.free) t.fits k.steps; inputs = k.inputs; writes = k.writes; limits = k.limits; order = k.order };
+      gathers = λ ss c k. record { key = k.key; nonce = k.nonce; operation = k.operation; steps = once_step steps_fit g.steps t.value (filter_map steps_in ss) (Some c.steps) (none_of g.steps t.free) t.fits k.steps; calls = k.calls; inputs = k.inputs; writes = k.writes; limits = k.limits; order = k.order };
+    })
+
+calls_adds : (n : ℕ) (g : Gathered) (words : List TextWord) (h : Gathered) → calls_line n g words ≡ Ok h → Adds g (codes "calls" ∷ words) h
+unfolding calls_line
+calls_adds n g words h e =
+    let t : Takes (numeral_at n) (is_none g.calls) calls_fit (with_calls g) words h = one_takes n (numeral_at n) (is_none g.calls) calls_fit (with_calls g) words h e in
+    let low : t.value ≤ 1024 = leb-true _ _ (and_parts (leb 1 t.value) (leb t.value 1024) t.fits).1 in
+    subst (λ (z : Gathered). Adds g (codes "calls" ∷ words) z) t.made (record {
+      statement = CallsAre t.value;
+      says = (t.word, ap (λ (ws : List TextWord). codes "calls" ∷ ws) t.words, number_takes n t.word t.value t.parses (omega arith));
+      begun = refl;
+      gathers = λ ss c k. record { key = k.key; nonce = k.nonce; operation = k.operation; steps = k.steps; calls = once_step calls_fit g.calls t.value (filter_map calls_in ss) c.session.calls (none_of g.calls t.free) t.fits k.calls; inputs = k.inputs; writes = k.writes; limits = k.limits; order = k.order };
     })
 
 input_adds : (n : ℕ) (g : Gathered) (words : List TextWord) (h : Gathered) → input_line n g words ≡ Ok h → Adds g (codes "input" ∷ words) h
@@ -123,7 +139,7 @@ input_adds n g words h e =
       statement = InputIs b.0;
       says = (a.0, ap (λ (ws : List TextWord). codes "input" ∷ ws) (sole_is words a.0 (or_ok (sole words) (At n Token) a.0 a.1)), r.0, r.1);
       begun = refl;
-      gathers = λ ss c k. record { key = k.key; nonce = k.nonce; operation = k.operation; steps = k.steps; inputs = sym (append_assoc g.inputs (b.0 ∷ []) (filter_map input_in ss)) ∙ k.inputs; writes = k.writes; limits = k.limits; order = k.order };
+      gathers = λ ss c k. record { key = k.key; nonce = k.nonce; operation = k.operation; steps = k.steps; calls = k.calls; inputs = sym (append_assoc g.inputs (b.0 ∷ []) (filter_map input_in ss)) ∙ k.inputs; writes = k.writes; limits = k.limits; order = k.order };
     })
 
 abbrev written : ℕ → ℕ → List ℕ → Write
@@ -157,7 +173,7 @@ write_adds n g words h e =
       statement = WriteIs w;
       says = (a.0.0, a.0.1, a.0.2, ap (λ (ws : List TextWord). codes "write" ∷ ws) (triple_is words a.0 (or_ok (triple words) (At n Token) a.0 a.1)), p.0, p.1, p.2);
       begun = refl;
-      gathers = λ ss c k. record { key = k.key; nonce = k.nonce; operation = k.operation; steps = k.steps; inputs = k.inputs; writes = sym (append_assoc g.writes (w ∷ []) (filter_map write_in ss)) ∙ k.writes; limits = ((f.0, i.0), k.limits); order = (o.0, k.order) };
+      gathers = λ ss c k. record { key = k.key; nonce = k.nonce; operation = k.operation; steps = k.steps; calls = k.calls; inputs = k.inputs; writes = sym (append_assoc g.writes (w ∷ []) (filter_map write_in ss)) ∙ k.writes; limits = ((f.0, i.0), k.limits); order = (o.0, k.order) };
     })
 
 named : (name keyword : TextWord) (words : List TextWord) (g h : Gathered) → bytes_eq keyword name ≡ true → Adds g (name ∷ words) h → Adds g (keyword ∷ words) h
@@ -174,11 +190,14 @@ statement_adds n g keyword words h e0 =
           | inl is ↦ named (codes "operation") keyword words g h is (operation_adds n g words h (rw is at e2))
           | inr not_operation ↦ let e3 = rw not_operation at e2 in elim (cases_Bool (bytes_eq keyword (codes "steps"))) [
             | inl is ↦ named (codes "steps") keyword words g h is (steps_adds n g words h (rw is at e3))
-            | inr not_steps ↦ let e4 = rw not_steps at e3 in elim (cases_Bool (bytes_eq keyword (codes "input"))) [
-              | inl is ↦ named (codes "input") keyword words g h is (input_adds n g words h (rw is at e4))
-              | inr not_input ↦ let e5 = rw not_input at e4 in elim (cases_Bool (bytes_eq keyword (codes "write"))) [
-                | inl is ↦ named (codes "write") keyword words g h is (write_adds n g words h (rw is at e5))
-                | inr not_write ↦ absurd (let bad : Err (At n Token) ≡ done h = rw not_write at e5 in cc)
+            | inr not_steps ↦ let e4 = rw not_steps at e3 in elim (cases_Bool (bytes_eq keyword (codes "calls"))) [
+              | inl is ↦ named (codes "calls") keyword words g h is (calls_adds n g words h (rw is at e4))
+              | inr not_calls ↦ let e5 = rw not_calls at e4 in elim (cases_Bool (bytes_eq keyword (codes "input"))) [
+                | inl is ↦ named (codes "input") keyword words g h is (input_adds n g words h (rw is at e5))
+                | inr not_input ↦ let e6 = rw not_input at e5 in elim (cases_Bool (bytes_eq keyword (codes "write"))) [
+                  | inl is ↦ named (codes "write") keyword words g h is (write_adds n g words h (rw is at e6))
+                  | inr not_write ↦ absurd (let bad : Err (At n Token) ≡ done h = rw not_write at e6 in cc)
+                ]
               ]
             ]
           ]

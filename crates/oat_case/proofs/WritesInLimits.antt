@@ -1,10 +1,11 @@
 -- The test of all writes, and what it says of each.
-use Rattle.std.proofs.Common.{◌≡◌, ℕ, Bool, true, ◌&&◌, leb, List, [], ◌∷◌, length, refl, sym, ◌∙◌}
-use Rattle.std.specs.Prelude.{IsTrue, ◌↔◌}
+use Rattle.std.proofs.Common.{◌≡◌, ℕ, Bool, true, ◌&&◌, leb, List, [], ◌∷◌, Option, Some, None, length, refl, sym, ◌∙◌}
+use Rattle.std.specs.Prelude.{IsTrue, IfSome, ◌↔◌}
+use Rattle.std.specs.Option.{option_map_or}
 use Rattle.std.specs.List.{AllByRecursion}
 use Rattle.std.proofs.lemmas.Bool.{and_parts, and_from}
 use Rattle.oat_mem.specs.DataMemory.{fits}
-use Rattle.oat_case.specs.Limits.{key_fits, operation_fits, steps_fit, write_fits, writes_fit, case_fits, IsInLimits, RisesFrom, IsWellFormedCase}
+use Rattle.oat_case.specs.Limits.{key_fits, operation_fits, steps_fit, calls_fit, write_fits, writes_fit, case_fits, IsInLimits, RisesFrom, IsWellFormedCase}
 use Rattle.oat_case.specs.declared.case.Write.{Write}
 use Rattle.oat_case.specs.declared.case.Case.{Case}
 
@@ -26,19 +27,33 @@ writes_again least (w ∷ ws) limits order =
     order.0)
     (writes_again w.before ws limits.1 order.1)
 
+calls_pass : (calls : Option ℕ) → option_map_or calls_fit calls true ≡ true → IfSome calls (λ count. IsTrue (calls_fit count))
+calls_pass None e = tt
+calls_pass (Some count) e = e
+
+calls_again : (calls : Option ℕ) → IfSome calls (λ count. IsTrue (calls_fit count)) → option_map_or calls_fit calls true ≡ true
+calls_again None fit = refl
+calls_again (Some count) fit = fit
+
+abbrev names_fit : Case → Bool
+names_fit c = key_fits c.session.key && operation_fits c.session.op
+
 pub well_formed_is : (c : Case) (b : Bool) → b ≡ case_fits c → IsTrue b ↔ IsWellFormedCase c
 well_formed_is c b e = (fits, λ w. e ∙ again w)
   where
     fits : IsTrue b → IsWellFormedCase c
     fits h =
-        let p = and_parts (key_fits c.session.key && operation_fits c.session.op && steps_fit c.steps) (writes_fit 0 c.writes) (sym e ∙ h) in
-        let q = and_parts (key_fits c.session.key && operation_fits c.session.op) (steps_fit c.steps) p.0 in
-        let r = and_parts (key_fits c.session.key) (operation_fits c.session.op) q.0 in
+        let p = and_parts (names_fit c && option_map_or calls_fit c.session.calls true && steps_fit c.steps) (writes_fit 0 c.writes) (sym e ∙ h) in
+        let q = and_parts (names_fit c && option_map_or calls_fit c.session.calls true) (steps_fit c.steps) p.0 in
+        let o = and_parts (names_fit c) (option_map_or calls_fit c.session.calls true) q.0 in
+        let r = and_parts (key_fits c.session.key) (operation_fits c.session.op) o.0 in
         let w = writes_pass 0 c.writes p.1 in
-        record { key = r.0; operation = r.1; steps = q.1; writes = w.0; order = w.1 }
+        record { key = r.0; operation = r.1; calls = calls_pass c.session.calls o.1; steps = q.1; writes = w.0; order = w.1 }
 
     again : IsWellFormedCase c → case_fits c ≡ true
     again w =
-        and_from (key_fits c.session.key && operation_fits c.session.op && steps_fit c.steps) (writes_fit 0 c.writes)
-        (and_from (key_fits c.session.key && operation_fits c.session.op) (steps_fit c.steps) (and_from (key_fits c.session.key) (operation_fits c.session.op) w.key w.operation) w.steps)
+        and_from (names_fit c && option_map_or calls_fit c.session.calls true && steps_fit c.steps) (writes_fit 0 c.writes)
+        (and_from (names_fit c && option_map_or calls_fit c.session.calls true) (steps_fit c.steps)
+        (and_from (names_fit c) (option_map_or calls_fit c.session.calls true) (and_from (key_fits c.session.key) (operation_fits c.session.op) w.key w.operation) (calls_again c.session.calls w.calls))
+        w.steps)
         (writes_again 0 c.writes w.writes w.order)

@@ -3,4 +3,4 @@ use Rattle.oat_case.specs.declared.draft.Draft.{Draft}
 use Rattle.oat_case.specs.Reading.{Gathered}
 
 abbrev pub gathered : Draft → Gathered
-gathered d = record { begun = d.begun; key = d.key; nonce = d.nonce; operation = d.operation; steps = d.steps; inputs = d.inputs.items; writes = d.writes.items; least = d.least }
+gathered d = record { begun = d.begun; key = d.key; nonce = d.nonce; operation = d.operation; steps = d.steps; calls = d.calls; inputs = d.inputs.items; writes = d.writes.items; least = d.least }

@@ -1,6 +1,7 @@
 -- The case text, as docs/FORMATS.md has it under "Case text": which text stands for which case.
 use Rattle.std.specs.Prelude.{◌≡◌, ◌&&◌, IsTrue, ℕ, ℤ, Bool, List, [], ◌∷◌, length, nat_lt, codes, Option, Some, None, Ok, if◌then◌else◌}
 use Rattle.std.specs.List.{filter_map, list_all}
+use Rattle.std.specs.Option.{option_to_list}
 use Rattle.std.specs.Char.{digit_value}
 use Rattle.std.specs.Str.Parse.{digits_value}
 use Rattle.hex.specs.Hex.{decode_of}
@@ -26,6 +27,7 @@ pub data Statement : Type 0 where
   NonceIs : (nonce : List ℕ) → Statement
   OperationIs : (id : ℕ) → Statement
   StepsAre : (steps : ℕ) → Statement
+  CallsAre : (calls : ℕ) → Statement
   InputIs : (value : ℤ) → Statement
   WriteIs : (made : Write) → Statement
 
@@ -35,6 +37,7 @@ SaysStatement words (KeyIs key) = (digits : TextWord) × (words ≡ codes "key" 
 SaysStatement words (NonceIs nonce) = (digits : TextWord) × (words ≡ codes "nonce" ∷ digits ∷ []) × (decode_of digits ≡ Ok nonce) × (length nonce ≡ 16)
 SaysStatement words (OperationIs id) = (digits : TextWord) × (words ≡ codes "operation" ∷ digits ∷ []) × (numeral_of digits ≡ Some id)
 SaysStatement words (StepsAre steps) = (digits : TextWord) × (words ≡ codes "steps" ∷ digits ∷ []) × (numeral_of digits ≡ Some steps)
+SaysStatement words (CallsAre calls) = (digits : TextWord) × (words ≡ codes "calls" ∷ digits ∷ []) × (numeral_of digits ≡ Some calls)
 SaysStatement words (InputIs value) = (digits : TextWord) × (words ≡ codes "input" ∷ digits ∷ []) × (integer_of digits ≡ Some value) × IsTrue (is_i64 value)
 SaysStatement words (WriteIs write) =
     (number : TextWord) × (place : TextWord) × (digits : TextWord) × (words ≡ codes "write" ∷ number ∷ place ∷ digits ∷ [])
@@ -62,6 +65,10 @@ abbrev pub steps_in : Statement → Option ℕ
 steps_in (StepsAre steps) = Some steps
 steps_in _ = None
 
+abbrev pub calls_in : Statement → Option ℕ
+calls_in (CallsAre calls) = Some calls
+calls_in _ = None
+
 abbrev pub input_in : Statement → Option ℤ
 input_in (InputIs value) = Some value
 input_in _ = None
@@ -74,7 +81,7 @@ abbrev pub header : List TextWord
 header = codes "oat-case" ∷ codes "1" ∷ []
 
 -- The text stands for the case: behind its header the text says just one key, nonce, operation and number of steps,
--- and the inputs and writes in their order.
+-- at most one number of calls, and the inputs and writes in their order.
 pub record IsCaseText (text : List ℕ) (case : Case) : Type 0 where
   pub lines : List (List TextWord)
   pub statements : List Statement
@@ -84,6 +91,7 @@ pub record IsCaseText (text : List ℕ) (case : Case) : Type 0 where
   pub nonce : filter_map nonce_in statements ≡ case.session.nonce ∷ []
   pub operation : filter_map operation_in statements ≡ case.session.op ∷ []
   pub steps : filter_map steps_in statements ≡ case.steps ∷ []
+  pub calls : filter_map calls_in statements ≡ option_to_list case.session.calls
   pub inputs : filter_map input_in statements ≡ case.inputs
   pub writes : filter_map write_in statements ≡ case.writes
   pub limits : IsWellFormedCase case

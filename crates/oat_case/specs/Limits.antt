@@ -1,6 +1,7 @@
 -- The limits of a case, as docs/FORMATS.md has them under "Case text": what its numbers, lengths and writes may be.
-use Rattle.std.specs.Prelude.{◌&&◌, ℕ, Bool, true, IsTrue, List, [], ◌∷◌, length, nat_le, nat_lt}
+use Rattle.std.specs.Prelude.{◌&&◌, ℕ, Bool, true, IsTrue, IfSome, List, [], ◌∷◌, length, nat_le, nat_lt}
 use Rattle.std.specs.List.{AllByRecursion}
+use Rattle.std.specs.Option.{option_map_or}
 use Rattle.oat_lines.specs.Reading.{between}
 use Rattle.oat_mem.specs.DataMemory.{fits}
 use Rattle.oat_case.specs.declared.case.Write.{Write}
@@ -14,6 +15,10 @@ operation_fits id = between 1 65535 id
 
 abbrev pub steps_fit : ℕ → Bool
 steps_fit steps = between 1 4194304 steps
+
+-- how many calls of the operation are measured
+abbrev pub calls_fit : ℕ → Bool
+calls_fit calls = between 1 1024 calls
 
 abbrev pub write_fits : Write → Bool
 write_fits write = nat_lt write.before 4194304 && between 1 4096 (length write.bytes)
@@ -38,9 +43,11 @@ pub record IsWellFormedCase (case : Case) : Type 0 where
   pub key : IsTrue (key_fits case.session.key)
   pub operation : IsTrue (operation_fits case.session.op)
   pub steps : IsTrue (steps_fit case.steps)
+  pub calls : IfSome case.session.calls (λ calls. IsTrue (calls_fit calls))
   pub writes : AllByRecursion IsInLimits case.writes
   pub order : RisesFrom 0 case.writes
 
 -- the same as one test
 abbrev pub case_fits : Case → Bool
-case_fits case = key_fits case.session.key && operation_fits case.session.op && steps_fit case.steps && writes_fit 0 case.writes
+case_fits case =
+    key_fits case.session.key && operation_fits case.session.op && option_map_or calls_fit case.session.calls true && steps_fit case.steps && writes_fit 0 case.writes

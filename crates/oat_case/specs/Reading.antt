@@ -1,6 +1,6 @@
 -- Which case a text stands for, or else the fault of its first bad line (docs/FORMATS.md). A line is read with what the lines above it
 -- have gathered; its faults are tested in the order Token, Twice, Range, OutsideData, Order.
-use Rattle.std.specs.Prelude.{◌≡◌, ◌+◌, ◌==◌, ◌&&◌, ℕ, ℤ, Bool, true, false, List, [], ◌∷◌, ◌++◌, length, nat_le, codes, Option, Some, None, is_none, option_map, Result, Ok, Err, if◌then◌else◌}
+use Rattle.std.specs.Prelude.{◌+◌, ◌==◌, ◌&&◌, ℕ, ℤ, Bool, true, false, List, [], ◌∷◌, ◌++◌, length, nat_le, codes, Option, Some, None, is_none, option_map, Result, Ok, Err, if◌then◌else◌}
 use Rattle.std.specs.Option.{ok_or}
 use Rattle.std.specs.Str.{bytes_eq}
 use Rattle.hex.specs.Hex.{decode_of}
@@ -14,7 +14,7 @@ use Rattle.oat_lines.specs.Decimal.{numeral_of, capped}
 use Rattle.oat_lines.specs.Integer.{read_as_integer}
 use Rattle.oat_lines.specs.Reading.{◌>>=◌, guard}
 use Rattle.oat_mem.specs.DataMemory.{fits}
-use Rattle.oat_case.specs.Limits.{key_fits, operation_fits, steps_fit, write_fits}
+use Rattle.oat_case.specs.Limits.{key_fits, operation_fits, steps_fit, calls_fit, write_fits}
 use Rattle.oat_case.specs.Grammar.{address_numeral}
 use Rattle.oat_case.specs.declared.case.Session.{Session}
 use Rattle.oat_case.specs.declared.case.Write.{Write}
@@ -29,13 +29,14 @@ pub record Gathered : Type 0 where
   pub nonce : Option (List ℕ)
   pub operation : Option ℕ
   pub steps : Option ℕ
+  pub calls : Option ℕ
   pub inputs : List ℤ
   pub writes : List Write
   -- the number below which no further write may be
   pub least : ℕ
 
 abbrev pub nothing_yet : Gathered
-nothing_yet = record { begun = false; key = None; nonce = None; operation = None; steps = None; inputs = []; writes = []; least = 0 }
+nothing_yet = record { begun = false; key = None; nonce = None; operation = None; steps = None; calls = None; inputs = []; writes = []; least = 0 }
 
 -- the bytes of a word of hexadecimal digits
 abbrev pub or_token : {X : Type 0} → ℕ → Result X FromHexError → Result X (Fault CaseFaultKind)
@@ -90,6 +91,14 @@ steps_line n g words = do
   fits ← guard (steps_fit steps) (At n Range)
   Ok (record g { steps = Some steps })
 
+unfoldable pub calls_line : ℕ → Gathered → List TextWord → Result Gathered (Fault CaseFaultKind)
+calls_line n g words = do
+  word ← ok_or (sole words) (At n Token)
+  calls ← numeral_at n word
+  once ← guard (is_none g.calls) (At n Twice)
+  fits ← guard (calls_fit calls) (At n Range)
+  Ok (record g { calls = Some calls })
+
 unfoldable pub input_line : ℕ → Gathered → List TextWord → Result Gathered (Fault CaseFaultKind)
 input_line n g words = do
   word ← ok_or (sole words) (At n Token)
@@ -125,6 +134,7 @@ statement_line n g keyword words =
     else if bytes_eq keyword (codes "nonce") then nonce_line n g words
     else if bytes_eq keyword (codes "operation") then operation_line n g words
     else if bytes_eq keyword (codes "steps") then steps_line n g words
+    else if bytes_eq keyword (codes "calls") then calls_line n g words
     else if bytes_eq keyword (codes "input") then input_line n g words
     else if bytes_eq keyword (codes "write") then write_line n g words
     else Err (At n Token)
@@ -143,18 +153,18 @@ line_of n g (first ∷ words) =
     else if g.begun then statement_line n g first words
     else header_line n g first words
 
-abbrev pub session_of : ℕ → Option (List ℕ) → Option (List ℕ) → Option ℕ → Result Session (Fault CaseFaultKind)
-session_of n key nonce operation = do
+abbrev pub session_of : ℕ → Option (List ℕ) → Option (List ℕ) → Option ℕ → Option ℕ → Result Session (Fault CaseFaultKind)
+session_of n key nonce operation calls = do
   key ← ok_or key (At n Missing)
   nonce ← ok_or nonce (At n Missing)
   op ← ok_or operation (At n Missing)
-  Ok (record { key = key; nonce = nonce; op = op })
+  Ok (record { key = key; nonce = nonce; op = op; calls = calls })
 
 -- the case, if nothing is wanting
 unfoldable pub whole : ℕ → Gathered → Result Case (Fault CaseFaultKind)
 whole n g = do
   begun ← guard g.begun (At n Missing)
-  session ← session_of n g.key g.nonce g.operation
+  session ← session_of n g.key g.nonce g.operation g.calls
   steps ← ok_or g.steps (At n Missing)
   Ok (record { session = session; steps = steps; inputs = g.inputs; writes = g.writes })
 

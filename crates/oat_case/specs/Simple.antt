@@ -1,5 +1,5 @@
 -- A case text that says no more than it must, and the case that it stands for: the worked case of docs/FORMATS.md.
-use Rattle.std.specs.Prelude.{ℕ, List, [], ◌∷◌, codes, replicate}
+use Rattle.std.specs.Prelude.{ℕ, List, [], ◌∷◌, None, codes, replicate}
 use Rattle.std.specs.List.{flat_map}
 use Rattle.oat_lines.specs.Fields.{ended}
 use Rattle.oat_case.specs.declared.case.Case.{Case}
@@ -10,7 +10,7 @@ simple_text =
 
 abbrev pub simple_case : Case
 simple_case = record {
-  session = record { key = replicate 20 11; nonce = 0 ∷ 1 ∷ 2 ∷ 3 ∷ 4 ∷ 5 ∷ 6 ∷ 7 ∷ 8 ∷ 9 ∷ 10 ∷ 11 ∷ 12 ∷ 13 ∷ 14 ∷ 15 ∷ []; op = 1 };
+  session = record { key = replicate 20 11; nonce = 0 ∷ 1 ∷ 2 ∷ 3 ∷ 4 ∷ 5 ∷ 6 ∷ 7 ∷ 8 ∷ 9 ∷ 10 ∷ 11 ∷ 12 ∷ 13 ∷ 14 ∷ 15 ∷ []; op = 1; calls = None };
   steps = 100000;
   inputs = [];
   writes = [];

@@ -1,6 +1,8 @@
 ghost use Rattle.std.specs.Prelude.{◌≡◌, ◌↔◌, IsTrue};
 
-use crate::limits::{are_writes_in_limits, is_key_in_range, is_operation, is_step_limit};
+use crate::limits::{
+    are_writes_in_limits, is_key_in_range, is_operation, is_step_limit, may_be_calls,
+};
 use oat_list::Listed;
 
 /// The bytes of a data write, or of a blob.
@@ -16,6 +18,9 @@ pub struct Session {
     pub nonce: [u8; 16],
     /// The operation to be measured.
     pub op: u16,
+    /// How many of its calls are measured, one window each, with a serial number in each blob. None
+    /// is one window without a number.
+    pub calls: Option<u32>,
 }
 
 /// A write into data memory from outside the program.
@@ -46,6 +51,7 @@ impl Case {
     {
         is_key_in_range(self.session.key.as_slice())
             && is_operation(u64::from(self.session.op))
+            && may_be_calls(self.session.calls)
             && is_step_limit(self.steps)
             && are_writes_in_limits(self.writes.as_slice())
     }

@@ -2,12 +2,13 @@ ghost use Rattle.std.specs.Prelude.{◌≡◌, ◌==◌, [], length, option_map,
 ghost use Rattle.oat_lines.specs.Faults.{Gives};
 ghost use Rattle.std.specs.Str.{bytes_eq};
 ghost use Rattle.oat_lines.specs.Lines.{words_of, is_comment};
-ghost use Rattle.oat_case.specs.Reading.{bytes_at, numeral_at, key_line, nonce_line, operation_line, steps_line, input_line, write_of, add_write, write_line, statement_line, header_line, line_of, session_of, whole, nothing_yet};
+ghost use Rattle.oat_case.specs.Reading.{bytes_at, numeral_at, key_line, nonce_line, operation_line, steps_line, calls_line, input_line, write_of, add_write, write_line, statement_line, header_line, line_of, session_of, whole, nothing_yet};
 
 use crate::case::{Case, Key, Session, Write};
 use crate::fault::{CaseFault, CaseFaultKind};
 use crate::limits::{
-    is_key_in_range, is_operation, is_step_limit, is_write_in_data, is_write_in_range,
+    is_call_count, is_key_in_range, is_operation, is_step_limit, is_write_in_data,
+    is_write_in_range,
 };
 use crate::number::{address, integer};
 use hex::FromHexError;
@@ -23,6 +24,7 @@ pub struct Draft {
     pub nonce: Option<[u8; 16]>,
     pub operation: Option<u16>,
     pub steps: Option<u64>,
+    pub calls: Option<u32>,
     pub inputs: Vec<i64>,
     pub writes: Vec<Write>,
     /// The number below which no further write may be.
@@ -94,13 +96,19 @@ fn session_from(
     key: Option<Key>,
     nonce: Option<[u8; 16]>,
     operation: Option<u16>,
+    calls: Option<u32>,
 ) -> Result<Session, CaseFault>
-    ensures { result ≡ session_of line key nonce operation }
+    ensures { result ≡ session_of line key nonce operation calls }
 {
     let key = key.ok_or(CaseFault::At(line, CaseFaultKind::Missing))?;
     let nonce = nonce.ok_or(CaseFault::At(line, CaseFaultKind::Missing))?;
     let op = operation.ok_or(CaseFault::At(line, CaseFaultKind::Missing))?;
-    Ok(Session { key, nonce, op })
+    Ok(Session {
+        key,
+        nonce,
+        op,
+        calls,
+    })
 }
 
 impl Draft {
@@ -168,6 +176,22 @@ impl Draft {
         Ok(())
     }
 
+    #[tactic(auto, unfolding(crate::specs::Reading::calls_line))]
+    pub fn take_calls(&mut self, line: u32, words: &[u8]) -> Result<(), CaseFault>
+        ensures { Gives (λ _. gathered self.new) result (calls_line line (gathered self.old) (words_of words.now)) }
+    {
+        let word = sole_word(words).ok_or(CaseFault::At(line, CaseFaultKind::Token))?;
+        let calls = number(line, word)?;
+        if self.calls.is_some() {
+            return Err(CaseFault::At(line, CaseFaultKind::Twice));
+        }
+        if !is_call_count(calls) {
+            return Err(CaseFault::At(line, CaseFaultKind::Range));
+        }
+        self.calls = Some(calls as u32);
+        Ok(())
+    }
+
     #[tactic(auto, unfolding(crate::specs::Reading::input_line))]
     pub fn take_input(&mut self, line: u32, words: &[u8]) -> Result<(), CaseFault>
         ensures { Gives (λ _. gathered self.new) result (input_line line (gathered self.old) (words_of words.now)) }
@@ -227,6 +251,8 @@ impl Draft {
             self.take_operation(line, words)
         } else if is_word(keyword, b"steps") {
             self.take_steps(line, words)
+        } else if is_word(keyword, b"calls") {
+            self.take_calls(line, words)
         } else if is_word(keyword, b"input") {
             self.take_input(line, words)
         } else if is_word(keyword, b"write") {
@@ -275,7 +301,7 @@ impl Draft {
         if !self.begun {
             return Err(CaseFault::At(line, CaseFaultKind::Missing));
         }
-        let session = session_from(line, self.key, self.nonce, self.operation)?;
+        let session = session_from(line, self.key, self.nonce, self.operation, self.calls)?;
         let steps = self
             .steps
             .ok_or(CaseFault::At(line, CaseFaultKind::Missing))?;
@@ -296,6 +322,7 @@ impl Draft {
             nonce: None,
             operation: None,
             steps: None,
+            calls: None,
             inputs: Vec::new(alloc),
             writes: Vec::new(alloc),
             least: 0,

@@ -1,6 +1,7 @@
-ghost use Rattle.std.specs.Prelude.{◌≡◌, length};
+ghost use Rattle.std.specs.Prelude.{◌≡◌, length, true};
+ghost use Rattle.std.specs.Option.{option_map_or};
 ghost use Rattle.oat_mem.specs.DataMemory.{fits};
-ghost use Rattle.oat_case.specs.Limits.{key_fits, operation_fits, steps_fit, write_fits, writes_fit};
+ghost use Rattle.oat_case.specs.Limits.{key_fits, operation_fits, steps_fit, calls_fit, write_fits, writes_fit};
 
 use crate::case::Write;
 use oat_mem::fits;
@@ -22,6 +23,21 @@ pub fn is_step_limit(steps: u64) -> bool
     ensures { result ≡ steps_fit steps }
 {
     1 <= steps && steps <= 4_194_304
+}
+
+pub fn is_call_count(calls: u64) -> bool
+    ensures { result ≡ calls_fit calls }
+{
+    1 <= calls && calls <= 1024
+}
+
+pub fn may_be_calls(calls: Option<u32>) -> bool
+    ensures { result ≡ option_map_or calls_fit calls true }
+{
+    match calls {
+        Some(calls) => is_call_count(u64::from(calls)),
+        None => true,
+    }
 }
 
 pub fn is_write_in_range(write: &Write) -> bool
