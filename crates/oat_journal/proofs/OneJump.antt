@@ -5,8 +5,11 @@ use Rattle.oat_a64.specs.declared.inst.Inst.TheVariants.{Movz, B, Svc}
 use Rattle.oat_a64.specs.Fetch.{inst_of}
 use Rattle.oat_a64.specs.Step.{instruction_at, act}
 use Rattle.oat_a64.proofs.FetchLemmas.{inst_from_word}
+use Rattle.sha2.specs.Sha256.{sha256}
+use Rattle.oat_blob.specs.Body.{Body}
+use Rattle.oat_chain.specs.Chain.{window_head}
 use Rattle.oat_image.specs.Worked.{one_jump}
-use Rattle.oat_measure.specs.Measurement.{measures}
+use Rattle.oat_measure.specs.Shelving.{measures}
 use Rattle.oat_journal.specs.declared.end.DeviceEnd.{DeviceEnd}
 use Rattle.oat_journal.specs.declared.end.DeviceEnd.TheVariants.{Halted}
 use Rattle.oat_journal.specs.Run.{Running, Entry, started, found, makes, turns, made_entry, from_entry, journal, journal_from, bare}
@@ -120,12 +123,20 @@ bare-at-five = turns-five 0 ∙ turns-none one_jump.code s5
 bare-at-six : bare one_jump [] [] 6 ≡ made_by s5 (Svc 0)
 bare-at-six = turns-five 1 ∙ turns-go one_jump.code 0 s5 (Svc 0) refl halt-is ∙ turns-none one_jump.code (made_by s5 (Svc 0))
 
+abbrev one_body : List ℕ → List ℕ → Body
+one_body nonce digest = record {
+  head = record { op = 1; nonce = nonce; digest = digest; hash = sha256 (window_head nonce 1 digest None); violation = None };
+  bits = [];
+  targets = [];
+}
+
 shows : (nonce digest : List ℕ) (n : ℕ) → journal one_jump [] [] n ≡ entries → ShowsOneJump (one_jump_opening nonce digest) (one_jump_run nonce digest n)
 unfolding measures
 shows nonce digest n is = record {
-  sealed = rw is refl;
-  hash = rw is refl;
-  violation = rw is refl;
+  body = one_body nonce digest;
+  sealed = rw is (rw is (rw is refl));
+  hash = refl;
+  violation = refl;
   path = rw is (rw is refl);
   returns = rw is (rw is refl);
   uses = rw is (rw is refl);

@@ -12,7 +12,7 @@ use Rattle.oat_image.specs.declared.image.Image.{Image}
 use Rattle.oat_measure.specs.declared.opening.Opening.{Opening}
 use Rattle.oat_measure.specs.Monitor.{monitor_call, call_numbered}
 use Rattle.oat_measure.specs.declared.call.MonitorCall.{MonitorCall}
-use Rattle.oat_measure.specs.Measurement.{State, Measured, booted, with_rest, measured, measures}
+use Rattle.oat_measure.specs.Shelving.{Measurements, Measured, at_start, with_rest, measured_on, measures}
 use Rattle.oat_measure.specs.declared.stop.StopKind.{StopKind}
 use Rattle.oat_journal.specs.declared.end.DeviceEnd.{DeviceEnd}
 use Rattle.oat_journal.specs.declared.end.DeviceEnd.TheVariants.{Stopped}
@@ -122,36 +122,36 @@ no-entries code writes (suc n) s none = ap (λ (e : Option Entry). from_entry e 
 -- ---- the whole run
 
 abbrev until : List ℕ → List Write → ℕ → Running → Measured → Option StopKind → Progress
-until code writes n s m None = record { running = turns code writes n s; state = m.state }
-until code writes n s m (Some stop) = record { running = record (turns code writes m.taken s) { end = Some (Stopped stop) }; state = m.state }
+until code writes n s m None = record { running = turns code writes n s; measurements = m.measurements }
+until code writes n s m (Some stop) = record { running = record (turns code writes m.taken s) { end = Some (Stopped stop) }; measurements = m.measurements }
 
-abbrev run_from : List ℕ → List Write → Opening → ℕ → Running → State → Measured
+abbrev run_from : List ℕ → List Write → Opening → ℕ → Running → Measurements → Measured
 run_from code writes o n s st = measures o st (map made_call (journal_from code writes n s))
 
-abbrev Same : List ℕ → List Write → Opening → ℕ → Running → State → Type 0
+abbrev Same : List ℕ → List Write → Opening → ℕ → Running → Measurements → Type 0
 Same code writes o n s st =
-    after_turns code writes o n (record { running = s; state = st }) ≡ until code writes n s (run_from code writes o n s st) (run_from code writes o n s st).stop
+    after_turns code writes o n (record { running = s; measurements = st }) ≡ until code writes n s (run_from code writes o n s st) (run_from code writes o n s st).stop
 
-abbrev advanced : List ℕ → List Write → Running → State → Result State StopKind → Progress
-advanced code writes s st r = record { running = stopped_by (stop_of r) (turn code writes s); state = kept st r }
+abbrev advanced : List ℕ → List Write → Running → Measurements → Result Measurements StopKind → Progress
+advanced code writes s st r = record { running = stopped_by (stop_of r) (turn code writes s); measurements = kept st r }
 
-next-is : (code : List ℕ) (writes : List Write) (o : Opening) (n : ℕ) (s : Running) (st : State) (call : Option MonitorCall) → s.end ≡ None
+next-is : (code : List ℕ) (writes : List Write) (o : Opening) (n : ℕ) (s : Running) (st : Measurements) (call : Option MonitorCall) → s.end ≡ None
     → call_told (step code (found writes s)).event s.machine.regs ≡ call
-    → after_turns code writes o (suc n) (record { running = s; state = st }) ≡ after_turns code writes o n (advanced code writes s st (measured o st call))
+    → after_turns code writes o (suc n) (record { running = s; measurements = st }) ≡ after_turns code writes o n (advanced code writes s st (measured_on o st call))
 unfolding after_turns
 next-is code writes o n s st call going is =
-    ap (λ (e : Option DeviceEnd). after_turns code writes o n (going_on e (record { running = s; state = st }) (measured_turn code writes o (record { running = s; state = st })))) going
-    ∙ ap (λ (c : Option MonitorCall). after_turns code writes o n (advanced code writes s st (measured o st c))) is
+    ap (λ (e : Option DeviceEnd). after_turns code writes o n (going_on e (record { running = s; measurements = st }) (measured_turn code writes o (record { running = s; measurements = st })))) going
+    ∙ ap (λ (c : Option MonitorCall). after_turns code writes o n (advanced code writes s st (measured_on o st c))) is
 
-same-at : (code : List ℕ) (writes : List Write) (o : Opening) (n : ℕ) (s : Running) (st : State) (last : Running) (js : List Entry) → js ≡ [] → turns code writes n s ≡ last
-    → until code writes n s (measures o st (map made_call js)) (measures o st (map made_call js)).stop ≡ record { running = last; state = st }
+same-at : (code : List ℕ) (writes : List Write) (o : Opening) (n : ℕ) (s : Running) (st : Measurements) (last : Running) (js : List Entry) → js ≡ [] → turns code writes n s ≡ last
+    → until code writes n s (measures o st (map made_call js)) (measures o st (map made_call js)).stop ≡ record { running = last; measurements = st }
 unfolding measures
 same-at code writes o n s st last js none stay =
     ap (λ (x : List Entry). until code writes n s (measures o st (map made_call x)) (measures o st (map made_call x)).stop) none
-    ∙ ap (λ (x : Running). record { running = x; state = st }) stay
+    ∙ ap (λ (x : Running). record { running = x; measurements = st }) stay
 
-same-none : (code : List ℕ) (writes : List Write) (o : Opening) (n : ℕ) (s : Running) (st : State) → (js : List Entry) → js ≡ [] → turns code writes n s ≡ s
-    → until code writes n s (measures o st (map made_call js)) (measures o st (map made_call js)).stop ≡ record { running = s; state = st }
+same-none : (code : List ℕ) (writes : List Write) (o : Opening) (n : ℕ) (s : Running) (st : Measurements) → (js : List Entry) → js ≡ [] → turns code writes n s ≡ s
+    → until code writes n s (measures o st (map made_call js)) (measures o st (map made_call js)).stop ≡ record { running = s; measurements = st }
 same-none code writes o n s st js none stay = same-at code writes o n s st s js none stay
 
 add-one-is : (k : ℕ) → k + 1 ≡ suc k
@@ -162,16 +162,16 @@ until-next : (code : List ℕ) (writes : List Write) (n : ℕ) (s : Running) (m 
 unfolding turns
 until-next code writes n s m None = refl
 until-next code writes n s m (Some stop) =
-    ap (λ (k : ℕ). record { running = record (turns code writes k s) { end = Some (Stopped stop) }; state = m.state }) (add-one-is m.taken)
+    ap (λ (k : ℕ). record { running = record (turns code writes k s) { end = Some (Stopped stop) }; measurements = m.measurements }) (add-one-is m.taken)
 
-same-step : (code : List ℕ) (writes : List Write) (o : Opening) (n : ℕ) (s : Running) (st : State) (calls : List (Option MonitorCall)) → (r : Result State StopKind)
-    → ((next : State) → after_turns code writes o n (record { running = turn code writes s; state = next }) ≡ until code writes n (turn code writes s) (measures o next calls) (measures o next calls).stop)
-    → after_turns code writes o n (advanced code writes s st r) ≡ until code writes (suc n) s (with_rest st r (λ (next : State). measures o next calls)) (with_rest st r (λ (next : State). measures o next calls)).stop
+same-step : (code : List ℕ) (writes : List Write) (o : Opening) (n : ℕ) (s : Running) (st : Measurements) (calls : List (Option MonitorCall)) → (r : Result Measurements StopKind)
+    → ((next : Measurements) → after_turns code writes o n (record { running = turn code writes s; measurements = next }) ≡ until code writes n (turn code writes s) (measures o next calls) (measures o next calls).stop)
+    → after_turns code writes o n (advanced code writes s st r) ≡ until code writes (suc n) s (with_rest st r (λ (next : Measurements). measures o next calls)) (with_rest st r (λ (next : Measurements). measures o next calls)).stop
 unfolding turns
 same-step code writes o n s st calls (Ok next) rest =
     rest next ∙ sym (until-next code writes n s (measures o next calls) (measures o next calls).stop)
 same-step code writes o n s st calls (Err stop) rest =
-    progress-stays code writes o n (record { running = record (turn code writes s) { end = Some (Stopped stop) }; state = st }) (record { why = Stopped stop; is = refl })
+    progress-stays code writes o n (record { running = record (turn code writes s) { end = Some (Stopped stop) }; measurements = st }) (record { why = Stopped stop; is = refl })
 
 turns-next : (code : List ℕ) (writes : List Write) (n : ℕ) (s : Running) → turns code writes (suc n) s ≡ turns code writes n (turn code writes s)
 unfolding turns
@@ -181,43 +181,43 @@ journal-next : (code : List ℕ) (writes : List Write) (n : ℕ) (s : Running) (
 unfolding journal_from
 journal-next code writes n s e is = ap (λ (x : Option Entry). from_entry x (journal_from code writes n (turn code writes s))) is
 
-measures-next : (o : Opening) (st : State) (call : Option MonitorCall) (calls : List (Option MonitorCall)) → measures o st (call ∷ calls) ≡ with_rest st (measured o st call) (λ (next : State). measures o next calls)
+measures-next : (o : Opening) (st : Measurements) (call : Option MonitorCall) (calls : List (Option MonitorCall)) → measures o st (call ∷ calls) ≡ with_rest st (measured_on o st call) (λ (next : Measurements). measures o next calls)
 unfolding measures
 measures-next o st call calls = refl
 
-same-ended : (code : List ℕ) (writes : List Write) (o : Opening) (n : ℕ) (s : Running) (st : State) → Ends s → entry code writes s ≡ None → Same code writes o n s st
+same-ended : (code : List ℕ) (writes : List Write) (o : Opening) (n : ℕ) (s : Running) (st : Measurements) → Ends s → entry code writes s ≡ None → Same code writes o n s st
 same-ended code writes o n s st ends none =
-    progress-stays code writes o n (record { running = s; state = st }) ends
+    progress-stays code writes o n (record { running = s; measurements = st }) ends
     ∙ sym (same-none code writes o n s st (journal_from code writes n s) (no-entries code writes n s none) (turns-stay code writes n s ends))
 
-same-last : (code : List ℕ) (writes : List Write) (o : Opening) (n : ℕ) (s : Running) (st : State) → s.end ≡ None → Ends (turn code writes s) → entry code writes s ≡ None → Same code writes o (suc n) s st
+same-last : (code : List ℕ) (writes : List Write) (o : Opening) (n : ℕ) (s : Running) (st : Measurements) → s.end ≡ None → Ends (turn code writes s) → entry code writes s ≡ None → Same code writes o (suc n) s st
 same-last code writes o n s st going ends none =
     let told_end : (makes s (step code (found writes s))).end ≡ Some ends.why = sym (ap (λ (x : Running). x.end) (turn-going code writes s going)) ∙ ends.is in
     let quiet = ends-quietly s (step code (found writes s)).machine s.machine.regs (step code (found writes s)).event going ends.why told_end in
     let stay : turns code writes (suc n) s ≡ turn code writes s = turns-next code writes n s ∙ turns-stay code writes n (turn code writes s) ends in
     next-is code writes o n s st None going quiet
-    ∙ progress-stays code writes o n (record { running = turn code writes s; state = st }) ends
+    ∙ progress-stays code writes o n (record { running = turn code writes s; measurements = st }) ends
     ∙ sym (same-at code writes o (suc n) s st (turn code writes s) (journal_from code writes (suc n) s) (no-entries code writes (suc n) s none) stay)
 
-same-entry : (code : List ℕ) (writes : List Write) (o : Opening) (n : ℕ) (s : Running) (st : State) (e : Entry) → entry code writes s ≡ Some e
-    → ((next : State) → Same code writes o n (turn code writes s) next) → Same code writes o (suc n) s st
+same-entry : (code : List ℕ) (writes : List Write) (o : Opening) (n : ℕ) (s : Running) (st : Measurements) (e : Entry) → entry code writes s ≡ Some e
+    → ((next : Measurements) → Same code writes o n (turn code writes s) next) → Same code writes o (suc n) s st
 same-entry code writes o n s st e is rest =
     let w = entry-is code writes s e is in
     let calls = map made_call (journal_from code writes n (turn code writes s)) in
-    let m : run_from code writes o (suc n) s st ≡ with_rest st (measured o st (made_call e)) (λ (next : State). measures o next calls) =
+    let m : run_from code writes o (suc n) s st ≡ with_rest st (measured_on o st (made_call e)) (λ (next : Measurements). measures o next calls) =
     ap (λ (js : List Entry). measures o st (map made_call js)) (journal-next code writes n s e is) ∙ measures-next o st (made_call e) calls in
     next-is code writes o n s st (made_call e) w.going (call-of-entry code writes s e w)
-    ∙ same-step code writes o n s st calls (measured o st (made_call e)) rest
+    ∙ same-step code writes o n s st calls (measured_on o st (made_call e)) rest
     ∙ sym (ap (λ (x : Measured). until code writes (suc n) s x x.stop) m)
 
-same-by : (code : List ℕ) (writes : List Write) (o : Opening) (n : ℕ) (s : Running) (st : State) → ((next : State) → Same code writes o n (turn code writes s) next)
+same-by : (code : List ℕ) (writes : List Write) (o : Opening) (n : ℕ) (s : Running) (st : Measurements) → ((next : Measurements) → Same code writes o n (turn code writes s) next)
     → (end : Option DeviceEnd) (x : Option Entry) → s.end ≡ end → entry code writes s ≡ x → Same code writes o (suc n) s st
 same-by code writes o n s st rest end (Some e) was is = same-entry code writes o n s st e is rest
 same-by code writes o n s st rest (Some why) None was is = same-ended code writes o (suc n) s st (record { why = why; is = was }) is
 same-by code writes o n s st rest None None was is =
     same-last code writes o n s st was (no-entry code writes s was (instruction_at code s.machine.regs.pc) (turn code writes s).end refl refl is) is
 
-same : (code : List ℕ) (writes : List Write) (o : Opening) (n : ℕ) (s : Running) (st : State) → Same code writes o n s st
+same : (code : List ℕ) (writes : List Write) (o : Opening) (n : ℕ) (s : Running) (st : Measurements) → Same code writes o n s st
 unfolding after_turns journal_from measures turns
 same code writes o zero s st = refl
 same code writes o (suc n) s st = same-by code writes o n s st (λ next. same code writes o n (turn code writes s) next) s.end (entry code writes s) refl refl
@@ -229,5 +229,5 @@ as-run image inputs writes n m (Some stop) = refl
 
 pub turns_are_the_run : TurnsAreTheRun
 turns_are_the_run image o inputs writes n =
-    let m = run_from image.code writes o n (started image inputs) (booted (start_cells image)) in
-    same image.code writes o n (started image inputs) (booted (start_cells image)) ∙ as-run image inputs writes n m m.stop
+    let m = run_from image.code writes o n (started image inputs) (at_start o (start_cells image)) in
+    same image.code writes o n (started image inputs) (at_start o (start_cells image)) ∙ as-run image inputs writes n m m.stop

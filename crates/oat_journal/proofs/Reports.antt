@@ -1,91 +1,107 @@
--- What a sealed run reports, by the calls of its journal.
-use Rattle.std.proofs.Common.{◌≡◌, ℕ, suc, ℤ, Bool, true, false, cond, List, [], ◌∷◌, map, Option, Some, None, Result, Ok, Err, refl, sym, ap, ◌∙◌, arith, eq-eqb}
-use Rattle.std.specs.List.{All}
+-- What the bodies of a run report, and that their windows are traces.
+use Rattle.std.proofs.Common.{◌≡◌, ◌+◌, ◌≤◌, ℕ, zero, suc, ℤ, Bool, true, false, cond, not, eqb, IsTrue, List, [], ◌∷◌, ◌++◌, length, map, take, filter_map, slice_get, Option, Some, None, Result, Ok, Err, refl, sym, ap, subst, ◌∙◌, arith, add-one, eqb-true, eq-eqb}
+use Rattle.std.proofs.lemmas.List.{take-map}
+use Rattle.std.specs.List.{All, cons_option}
+use Rattle.oat_a64.specs.declared.inst.Inst.{Inst}
+use Rattle.oat_a64.specs.declared.inst.Inst.TheVariants.{Svc}
+use Rattle.oat_a64.specs.Step.{Regs, act, next_pc}
+use Rattle.oat_blob.specs.Body.{Body}
 use Rattle.oat_case.specs.declared.case.Write.{Write}
 use Rattle.oat_image.specs.declared.image.Image.{Image}
 use Rattle.oat_measure.specs.declared.opening.Opening.{Opening}
-use Rattle.oat_measure.specs.Monitor.{opens, seals}
+use Rattle.oat_measure.specs.Monitor.{monitor_call}
 use Rattle.oat_measure.specs.declared.call.MonitorCall.{MonitorCall}
-use Rattle.oat_measure.specs.Measurement.{State, sealed, Measured, booted, after_window, with_rest, measured, measures}
+use Rattle.oat_measure.specs.declared.call.MonitorCall.TheVariants as svc
 use Rattle.oat_measure.specs.declared.stop.StopKind.{StopKind}
-use Rattle.oat_events.specs.Cells.{Cells}
-use Rattle.oat_journal.specs.Run.{journal}
-use Rattle.oat_events.specs.Windows.{beyond, through}
-use Rattle.oat_journal.specs.Window.{made_call, is_made, opens_window, seals_window, up_to_window, window}
-use Rattle.oat_journal.specs.Uses.{CheckedUse, IsSound, uses_behind}
-use Rattle.oat_journal.specs.Measured.{run_until, start_cells, IsSealed, uses_of, dev, first_unsound, NoViolationMeansSound, RunsReportExactly}
-use Rattle.oat_journal.specs.Violations.{same, uses_among}
-use Rattle.oat_journal.proofs.Sealing.{sound-uses, staged, violations_are_exact}
+use Rattle.oat_measure.specs.Shelving.{Measurements, Measured, at_start, measured_on, measures, serial_of, with_rest}
+use Rattle.oat_journal.specs.Run.{Running, Entry, AreGiven, entry, from_entry, journal, journal_from, next_of, started, turn}
+use Rattle.oat_journal.specs.Journal.{takes_input, IsMade}
+use Rattle.oat_journal.specs.Window.{made_call, recorded_bit, recorded_target, window}
+use Rattle.oat_journal.specs.Uses.{CheckedUse, IsSound}
+use Rattle.oat_journal.specs.Measured.{BodiesTellWindows, HasBody, NoViolationMeansSound, Run, dev, first_unsound, run_until, start_cells, uses_of, window_of}
+use Rattle.oat_journal.specs.Trace.{IsTrace, WindowsAreTraces}
+use Rattle.oat_journal.specs.TurnLaws.{RecordsAreFew}
+use Rattle.oat_journal.proofs.Bounds.{journal_is_bounded}
+use Rattle.oat_journal.proofs.Linkage.{journal_is_made, journal_is_linked}
+use Rattle.oat_journal.proofs.Lengths.{taken_few, windows_are_short}
+use Rattle.oat_journal.proofs.Sealing.{held-first, sound-uses}
+use Rattle.oat_journal.proofs.Shelves.{session}
+use Rattle.oat_journal.proofs.Windows.{Placed, Told, told}
 
--- ---- windows of entries and of their calls
+-- ---- the calls up to a stop come to the same
 
-cond-map : {X Y : Type 0} (f : X → Y) (t : Bool) (xs ys : List X) → map f (cond t xs ys) ≡ cond t (map f xs) (map f ys)
-cond-map f true xs ys = refl
-cond-map f false xs ys = refl
+one-more : (k : ℕ) → k + 1 ≡ suc k
+one-more k = omega arith
 
-ahead-map : {X : Type 0} (call : X → Option MonitorCall) (op at : ℕ) (xs : List X) → map call (up_to_window call op at xs) ≡ up_to_window same op at (map call xs)
-ahead-map call op at [] = refl
-ahead-map call op at (x ∷ xs) =
-    cond-map call (is_made (opens op at) (call x)) (x ∷ []) (x ∷ up_to_window call op at xs)
-    ∙ ap (λ (rest : List (Option MonitorCall)). cond (is_made (opens op at) (call x)) (call x ∷ []) (call x ∷ rest)) (ahead-map call op at xs)
-
-behind-map : {X : Type 0} (call : X → Option MonitorCall) (op at : ℕ) (xs : List X) → map call (beyond (opens_window call op at) xs) ≡ beyond (opens_window same op at) (map call xs)
-behind-map call op at [] = refl
-behind-map call op at (x ∷ xs) =
-    cond-map call (is_made (opens op at) (call x)) xs (beyond (opens_window call op at) xs)
-    ∙ ap (λ (rest : List (Option MonitorCall)). cond (is_made (opens op at) (call x)) (map call xs) rest) (behind-map call op at xs)
-
-through-map : {X : Type 0} (call : X → Option MonitorCall) (op : ℕ) (xs : List X) → map call (through (seals_window call op) xs) ≡ through (seals_window same op) (map call xs)
-through-map call op [] = refl
-through-map call op (x ∷ xs) =
-    cond-map call (is_made (seals op) (call x)) (x ∷ []) (x ∷ through (seals_window call op) xs)
-    ∙ ap (λ (rest : List (Option MonitorCall)). cond (is_made (seals op) (call x)) (call x ∷ []) (call x ∷ rest)) (through-map call op xs)
-
-pub window-map : {X : Type 0} (call : X → Option MonitorCall) (op at : ℕ) (xs : List X) → map call (window call op at xs) ≡ window same op at (map call xs)
-window-map call op at xs =
-    through-map call op (beyond (opens_window call op at) xs) ∙ ap (through (seals_window same op)) (behind-map call op at xs)
-
-pub uses-map : {X : Type 0} (call : X → Option MonitorCall) (words : Cells) (o : Opening) (xs : List X)
-    → uses_behind words (map call (up_to_window call o.op o.begin_at xs)) (map call (window call o.op o.begin_at xs)) ≡ uses_among o words (map call xs)
-uses-map call words o xs =
-    ap (λ (front : List (Option MonitorCall)). uses_behind words front (map call (window call o.op o.begin_at xs))) (ahead-map call o.op o.begin_at xs)
-    ∙ ap (uses_behind words (up_to_window same o.op o.begin_at (map call xs))) (window-map call o.op o.begin_at xs)
-
--- ---- where the monitor stops a run, it isn't sealed
-
-abbrev NeverSealed : Measured → Type 0
-NeverSealed m = (stop : StopKind) → m.stop ≡ Some stop → m.state.stage ≡ sealed → ⊥
-
-never-at : (o : Opening) (s : State) (call : Option MonitorCall) (stop : StopKind) → measured o s call ≡ Err stop → s.stage ≡ sealed → ⊥
-never-at o s None stop h is = cc
-never-at o s (Some call) stop h is = let q : measured o s (Some call) ≡ Ok (after_window s call) = staged o s call sealed is in cc
-
-never-from : (o : Opening) (s : State) (call : Option MonitorCall) (calls : List (Option MonitorCall)) → ((next : State) → NeverSealed (measures o next calls))
-    → (r : Result State StopKind) → measured o s call ≡ r → NeverSealed (with_rest s r (λ (next : State). measures o next calls))
-never-from o s call calls rest (Ok next) was stop h is = rest next stop h is
-never-from o s call calls rest (Err first) was stop h is = never-at o s call first was is
-
-pub never-sealed : (o : Opening) (s : State) (calls : List (Option MonitorCall)) → NeverSealed (measures o s calls)
+up-to-stop : (o : Opening) (m : Measurements) (call : Option MonitorCall) (calls : List (Option MonitorCall))
+    → ((next : Measurements) (stop : StopKind) → (measures o next calls).stop ≡ Some stop → session o next (take (measures o next calls).taken calls) ≡ (measures o next calls).measurements)
+    → (r : Result Measurements StopKind) → measured_on o m call ≡ r → (stop : StopKind) → (with_rest m r (λ (next : Measurements). measures o next calls)).stop ≡ Some stop
+    → session o m (take (with_rest m r (λ (next : Measurements). measures o next calls)).taken (call ∷ calls)) ≡ (with_rest m r (λ (next : Measurements). measures o next calls)).measurements
 unfolding measures
-never-sealed o s [] stop h is = cc
-never-sealed o s (call ∷ calls) stop h is =
-    never-from o s call calls (λ next. never-sealed o next calls) (measured o s call) refl stop h is
+up-to-stop o m call calls rest (Err first) was stop h =
+    ap (λ (r : Result Measurements StopKind). (with_rest m r (λ (n : Measurements). measures o n [])).measurements) was
+up-to-stop o m call calls rest (Ok next) was stop h =
+    let k = (measures o next calls).taken in
+    ap (λ (n : ℕ). session o m (take n (call ∷ calls))) (one-more k)
+    ∙ (ap (λ (r : Result Measurements StopKind). (with_rest m r (λ (n : Measurements). measures o n (take k calls))).measurements) was ∙ rest next stop h)
 
--- ---- the runs
+stopped-front : (o : Opening) (calls : List (Option MonitorCall)) (m : Measurements) (stop : StopKind) → (measures o m calls).stop ≡ Some stop
+    → session o m (take (measures o m calls).taken calls) ≡ (measures o m calls).measurements
+unfolding measures
+stopped-front o [] m stop h = absurd (let q : None ≡ Some stop = h in cc)
+stopped-front o (call ∷ calls) m stop h = up-to-stop o m call calls (λ next later is. stopped-front o calls next later is) (measured_on o m call) refl stop h
 
-until-exact : (image : Image) (o : Opening) (inputs : List ℤ) (writes : List Write) (n : ℕ)
-    → let m = measures o (booted (start_cells image)) (map made_call (journal image inputs writes n)) in
-    (stop : Option StopKind) → m.stop ≡ stop → IsSealed (run_until image inputs writes n m stop)
-    → (run_until image inputs writes n m stop).state.violation ≡ first_unsound (uses_of image o (run_until image inputs writes n m stop))
-until-exact image o inputs writes n None was is =
-    violations_are_exact o (start_cells image) (map made_call (journal image inputs writes n)) is
-    ∙ sym (ap first_unsound (uses-map made_call (start_cells image) o (journal image inputs writes n)))
-until-exact image o inputs writes n (Some stop) was is =
-    absurd (never-sealed o (booted (start_cells image)) (map made_call (journal image inputs writes n)) stop was is)
+-- ---- a shorter journal is the front of a longer one
 
-pub runs_report_exactly : RunsReportExactly
-runs_report_exactly image o inputs writes n is =
-    until-exact image o inputs writes n (measures o (booted (start_cells image)) (map made_call (journal image inputs writes n))).stop refl is
+front-of : (code : List ℕ) (writes : List Write) (k n : ℕ) (s : Running) → k ≤ length (journal_from code writes n s) → journal_from code writes k s ≡ take k (journal_from code writes n s)
+unfolding journal_from
+front-of code writes zero n s few = refl
+front-of code writes (suc k) zero s few = absurd (omega arith)
+front-of code writes (suc k) (suc n) s few = by (entry code writes s) few (λ low. front-of code writes k n (turn code writes s) low) where
+  by : (e : Option Entry) → suc k ≤ length (from_entry e (journal_from code writes n (turn code writes s)))
+      → (k ≤ length (journal_from code writes n (turn code writes s)) → journal_from code writes k (turn code writes s) ≡ take k (journal_from code writes n (turn code writes s)))
+      → from_entry e (journal_from code writes k (turn code writes s)) ≡ take (suc k) (from_entry e (journal_from code writes n (turn code writes s)))
+  by None few rest = absurd (omega arith)
+  by (Some first) few rest = ap (λ (es : List Entry). first ∷ es) (rest (omega arith))
+
+-- ---- a run's measurements are those of its journal's calls
+
+record Ran (image : Image) (o : Opening) (inputs : List ℤ) (writes : List Write) (run : Run) : Type 0 where
+  length_of : ℕ
+  journal_is : run.journal ≡ journal image inputs writes length_of
+  measured_is : session o (at_start o (start_cells image)) (map made_call run.journal) ≡ run.measurements
+
+ran : (image : Image) (o : Opening) (inputs : List ℤ) (writes : List Write) (n : ℕ) → Ran image o inputs writes (dev image o inputs writes n)
+ran image o inputs writes n = by m.stop refl where
+  m : Measured
+  m = measures o (at_start o (start_cells image)) (map made_call (journal image inputs writes n))
+
+  by : (stop : Option StopKind) → m.stop ≡ stop → Ran image o inputs writes (run_until image inputs writes n m stop)
+  by None was = record { length_of = n; journal_is = refl; measured_is = refl }
+  by (Some stop) was = record {
+    length_of = m.taken;
+    journal_is = refl;
+    measured_is = ap (λ (js : List Entry). session o (at_start o (start_cells image)) (map made_call js))
+        (front-of image.code writes m.taken n (started image inputs) (taken_few o (journal image inputs writes n) (at_start o (start_cells image))))
+        ∙ (ap (session o (at_start o (start_cells image))) (sym (take-map made_call m.taken (journal image inputs writes n)))
+        ∙ stopped-front o (map made_call (journal image inputs writes n)) (at_start o (start_cells image)) stop was);
+  }
+
+-- ---- a body and its window
+
+told-of : (image : Image) (o : Opening) (inputs : List ℤ) (writes : List Write) (n s : ℕ) (body : Body) → HasBody o (dev image o inputs writes n) s body
+    → Told made_call o (start_cells image) [] (serial_of o s) s (dev image o inputs writes n).journal body
+told-of image o inputs writes n s body h =
+    let r = ran image o inputs writes n in
+    let none : 0 + s ≡ s = omega arith in
+    told s made_call o (start_cells image) [] (dev image o inputs writes n).journal [] (at_start o (start_cells image)).state body
+    (record { stage = refl; bits = refl; targets = refl }) refl (held-first (start_cells image))
+    (subst (λ (m : Measurements). Rattle.oat_measure.specs.Shelving.IsBodyAt o m (0 + s) body) (sym r.measured_is) (subst (λ (k : ℕ). HasBody o (dev image o inputs writes n) k body) (sym none) h))
+
+pub bodies_tell_windows : BodiesTellWindows
+bodies_tell_windows image o inputs writes n s body h =
+    let t = told-of image o inputs writes n s body h in
+    record { op = t.op; nonce = t.nonce; digest = t.digest; hash = t.hash; bits = t.bits; targets = t.targets; violation = t.violation }
 
 -- ---- what no violation means
 
@@ -97,7 +113,121 @@ none-unsound (use_ ∷ others) h =
     ∙ none-unsound others (λ k d lt. h (suc k) d (omega arith))
 
 pub no_violation_means_sound : NoViolationMeansSound
-no_violation_means_sound image o inputs writes n is = record {
-  sound = λ none. sound-uses (uses_of image o (dev image o inputs writes n)) (sym (runs_report_exactly image o inputs writes n is) ∙ none);
-  none = λ sound. runs_report_exactly image o inputs writes n is ∙ none-unsound (uses_of image o (dev image o inputs writes n)) sound;
-}
+no_violation_means_sound image o inputs writes n s body is =
+    let t = bodies_tell_windows image o inputs writes n s body is in
+    record {
+      sound = λ none. sound-uses (uses_of image o s (dev image o inputs writes n)) (sym t.violation ∙ none);
+      none = λ sound. t.violation ∙ none-unsound (uses_of image o s (dev image o inputs writes n)) sound;
+    }
+
+-- ---- where the window stands in the journal
+
+in-front : {A : Type 0} (xs ys : List A) (k : ℕ) (a : A) → slice_get xs k ≡ Some a → slice_get (xs ++ ys) k ≡ Some a
+in-front [] ys k a h = absurd (cc)
+in-front (x ∷ xs) ys zero a h = h
+in-front (x ∷ xs) ys (suc k) a h = in-front xs ys k a h
+
+behind-front : {A : Type 0} (xs ys : List A) (k : ℕ) (a : A) → slice_get ys k ≡ Some a → slice_get (xs ++ ys) (length xs + k) ≡ Some a
+behind-front [] ys k a h =
+    let n : k ≡ 0 + k = omega arith in subst (λ (i : ℕ). slice_get ys i ≡ Some a) n h
+behind-front (x ∷ xs) ys k a h =
+    let n : suc (length xs + k) ≡ length (x ∷ xs) + k = omega arith in
+    subst (λ (i : ℕ). slice_get (x ∷ (xs ++ ys)) i ≡ Some a) n (behind-front xs ys k a h)
+
+-- an element of a middle part is one of the whole
+in-middle : {A : Type 0} (xs before : List A) (one : A) (middle beyond : List A) → xs ≡ before ++ one ∷ (middle ++ beyond)
+    → (k : ℕ) (a : A) → slice_get middle k ≡ Some a → slice_get xs (length before + (k + 1)) ≡ Some a
+in-middle {A} xs before one middle beyond whole k a h =
+    let inside : slice_get (one ∷ (middle ++ beyond)) (k + 1) ≡ Some a = rw add-one (in-front middle beyond k a h) in
+    subst (λ (ys : List A). slice_get ys (length before + (k + 1)) ≡ Some a) (sym whole) (behind-front before (one ∷ (middle ++ beyond)) (k + 1) a inside)
+
+at-one : {A : Type 0} (xs before : List A) (one : A) (rest : List A) → xs ≡ before ++ one ∷ rest → slice_get xs (length before + 0) ≡ Some one
+at-one {A} xs before one rest whole =
+    subst (λ (ys : List A). slice_get ys (length before + 0) ≡ Some one) (sym whole) (behind-front before (one ∷ rest) 0 one refl)
+
+-- ---- the call that opens
+
+abbrev NoBegin : Option MonitorCall → Type 0
+NoBegin o = (op at : ℕ) → o ≡ Some (svc.Begin op at) → ⊥
+
+no-begin-if : (t : Bool) (a b : Option MonitorCall) → NoBegin a → NoBegin b → NoBegin (cond t a b)
+no-begin-if true a b p q = p
+no-begin-if false a b p q = q
+
+begin-if : (number : ℕ) (r : Regs) (other : Option MonitorCall) → NoBegin other → (t : Bool) → eqb number 1 ≡ t → (op at : ℕ)
+    → cond t (Some (svc.Begin (r.x 9) r.pc)) other ≡ Some (svc.Begin op at) → (Svc number ≡ Svc 1) × (r.pc ≡ at)
+begin-if number r other none true is op at h = (ap Svc (eqb-true number 1 is), cc)
+begin-if number r other none false is op at h = absurd (none op at h)
+
+begin-is : (i : Inst) (r : Regs) (op at : ℕ) → monitor_call i r ≡ Some (svc.Begin op at) → (i ≡ Svc 1) × (r.pc ≡ at)
+begin-is (Svc number) r op at h =
+    begin-if number r _
+    (no-begin-if (eqb number 2) (Some (svc.End (r.x 9))) _ (λ a b q. cc)
+    (no-begin-if (eqb number 3) (Some (svc.Bit (r.x 9))) _ (λ a b q. cc)
+    (no-begin-if (eqb number 4) (Some (svc.Target (r.x 9))) _ (λ a b q. cc)
+    (no-begin-if (eqb number 5) (Some (svc.Return (r.x 30))) _ (λ a b q. cc)
+    (no-begin-if (eqb number 6) (Some (svc.Define (r.x 9) (r.x 10))) _ (λ a b q. cc)
+    (no-begin-if (eqb number 7) (Some (svc.Use (r.x 9) (r.x 10))) None (λ a b q. cc) (λ a b q. cc)))))))
+    (eqb number 1) refl op at h
+begin-is _ r op at h = absurd (cc)
+
+-- it leads to the next instruction
+begin-leads : (code : List ℕ) (e : Entry) (op at : ℕ) → IsMade code e → made_call e ≡ Some (svc.Begin op at) → next_of e ≡ next_pc at
+begin-leads code e op at made is =
+    let begin = begin-is e.inst e.found.regs op at is in
+    let no : IsTrue (not (takes_input e.inst)) = subst (λ (i : Inst). IsTrue (not (takes_input i))) (sym begin.0) refl in
+    ap (λ (r : Regs). r.pc) (made.steps no) ∙ ap (λ (i : Inst). (act i e.found).machine.regs.pc) begin.0 ∙ ap next_pc begin.1
+
+-- ---- traces
+
+trace-from : (image : Image) (o : Opening) (inputs : List ℤ) (writes : List Write) (n s : ℕ) → AreGiven inputs writes
+    → (w : Placed made_call o s (journal image inputs writes n)) → IsTrace image.code o.op (next_pc o.begin_at) (w.front ++ w.last ∷ [])
+trace-from image o inputs writes n s given w =
+    let js = journal image inputs writes n in
+    let place = in-middle js w.before w.opening (w.front ++ w.last ∷ []) w.rest w.whole in
+    let begin = at-one js w.before w.opening ((w.front ++ w.last ∷ []) ++ w.rest) w.whole in
+    record {
+      made = λ k e h. (journal_is_made image inputs writes n (length w.before + (k + 1)) e (place k e h), journal_is_bounded image inputs writes n (length w.before + (k + 1)) e given (place k e h));
+      linked = λ k e next h g.
+          let i : length w.before + ((k + 1) + 1) ≡ (length w.before + (k + 1)) + 1 = omega arith in
+          journal_is_linked image inputs writes n (length w.before + (k + 1)) e next (place k e h)
+          (subst (λ (j : ℕ). slice_get js j ≡ Some next) i (place (k + 1) next g));
+      starts = λ e h.
+          let i : length w.before + (0 + 1) ≡ (length w.before + 0) + 1 = omega arith in
+          let follows = journal_is_linked image inputs writes n (length w.before + 0) w.opening e begin
+          (subst (λ (j : ℕ). slice_get js j ≡ Some e) i (place 0 e h)) in
+          follows.place ∙ begin-leads image.code w.opening o.op o.begin_at (journal_is_made image inputs writes n (length w.before + 0) w.opening begin) w.opens;
+      front = w.front;
+      last = w.last;
+      whole = refl;
+      seals = w.seals;
+      quiet = w.quiet;
+    }
+
+pub windows_are_traces : WindowsAreTraces
+windows_are_traces image o inputs writes n s body given is =
+    let r = ran image o inputs writes n in
+    let t = told-of image o inputs writes n s body is in
+    let placed : Placed made_call o s (journal image inputs writes r.length_of) = subst (Placed made_call o s) r.journal_is t.placed in
+    let same : window_of o s (dev image o inputs writes n) ≡ placed.front ++ placed.last ∷ [] = ap (window made_call o.op o.begin_at s) r.journal_is ∙ placed.window_is in
+    subst (IsTrace image.code o.op (next_pc o.begin_at)) (sym same) (trace-from image o inputs writes r.length_of s given placed)
+
+-- ---- lengths
+
+filtered-few : {X Y : Type 0} (f : X → Option Y) (xs : List X) → length (filter_map f xs) ≤ length xs
+filtered-few f [] = omega arith
+filtered-few {X} {Y} f (x ∷ xs) = by (f x) (filtered-few f xs) where
+  by : (o : Option Y) → length (filter_map f xs) ≤ length xs → length (cons_option o (filter_map f xs)) ≤ suc (length xs)
+  by None few = omega arith
+  by (Some y) few = omega arith
+
+pub records_are_few : RecordsAreFew
+records_are_few image o inputs writes n s body h =
+    let t = bodies_tell_windows image o inputs writes n s body h in
+    let window = window_of o s (dev image o inputs writes n) in
+    let short = windows_are_short image o inputs writes n s in
+    let bits = filtered-few (λ (e : Entry). recorded_bit (made_call e)) window in
+    let targets = filtered-few (λ (e : Entry). recorded_target (made_call e)) window in
+    let bits_are : length body.bits ≡ length (filter_map (λ (e : Entry). recorded_bit (made_call e)) window) = ap length t.bits in
+    let targets_are : length body.targets ≡ length (filter_map (λ (e : Entry). recorded_target (made_call e)) window) = ap length t.targets in
+    record { bits = omega (arith, short, bits, bits_are); targets = omega (arith, short, targets, targets_are) }

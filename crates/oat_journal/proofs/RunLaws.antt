@@ -6,8 +6,7 @@ pub use Rattle.oat_journal.proofs.Bounds.{journal_is_bounded}
 -- Turns: what one makes, that an ended run rests, and turns behind turns.
 pub use Rattle.oat_journal.proofs.TurnLaws.{turns_make_steps, one_turn, ended_runs_rest, turns_add, measured_turns_follow, measured_ends_stay}
 pub use Rattle.oat_journal.proofs.Progress.{turns_are_the_run}
--- Lengths of journals, windows and records.
-pub use Rattle.oat_journal.proofs.Lengths.{journals_are_short, windows_are_short, records_are_few}
--- Windows of sealed runs, and what these report.
-pub use Rattle.oat_journal.proofs.Traces.{windows_are_traces, runs_report_their_window}
-pub use Rattle.oat_journal.proofs.Reports.{runs_report_exactly, no_violation_means_sound}
+-- Lengths of journals and windows.
+pub use Rattle.oat_journal.proofs.Lengths.{journals_are_short, windows_are_short}
+-- The windows of the bodies that a run reports, and what these tell.
+pub use Rattle.oat_journal.proofs.Reports.{bodies_tell_windows, no_violation_means_sound, records_are_few, windows_are_traces}

@@ -1,15 +1,15 @@
--- A sealed state holds the violation of the first use of its window that wasn't sound.
+-- One window: the state behind a list of calls, and that a sealed state holds the violation of the first use of its window that wasn't sound.
 use Rattle.std.proofs.Common.{◌≡◌, ℕ, zero, suc, Bool, true, false, not, cond, ◌&&◌, eqb, List, [], ◌∷◌, ◌++◌, Option, Some, None, Result, Ok, Err, is_some, option_map, filter_map, All, refl, sym, ap, subst, ◌∙◌, arith, eqb-true, append_assoc}
 use Rattle.std.specs.List.{cons_option}
 use Rattle.std.proofs.lemmas.List.Elements.{filter_map-append}
 use Rattle.sha2.specs.Sha256.{sha256}
 use Rattle.oat_blob.specs.declared.body.Violation.{Violation}
-use Rattle.oat_chain.specs.Chain.{begin_record, link}
+use Rattle.oat_chain.specs.Chain.{window_head, link}
 use Rattle.oat_measure.specs.declared.opening.Opening.{Opening}
 use Rattle.oat_measure.specs.Monitor.{opens}
 use Rattle.oat_measure.specs.declared.call.MonitorCall.{MonitorCall}
 use Rattle.oat_measure.specs.declared.call.MonitorCall.TheVariants as svc
-use Rattle.oat_measure.specs.Measurement.{State, Stage, unmeasured, measuring, sealed, booted, violated, inside_window, before_window, after_window, with_rest, measured, measures}
+use Rattle.oat_measure.specs.Measurement.{State, Stage, unmeasured, measuring, sealed, violated, inside_window, before_window, after_window, measured}
 use Rattle.oat_measure.specs.declared.stop.StopKind.{StopKind}
 use Rattle.oat_measure.specs.declared.stop.StopKind.TheVariants.{Nested, WrongEnd}
 use Rattle.oat_events.specs.Cells.{Cells, defined}
@@ -17,14 +17,32 @@ use Rattle.oat_events.specs.Windows.{beyond, through}
 use Rattle.oat_journal.specs.Window.{opens_window, seals_window, up_to_window, window}
 use Rattle.oat_journal.specs.Uses.{CheckedUse, IsSound, define_of, last_of, defined_value, uses_behind}
 use Rattle.oat_journal.specs.Measured.{first_unsound}
-use Rattle.oat_journal.specs.Violations.{same, uses_among, ViolationsAreExact, NoViolationIsSound}
 
-abbrev Calls : Type 0
+abbrev pub Calls : Type 0
 Calls = List (Option MonitorCall)
+
+-- a call as a call
+abbrev pub same : Option MonitorCall → Option MonitorCall
+same call = call
+
+-- the checked uses in the first window of a list of calls
+abbrev pub uses_among : Opening → Cells → Calls → List CheckedUse
+uses_among o words calls =
+    uses_behind words (up_to_window same o.op o.begin_at 0 calls) (window same o.op o.begin_at 0 calls)
+
+-- ---- the state behind a list of calls, up to the first stop
+
+abbrev after_call : State → Result State StopKind → (State → State) → State
+after_call s (Ok next) rest = rest next
+after_call s (Err stop) rest = s
+
+unfoldable pub state_behind : Opening → State → Calls → State
+state_behind o s [] = s
+state_behind o s (call ∷ calls) = after_call s (measured o s call) (λ next. state_behind o next calls)
 
 -- ---- what a cell holds: the value that it was last defined as
 
-Held : Cells → Calls → Cells → Type 0
+pub Held : Cells → Calls → Cells → Type 0
 Held words before cells = (j : ℕ) → cells j ≡ option_map (λ (word : ℕ). defined_value word j before) (words j)
 
 last_of-behind : (first value : ℕ) (values : List ℕ) → last_of first (values ++ value ∷ []) ≡ value
@@ -49,7 +67,7 @@ map-same : (o : Option ℕ) (f g : ℕ → ℕ) → ((word : ℕ) → f word ≡
 map-same None f g h = refl
 map-same (Some word) f g h = ap Some (h word)
 
-held-other : (words : Cells) (before : Calls) (cells : Cells) (call : Option MonitorCall) → ((j : ℕ) → define_of j call ≡ None) → Held words before cells → Held words (before ++ call ∷ []) cells
+pub held-other : (words : Cells) (before : Calls) (cells : Cells) (call : Option MonitorCall) → ((j : ℕ) → define_of j call ≡ None) → Held words before cells → Held words (before ++ call ∷ []) cells
 unfolding Held
 held-other words before cells call none held j =
     held j ∙ map-same (words j) _ _ (λ (word : ℕ). sym (value-other j word before call (none j)))
@@ -73,22 +91,22 @@ held-is : (words : Cells) (before : Calls) (cells : Cells) → Held words before
 unfolding Held
 held-is words before cells held j = held j
 
-held-define : (words : Cells) (before : Calls) (cells : Cells) (cell value : ℕ) → Held words before cells → Held words (before ++ Some (svc.Define cell value) ∷ []) (defined cells cell value)
+pub held-define : (words : Cells) (before : Calls) (cells : Cells) (cell value : ℕ) → Held words before cells → Held words (before ++ Some (svc.Define cell value) ∷ []) (defined cells cell value)
 unfolding Held
 held-define words before cells cell value held j = held-at words before cells cell value j held (eqb j cell) refl
 
 -- ---- one call of the fold
 
-pub step-ok : (o : Opening) (s : State) (call : Option MonitorCall) (next : State) (calls : Calls) → measured o s call ≡ Ok next → (measures o s (call ∷ calls)).state ≡ (measures o next calls).state
-unfolding measures
-step-ok o s call next calls h = ap (λ (r : Result State StopKind). (with_rest s r (λ (n : State). measures o n calls)).state) h
+pub step-ok : (o : Opening) (s : State) (call : Option MonitorCall) (next : State) (calls : Calls) → measured o s call ≡ Ok next → (state_behind o s (call ∷ calls)) ≡ (state_behind o next calls)
+unfolding state_behind
+step-ok o s call next calls h = ap (λ (r : Result State StopKind). after_call s r (λ (n : State). state_behind o n calls)) h
 
-pub step-err : (o : Opening) (s : State) (call : Option MonitorCall) (stop : StopKind) (calls : Calls) → measured o s call ≡ Err stop → (measures o s (call ∷ calls)).state ≡ s
-unfolding measures
-step-err o s call stop calls h = ap (λ (r : Result State StopKind). (with_rest s r (λ (n : State). measures o n calls)).state) h
+pub step-err : (o : Opening) (s : State) (call : Option MonitorCall) (stop : StopKind) (calls : Calls) → measured o s call ≡ Err stop → (state_behind o s (call ∷ calls)) ≡ s
+unfolding state_behind
+step-err o s call stop calls h = ap (λ (r : Result State StopKind). after_call s r (λ (n : State). state_behind o n calls)) h
 
-pub no-calls : (o : Opening) (s : State) → (measures o s []).state ≡ s
-unfolding measures
+pub no-calls : (o : Opening) (s : State) → (state_behind o s []) ≡ s
+unfolding state_behind
 no-calls o s = refl
 
 abbrev by_stage : Opening → State → MonitorCall → Stage → Result State StopKind
@@ -117,7 +135,7 @@ violation_in s = s.violation
 abbrev stage_of : State → Stage
 stage_of s = s.stage
 
-sealed-keeps : (o : Opening) (s : State) (calls : Calls) → s.stage ≡ sealed → (measures o s calls).state.violation ≡ s.violation
+pub sealed-keeps : (o : Opening) (s : State) (calls : Calls) → s.stage ≡ sealed → (state_behind o s calls).violation ≡ s.violation
 sealed-keeps o s [] is = ap violation_in (no-calls o s)
 sealed-keeps o s (None ∷ calls) is = ap violation_in (step-ok o s None s calls refl) ∙ sealed-keeps o s calls is
 sealed-keeps o s (Some call ∷ calls) is =
@@ -158,7 +176,7 @@ pub not-open : {A : Type 0} (stage : Stage) → stage ≡ unmeasured → stage �
 not-open stage is h = absurd (let e : unmeasured ≡ sealed = sym is ∙ h in cc)
 
 abbrev Exact : Opening → State → Calls → Option Violation → Type 0
-Exact o s calls v = (measures o s calls).state.stage ≡ sealed → (measures o s calls).state.violation ≡ v
+Exact o s calls v = (state_behind o s calls).stage ≡ sealed → (state_behind o s calls).violation ≡ v
 
 -- what holds behind a call holds of it
 behind-call : (o : Opening) (s next : State) (call : Option MonitorCall) (calls : Calls) (v : Option Violation) → measured o s call ≡ Ok next → Exact o next calls v → Exact o s (call ∷ calls) v
@@ -222,13 +240,13 @@ inside-exact o words before s (Some (svc.Use cell value) ∷ calls) is held =
 
 abbrev in_window : Opening → Cells → Calls → Calls → Option Violation
 in_window o words before calls =
-    first_unsound (uses_behind words (before ++ up_to_window same o.op o.begin_at calls) (window same o.op o.begin_at calls))
+    first_unsound (uses_behind words (before ++ up_to_window same o.op o.begin_at 0 calls) (window same o.op o.begin_at 0 calls))
 
 -- a call that doesn't open the window
 passes-by : (o : Opening) (words : Cells) (before : Calls) (call : Option MonitorCall) (calls : Calls)
-    → in_window o words (before ++ call ∷ []) calls ≡ first_unsound (uses_behind words (before ++ call ∷ up_to_window same o.op o.begin_at calls) (window same o.op o.begin_at calls))
+    → in_window o words (before ++ call ∷ []) calls ≡ first_unsound (uses_behind words (before ++ call ∷ up_to_window same o.op o.begin_at 0 calls) (window same o.op o.begin_at 0 calls))
 passes-by o words before call calls =
-    ap (λ (front : Calls). first_unsound (uses_behind words front (window same o.op o.begin_at calls))) (append_assoc before (call ∷ []) (up_to_window same o.op o.begin_at calls))
+    ap (λ (front : Calls). first_unsound (uses_behind words front (window same o.op o.begin_at 0 calls))) (append_assoc before (call ∷ []) (up_to_window same o.op o.begin_at 0 calls))
 
 abbrev Awaits : Opening → Cells → Calls → Type 0
 Awaits o words calls =
@@ -236,7 +254,7 @@ Awaits o words calls =
 
 stays-out : (o : Opening) (words : Cells) (call : Option MonitorCall) (calls : Calls) → Awaits o words calls
     → (before : Calls) (s next : State) → measured o s call ≡ Ok next → next.stage ≡ unmeasured → next.violation ≡ None → Held words (before ++ call ∷ []) next.cells
-    → Exact o s (call ∷ calls) (first_unsound (uses_behind words (before ++ call ∷ up_to_window same o.op o.begin_at calls) (window same o.op o.begin_at calls)))
+    → Exact o s (call ∷ calls) (first_unsound (uses_behind words (before ++ call ∷ up_to_window same o.op o.begin_at 0 calls) (window same o.op o.begin_at 0 calls)))
 stays-out o words call calls rest before s next to is none held =
     behind-call o s next call calls _ to
     (λ h. rest (before ++ call ∷ []) next is none held h ∙ passes-by o words before call calls)
@@ -245,11 +263,11 @@ at-begin : (o : Opening) (words : Cells) (op at : ℕ) (calls : Calls) → Await
     → (before : Calls) (s : State) → s.stage ≡ unmeasured → s.violation ≡ None → Held words before s.cells
     → (t : Bool) → (eqb op o.op && eqb at o.begin_at) ≡ t
     → Exact o s (Some (svc.Begin op at) ∷ calls) (first_unsound (uses_behind words
-    (before ++ cond t (Some (svc.Begin op at) ∷ []) (Some (svc.Begin op at) ∷ up_to_window same o.op o.begin_at calls))
+    (before ++ cond t (Some (svc.Begin op at) ∷ []) (Some (svc.Begin op at) ∷ up_to_window same o.op o.begin_at 0 calls))
     (through (seals_window same o.op) (cond t calls (beyond (opens_window same o.op o.begin_at) calls)))))
 at-begin o words op at calls rest before s is none held true opens =
     let call = Some (svc.Begin op at) in
-    let next = record s { stage = measuring; hash = sha256 (begin_record o.nonce o.op o.digest) } in
+    let next = record s { stage = measuring; hash = sha256 (window_head o.nonce o.op o.digest s.serial) } in
     behind-call o s next call calls _
     (staged o s (svc.Begin op at) unmeasured is ∙ ap (λ (t : Bool). Ok (cond t next s)) opens)
     (λ h.
@@ -257,12 +275,12 @@ at-begin o words op at calls rest before s is none held true opens =
     ∙ ap (λ (v : Option Violation). first_of v (first_unsound (uses_behind words (before ++ call ∷ []) (through (seals_window same o.op) calls)))) none)
 at-begin o words op at calls rest before s is none held false opens =
     let call = Some (svc.Begin op at) in
-    let next = record s { stage = measuring; hash = sha256 (begin_record o.nonce o.op o.digest) } in
+    let next = record s { stage = measuring; hash = sha256 (window_head o.nonce o.op o.digest s.serial) } in
     stays-out o words call calls rest before s s
     (staged o s (svc.Begin op at) unmeasured is ∙ ap (λ (t : Bool). Ok (cond t next s)) opens)
     is none (held-other words before s.cells call (λ _. refl) held)
 
-awaits : (o : Opening) (words : Cells) (calls : Calls) → Awaits o words calls
+pub awaits : (o : Opening) (words : Cells) (calls : Calls) → Awaits o words calls
 awaits o words [] before s is none held = λ h. not-open s.stage is (sym (ap stage_of (no-calls o s)) ∙ h)
 awaits o words (None ∷ calls) before s is none held =
     stays-out o words None calls (awaits o words calls) before s s refl is none (held-other words before s.cells None (λ _. refl) held)
@@ -293,12 +311,9 @@ map-id : (o : Option ℕ) → o ≡ option_map (λ (word : ℕ). word) o
 map-id None = refl
 map-id (Some word) = refl
 
-held-first : (words : Cells) → Held words [] words
+pub held-first : (words : Cells) → Held words [] words
 unfolding Held
 held-first words j = map-id (words j)
-
-pub violations_are_exact : ViolationsAreExact
-violations_are_exact o words calls h = awaits o words calls [] (booted words) refl refl (held-first words) h
 
 when-none : (t : Bool) (others : Option Violation) (v : Violation) → cond t others (Some v) ≡ None → t ≡ true
 when-none true others v h = refl
@@ -310,6 +325,3 @@ sound-uses (use_ ∷ others) h zero d lt =
     sym (eqb-true use_.defined use_.found (when-none (eqb use_.defined use_.found) _ _ h))
 sound-uses (use_ ∷ others) h (suc k) d lt =
     sound-uses others (subst (λ (t : Bool). cond t (first_unsound others) (Some (record { cell = use_.cell; expected = use_.defined; found = use_.found })) ≡ None) (when-none (eqb use_.defined use_.found) _ _ h) h) k d (omega arith)
-
-pub no_violation_is_sound : NoViolationIsSound
-no_violation_is_sound o words calls h none = sound-uses (uses_among o words calls) (sym (violations_are_exact o words calls h) ∙ none)

@@ -1,10 +1,10 @@
 -- What a turn of a run does, and what so many of them come to.
 use Rattle.std.proofs.Common.{◌≡◌, ◌+◌, ℕ, zero, suc, List, [], ◌∷◌, ◌++◌, Option, Some, None, refl, sym, ap, ◌∙◌, arith}
 use Rattle.oat_a64.specs.declared.inst.Inst.{Inst}
-use Rattle.oat_a64.specs.Step.{Machine, act, instruction_at}
+use Rattle.oat_a64.specs.Step.{Machine, instruction_at}
 use Rattle.oat_case.specs.declared.case.Write.{Write}
 use Rattle.oat_journal.specs.declared.end.DeviceEnd.{DeviceEnd}
-use Rattle.oat_journal.specs.Run.{Running, Entry, entry, found, from_entry, journal_from, made_entry, makes, turn, turns}
+use Rattle.oat_journal.specs.Run.{Running, Entry, entry, found, from_entry, journal_from, made_entry, turn, turns}
 use Rattle.oat_measure.specs.declared.opening.Opening.{Opening}
 use Rattle.oat_journal.specs.Progress.{Progress, after_turns, going_on, measured_turn}
 use Rattle.oat_journal.specs.TurnLaws.{OneTurn, EndedRunsRest, AddsUp, TurnsAdd, TurnsMakeSteps, MeasuredTurnsFollow, MeasuredEndsStay}

@@ -3,7 +3,6 @@ pub mod Journal
 pub mod Window
 pub mod Uses
 pub mod Measured
-pub mod Violations
 pub mod Trace
 pub mod Progress
 pub mod Worked

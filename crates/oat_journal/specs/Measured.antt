@@ -8,21 +8,21 @@ use Rattle.oat_case.specs.declared.case.Write.{Write}
 use Rattle.oat_image.specs.declared.image.Image.{Image}
 use Rattle.oat_image.specs.Grammar.{image_text}
 use Rattle.sha2.specs.Sha256.{sha256}
+use Rattle.oat_chain.specs.Chain.{chain, window_head}
 use Rattle.oat_mem.specs.DataMemory.{word_in, global_address}
 use Rattle.oat_measure.specs.declared.opening.Opening.{Opening}
-use Rattle.oat_measure.specs.Measurement.{State, sealed, Measured, booted, measures}
+use Rattle.oat_measure.specs.Shelving.{Measurements, Measured, IsBodyAt, at_start, measures, serial_of}
 use Rattle.oat_measure.specs.declared.stop.StopKind.{StopKind}
 use Rattle.oat_events.specs.Cells.{Cells}
-use Rattle.oat_measure.specs.Monitored.{body_head}
 use Rattle.oat_journal.specs.declared.end.DeviceEnd.{DeviceEnd}
 use Rattle.oat_journal.specs.declared.end.DeviceEnd.TheVariants.{OutOfSteps, Stopped}
 use Rattle.oat_journal.specs.Run.{Running, Entry, bare, journal, start_memory}
-use Rattle.oat_journal.specs.Window.{made_call, up_to_window, window}
+use Rattle.oat_journal.specs.Window.{made_call, up_to_window, window, returns_of_run, bits_of_run, targets_of_run}
 use Rattle.oat_journal.specs.Uses.{CheckedUse, IsSound, uses_behind}
 
--- what a window on an image is opened for: the session's nonce and operation, the image's digest, and where the operation's window opens
+-- what the windows of a session on an image are opened for: the session's nonce and operation, the image's digest, and where the operation's windows open
 abbrev pub opening_of : Image → Session → ℕ → Opening
-opening_of image session begin_at = record { nonce = session.nonce; op = session.op; digest = sha256 (image_text image); begin_at = begin_at }
+opening_of image session begin_at = record { nonce = session.nonce; op = session.op; digest = sha256 (image_text image); begin_at = begin_at; serial = None; calls = 1 }
 
 -- a cell holds the word of global data whose index the image gives it
 abbrev pub start_cells : Image → Cells
@@ -30,7 +30,8 @@ start_cells image = λ cell. option_map (λ index. word_in (start_memory image.w
 
 pub record Run : Type 0 where
   pub running : Running
-  pub state : State
+  -- of the windows so far
+  pub measurements : Measurements
   pub end : Option DeviceEnd
   -- the entries of the instructions that the monitor let the run make
   pub journal : List Entry
@@ -38,13 +39,13 @@ pub record Run : Type 0 where
 abbrev pub run_until : Image → List ℤ → List Write → ℕ → Measured → Option StopKind → Run
 run_until image inputs writes n measured None = record {
   running = bare image inputs writes n;
-  state = measured.state;
+  measurements = measured.measurements;
   end = (bare image inputs writes n).end;
   journal = journal image inputs writes n;
 }
 run_until image inputs writes n measured (Some stop) = record {
   running = bare image inputs writes measured.taken;
-  state = measured.state;
+  measurements = measured.measurements;
   end = Some (Stopped stop);
   journal = journal image inputs writes measured.taken;
 }
@@ -52,28 +53,26 @@ run_until image inputs writes n measured (Some stop) = record {
 -- The measured run of at most n instructions: where the monitor stops it after m of them, the bare run of m with that end.
 abbrev pub dev : Image → Opening → List ℤ → List Write → ℕ → Run
 dev image o inputs writes n =
-    let measured = measures o (booted (start_cells image)) (map made_call (journal image inputs writes n)) in
+    let measured = measures o (at_start o (start_cells image)) (map made_call (journal image inputs writes n)) in
     run_until image inputs writes n measured measured.stop
 
-abbrev pub IsSealed : Run → Type 0
-IsSealed run = run.state.stage ≡ sealed
+-- how a run ended; without an end it is out of steps
+abbrev pub end_of : Run → DeviceEnd
+end_of run = elim run.end [ None ↦ OutOfSteps | Some why ↦ why ]
 
--- the body that a sealed run reports
-abbrev pub body_of : Opening → State → Body
-body_of o s = record {
-  head = body_head o s;
-  bits = s.bits;
-  targets = s.targets;
-}
+-- ---- window s of a run
 
--- the window of a run
-abbrev pub window_of : Opening → Run → List Entry
-window_of o run = window made_call o.op o.begin_at run.journal
+abbrev pub window_of : Opening → ℕ → Run → List Entry
+window_of o s run = window made_call o.op o.begin_at s run.journal
 
 -- the checked uses of the window, behind all calls that the run made before it
-abbrev pub uses_of : Image → Opening → Run → List CheckedUse
-uses_of image o run =
-    uses_behind (start_cells image) (map made_call (up_to_window made_call o.op o.begin_at run.journal)) (map made_call (window_of o run))
+abbrev pub uses_of : Image → Opening → ℕ → Run → List CheckedUse
+uses_of image o s run =
+    uses_behind (start_cells image) (map made_call (up_to_window made_call o.op o.begin_at s run.journal)) (map made_call (window_of o s run))
+
+-- the run sealed the window and has this body of it
+abbrev pub HasBody : Opening → Run → ℕ → Body → Type 0
+HasBody o run s body = IsBodyAt o run.measurements s body
 
 -- the violation of the first use that isn't sound
 abbrev pub first_unsound : List CheckedUse → Option Violation
@@ -82,23 +81,28 @@ first_unsound (first ∷ others) =
     if nat_eq first.defined first.found then first_unsound others
     else Some (record { cell = first.cell; expected = first.defined; found = first.found })
 
--- Exact violations: the violation that a sealed run reports is that of the first checked use that wasn't sound, whatever was given and written.
-abbrev pub RunsReportExactly : Type 0
-RunsReportExactly =
-    (image : Image) (o : Opening) (inputs : List ℤ) (writes : List Write) (n : ℕ)
-    → IsSealed (dev image o inputs writes n)
-    → (dev image o inputs writes n).state.violation ≡ first_unsound (uses_of image o (dev image o inputs writes n))
+-- A body tells its window: what it was opened for, the chain of its returns behind its head, its branch bits and indirect targets, and the first checked use that wasn't sound.
+pub record TellsItsWindow (image : Image) (o : Opening) (run : Run) (s : ℕ) (body : Body) : Type 0 where
+  pub op : body.head.op ≡ o.op
+  pub nonce : body.head.nonce ≡ o.nonce
+  pub digest : body.head.digest ≡ o.digest
+  pub hash : body.head.hash ≡ chain (window_head o.nonce o.op o.digest (serial_of o s)) (returns_of_run (window_of o s run))
+  pub bits : body.bits ≡ bits_of_run (window_of o s run)
+  pub targets : body.targets ≡ targets_of_run (window_of o s run)
+  pub violation : body.head.violation ≡ first_unsound (uses_of image o s run)
 
--- A sealed run reports no violation exactly where each checked use of its window was sound.
-pub record ReportsSoundness (image : Image) (o : Opening) (run : Run) : Type 0 where
-  pub sound : run.state.violation ≡ None → All IsSound (uses_of image o run)
-  pub none : All IsSound (uses_of image o run) → run.state.violation ≡ None
+-- Whatever is given and written, each body that a run reports tells its window.
+abbrev pub BodiesTellWindows : Type 0
+BodiesTellWindows =
+    (image : Image) (o : Opening) (inputs : List ℤ) (writes : List Write) (n s : ℕ) (body : Body)
+    → HasBody o (dev image o inputs writes n) s body → TellsItsWindow image o (dev image o inputs writes n) s body
+
+-- A body has no violation exactly where each checked use of its window was sound.
+pub record ReportsSoundness (image : Image) (o : Opening) (run : Run) (s : ℕ) (body : Body) : Type 0 where
+  pub sound : body.head.violation ≡ None → All IsSound (uses_of image o s run)
+  pub none : All IsSound (uses_of image o s run) → body.head.violation ≡ None
 
 abbrev pub NoViolationMeansSound : Type 0
 NoViolationMeansSound =
-    (image : Image) (o : Opening) (inputs : List ℤ) (writes : List Write) (n : ℕ)
-    → IsSealed (dev image o inputs writes n) → ReportsSoundness image o (dev image o inputs writes n)
-
--- how a run ended; without an end it is out of steps
-abbrev pub end_of : Run → DeviceEnd
-end_of run = elim run.end [ None ↦ OutOfSteps | Some why ↦ why ]
+    (image : Image) (o : Opening) (inputs : List ℤ) (writes : List Write) (n s : ℕ) (body : Body)
+    → HasBody o (dev image o inputs writes n) s body → ReportsSoundness image o (dev image o inputs writes n) s body

@@ -8,7 +8,7 @@ use Rattle.oat_image.specs.declared.image.Image.{Image}
 use Rattle.oat_measure.specs.declared.opening.Opening.{Opening}
 use Rattle.oat_measure.specs.Monitor.{call_numbered}
 use Rattle.oat_measure.specs.declared.call.MonitorCall.{MonitorCall}
-use Rattle.oat_measure.specs.Measurement.{State, booted, measured}
+use Rattle.oat_measure.specs.Shelving.{Measurements, at_start, measured_on}
 use Rattle.oat_measure.specs.declared.stop.StopKind.{StopKind}
 use Rattle.oat_journal.specs.declared.end.DeviceEnd.{DeviceEnd}
 use Rattle.oat_journal.specs.declared.end.DeviceEnd.TheVariants.{Stopped}
@@ -23,11 +23,11 @@ call_told (event.Svc number) r = call_numbered number r
 call_told _ r = None
 
 -- a stop leaves the state as it was
-abbrev pub kept : State → Result State StopKind → State
-kept s (Ok next) = next
-kept s (Err stop) = s
+abbrev pub kept : Measurements → Result Measurements StopKind → Measurements
+kept m (Ok next) = next
+kept m (Err stop) = m
 
-abbrev pub stop_of : Result State StopKind → Option StopKind
+abbrev pub stop_of : Result Measurements StopKind → Option StopKind
 stop_of (Ok next) = None
 stop_of (Err stop) = Some stop
 
@@ -35,20 +35,20 @@ abbrev pub stopped_by : Option StopKind → Running → Running
 stopped_by None s = s
 stopped_by (Some kind) s = record s { end = Some (Stopped kind) }
 
--- a run and what its monitor knows
+-- a run and what its monitor has measured
 pub record Progress : Type 0 where
   pub running : Running
-  pub state : State
+  pub measurements : Measurements
 
 -- what a measurement leaves of a run
-abbrev pub with_measurement : Progress → Result State StopKind → Progress
-with_measurement p result = record { running = stopped_by (stop_of result) p.running; state = kept p.state result }
+abbrev pub with_measurement : Progress → Result Measurements StopKind → Progress
+with_measurement p result = record { running = stopped_by (stop_of result) p.running; measurements = kept p.measurements result }
 
 -- One turn: the writes that are due, the machine step, what it tells, and the measurement of its monitor call.
 abbrev pub measured_turn : List ℕ → List Write → Opening → Progress → Progress
 measured_turn code writes o p =
     with_measurement (record p { running = turn code writes p.running })
-    (measured o p.state (call_told (step code (found writes p.running)).event p.running.machine.regs))
+    (measured_on o p.measurements (call_told (step code (found writes p.running)).event p.running.machine.regs))
 
 -- ---- all turns
 
@@ -61,14 +61,14 @@ unfoldable pub after_turns : List ℕ → List Write → Opening → ℕ → Pro
 after_turns code writes o zero p = p
 after_turns code writes o (suc n) p = after_turns code writes o n (going_on p.running.end p (measured_turn code writes o p))
 
-abbrev pub first_of : Image → List ℤ → Progress
-first_of image inputs = record { running = started image inputs; state = booted (start_cells image) }
+abbrev pub first_of : Image → Opening → List ℤ → Progress
+first_of image o inputs = record { running = started image inputs; measurements = at_start o (start_cells image) }
 
 -- what a measured run comes to
 abbrev pub progress_of_run : Run → Progress
-progress_of_run run = record { running = record run.running { end = run.end }; state = run.state }
+progress_of_run run = record { running = record run.running { end = run.end }; measurements = run.measurements }
 
 abbrev pub TurnsAreTheRun : Type 0
 TurnsAreTheRun =
     (image : Image) (o : Opening) (inputs : List ℤ) (writes : List Write) (n : ℕ)
-    → after_turns image.code writes o n (first_of image inputs) ≡ progress_of_run (dev image o inputs writes n)
+    → after_turns image.code writes o n (first_of image o inputs) ≡ progress_of_run (dev image o inputs writes n)

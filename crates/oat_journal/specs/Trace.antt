@@ -1,16 +1,16 @@
--- What holds of the window of a sealed run, whatever was given and written: it is a trace of the code, and the run reports it (docs/DEFINITIONS.md, "Window" and "Measured run").
+-- What holds of a window that was sealed, whatever was given and written: it is a trace of the code (docs/DEFINITIONS.md, "Window").
 use Rattle.std.specs.Prelude.{◌≡◌, ◌+◌, ℕ, ℤ, List, [], ◌∷◌, ◌++◌, Option, Some, slice_get}
 use Rattle.oat_a64.specs.Step.{next_pc}
 use Rattle.oat_case.specs.declared.case.Write.{Write}
-use Rattle.oat_chain.specs.Chain.{begin_record, chain}
+use Rattle.oat_blob.specs.Body.{Body}
 use Rattle.oat_image.specs.declared.image.Image.{Image}
 use Rattle.oat_measure.specs.declared.opening.Opening.{Opening}
 use Rattle.oat_measure.specs.declared.call.MonitorCall.{MonitorCall}
 use Rattle.oat_measure.specs.declared.call.MonitorCall.TheVariants as svc
 use Rattle.oat_journal.specs.Run.{Entry, AreGiven, pc_of}
 use Rattle.oat_journal.specs.Journal.{IsMade, IsEntryBounded, Continues}
-use Rattle.oat_journal.specs.Window.{made_call, returns_of_run, bits_of_run, targets_of_run}
-use Rattle.oat_journal.specs.Measured.{Run, dev, IsSealed, window_of}
+use Rattle.oat_journal.specs.Window.{made_call}
+use Rattle.oat_journal.specs.Measured.{HasBody, dev, window_of}
 
 -- an instruction neither begins nor ends an operation
 abbrev pub IsQuiet : Option MonitorCall → Type 0
@@ -29,20 +29,9 @@ pub record IsTrace (code : List ℕ) (op from : ℕ) (window : List Entry) : Typ
   pub seals : made_call last ≡ Some (svc.End op)
   pub quiet : (k : ℕ) (e : Entry) → slice_get front k ≡ Some e → IsQuiet (made_call e)
 
--- The window of a sealed run is a trace, from behind the SVC that opened it.
+-- The window of each body that a run reports is a trace, from behind the SVC that opened it.
 abbrev pub WindowsAreTraces : Type 0
 WindowsAreTraces =
-    (image : Image) (o : Opening) (inputs : List ℤ) (writes : List Write) (n : ℕ) → AreGiven inputs writes
-    → IsSealed (dev image o inputs writes n)
-    → IsTrace image.code o.op (next_pc o.begin_at) (window_of o (dev image o inputs writes n))
-
--- A sealed run holds the chain of its window's returns, its branch bits and its indirect targets.
-pub record ReportsItsWindow (o : Opening) (run : Run) : Type 0 where
-  pub hash : run.state.hash ≡ chain (begin_record o.nonce o.op o.digest) (returns_of_run (window_of o run))
-  pub bits : run.state.bits ≡ bits_of_run (window_of o run)
-  pub targets : run.state.targets ≡ targets_of_run (window_of o run)
-
-abbrev pub RunsReportTheirWindow : Type 0
-RunsReportTheirWindow =
-    (image : Image) (o : Opening) (inputs : List ℤ) (writes : List Write) (n : ℕ)
-    → IsSealed (dev image o inputs writes n) → ReportsItsWindow o (dev image o inputs writes n)
+    (image : Image) (o : Opening) (inputs : List ℤ) (writes : List Write) (n s : ℕ) (body : Body) → AreGiven inputs writes
+    → HasBody o (dev image o inputs writes n) s body
+    → IsTrace image.code o.op (next_pc o.begin_at) (window_of o s (dev image o inputs writes n))

@@ -1,13 +1,14 @@
 -- What a turn of a run does, and what so many of them come to, whatever is given and written (docs/DEFINITIONS.md, "Bare run").
-use Rattle.std.specs.Prelude.{◌≡◌, ◌+◌, ◌≤◌, ℕ, ℤ, List, [], ◌++◌, Option, Some, None, length}
+use Rattle.std.specs.Prelude.{◌≡◌, ◌+◌, ◌≤◌, ℕ, ℤ, List, [], ◌++◌, Some, None, length}
 use Rattle.oat_a64.specs.declared.inst.Inst.{Inst}
 use Rattle.oat_a64.specs.Step.{act, instruction_at, step}
+use Rattle.oat_blob.specs.Body.{Body}
 use Rattle.oat_case.specs.declared.case.Write.{Write}
 use Rattle.oat_image.specs.declared.image.Image.{Image}
 use Rattle.oat_measure.specs.declared.opening.Opening.{Opening}
 use Rattle.oat_journal.specs.declared.end.DeviceEnd.{DeviceEnd}
 use Rattle.oat_journal.specs.Run.{Running, entry, found, journal, journal_from, makes, turn, turns}
-use Rattle.oat_journal.specs.Measured.{dev, window_of}
+use Rattle.oat_journal.specs.Measured.{HasBody, dev, window_of}
 use Rattle.oat_journal.specs.Progress.{Progress, after_turns, going_on, measured_turn}
 
 -- ---- turns
@@ -65,12 +66,14 @@ JournalsAreShort = (image : Image) (inputs : List ℤ) (writes : List Write) (n 
 
 -- A window of a run of n instructions has at most n.
 abbrev pub WindowsAreShort : Type 0
-WindowsAreShort = (image : Image) (o : Opening) (inputs : List ℤ) (writes : List Write) (n : ℕ) → length (window_of o (dev image o inputs writes n)) ≤ n
+WindowsAreShort = (image : Image) (o : Opening) (inputs : List ℤ) (writes : List Write) (n s : ℕ) → length (window_of o s (dev image o inputs writes n)) ≤ n
 
--- A run of n instructions records at most n branch bits and n indirect targets.
-pub record HasFewRecords (image : Image) (o : Opening) (inputs : List ℤ) (writes : List Write) (n : ℕ) : Type 0 where
-  pub bits : length (dev image o inputs writes n).state.bits ≤ n
-  pub targets : length (dev image o inputs writes n).state.targets ≤ n
+-- A body of a run of n instructions has at most n branch bits and n indirect targets.
+pub record HasFewRecords (body : Body) (n : ℕ) : Type 0 where
+  pub bits : length body.bits ≤ n
+  pub targets : length body.targets ≤ n
 
 abbrev pub RecordsAreFew : Type 0
-RecordsAreFew = (image : Image) (o : Opening) (inputs : List ℤ) (writes : List Write) (n : ℕ) → HasFewRecords image o inputs writes n
+RecordsAreFew =
+    (image : Image) (o : Opening) (inputs : List ℤ) (writes : List Write) (n s : ℕ) (body : Body)
+    → HasBody o (dev image o inputs writes n) s body → HasFewRecords body n

@@ -1,4 +1,4 @@
--- The window of an operation in a run's journal, and what the run shows there: its path, its returns, its branch bits and its indirect targets (docs/DEFINITIONS.md, "Window").
+-- The windows of an operation in a run's journal, and what the run shows in each: its path, its returns, its branch bits and its indirect targets (docs/DEFINITIONS.md, "Window").
 use Rattle.std.specs.Prelude.{◌+◌, ℕ, Bool, true, false, not, nat_eq, if◌then◌else◌, List, Option, Some, None}
 use Rattle.std.specs.List.{filter_map, list_any}
 use Rattle.oat_measure.specs.Monitor.{monitor_call, opens, seals}
@@ -29,13 +29,13 @@ opens_window call op begin_at e = is_made (opens op begin_at) (call e)
 abbrev pub seals_window : {X : Type 0} → (X → Option MonitorCall) → ℕ → X → Bool
 seals_window call op e = is_made (seals op) (call e)
 
--- The window of an operation that opens at begin_at: from behind the opening begin up to the sealing end.
-abbrev pub window : {X : Type 0} → (X → Option MonitorCall) → ℕ → ℕ → List X → List X
-window call op begin_at es = inside (opens_window call op begin_at) (seals_window call op) 0 es
+-- Window s, counted from 0, of an operation that opens at begin_at: from behind the opening begin up to the sealing end.
+abbrev pub window : {X : Type 0} → (X → Option MonitorCall) → ℕ → ℕ → ℕ → List X → List X
+window call op begin_at s es = inside (opens_window call op begin_at) (seals_window call op) s es
 
 -- all up to the begin that opens it
-abbrev pub up_to_window : {X : Type 0} → (X → Option MonitorCall) → ℕ → ℕ → List X → List X
-up_to_window call op begin_at es = up_to (opens_window call op begin_at) (seals_window call op) 0 es
+abbrev pub up_to_window : {X : Type 0} → (X → Option MonitorCall) → ℕ → ℕ → ℕ → List X → List X
+up_to_window call op begin_at s es = up_to (opens_window call op begin_at) (seals_window call op) s es
 
 -- ---- the executed path
 

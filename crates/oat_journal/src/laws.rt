@@ -1,8 +1,8 @@
 //! Laws of journals and of measured runs, each the contract of a function that does nothing.
 ghost use Rattle.oat_journal.specs.Journal.{JournalIsBounded, JournalIsLinked, JournalIsMade};
-ghost use Rattle.oat_journal.specs.Measured.{NoViolationMeansSound, RunsReportExactly};
+ghost use Rattle.oat_journal.specs.Measured.{BodiesTellWindows, NoViolationMeansSound};
 ghost use Rattle.oat_journal.specs.Progress.{TurnsAreTheRun};
-ghost use Rattle.oat_journal.specs.Trace.{RunsReportTheirWindow, WindowsAreTraces};
+ghost use Rattle.oat_journal.specs.Trace.{WindowsAreTraces};
 ghost use Rattle.oat_journal.specs.Worked.{OneJumpIsMeasured};
 ghost use Rattle.oat_journal.specs.TurnLaws.{
   EndedRunsRest,
@@ -15,7 +15,6 @@ ghost use Rattle.oat_journal.specs.TurnLaws.{
   TurnsMakeSteps,
   WindowsAreShort,
 };
-ghost use Rattle.oat_journal.specs.Violations.{NoViolationIsSound, ViolationsAreExact};
 
 /// Each entry of a journal is an instruction of the code, and left what the machine step leaves.
 pub fn journal_is_made()
@@ -32,29 +31,14 @@ pub fn journal_is_bounded()
     ensures { JournalIsBounded }
 {}
 
-/// A sealed state holds the violation of the first use of its window that wasn't sound.
-pub fn violations_are_exact()
-    ensures { ViolationsAreExact }
+/// Each body that a run reports tells its window, whatever was given and written: the chain of its returns, its branch bits, its indirect targets, and the first checked use that wasn't sound.
+pub fn bodies_tell_windows()
+    ensures { BodiesTellWindows }
 {}
 
-/// Each use in the window of a sealed state without a violation found the last defined value.
-pub fn no_violation_is_sound()
-    ensures { NoViolationIsSound }
-{}
-
-/// The violation that a sealed run reports is that of the first checked use that wasn't sound, whatever was given and written.
-pub fn runs_report_exactly()
-    ensures { RunsReportExactly }
-{}
-
-/// The window of a sealed run is a trace of its code from behind the call that opened it, whatever was given and written.
+/// The window of each body that a run reports is a trace of its code from behind the call that opened it, whatever was given and written.
 pub fn windows_are_traces()
     ensures { WindowsAreTraces }
-{}
-
-/// A sealed run holds the chain of its window's returns, its branch bits and its indirect targets.
-pub fn runs_report_their_window()
-    ensures { RunsReportTheirWindow }
 {}
 
 /// The smallest image with a jump, run by the definitions: it seals within five instructions, shows the jump and the end, and the sixth halts it.
@@ -97,12 +81,12 @@ pub fn windows_are_short()
     ensures { WindowsAreShort }
 {}
 
-/// A run of n instructions records at most n branch bits and n indirect targets.
+/// A body of a run of n instructions has at most n branch bits and n indirect targets.
 pub fn records_are_few()
     ensures { RecordsAreFew }
 {}
 
-/// A sealed run reports no violation exactly where each checked use of its window was sound.
+/// A body that a run reports has no violation exactly where each checked use of its window was sound.
 pub fn no_violation_means_sound()
     ensures { NoViolationMeansSound }
 {}

@@ -26,8 +26,8 @@ pub record Measurements : Type 0 where
   pub state : State
 
 -- a session that starts
-abbrev pub begun : Opening → Cells → Measurements
-begun o cells = record { shelved = []; state = booted o.serial cells }
+abbrev pub at_start : Opening → Cells → Measurements
+at_start o cells = record { shelved = []; state = booted o.serial cells }
 
 -- a further window is due behind the one of this number
 abbrev pub is_due : Opening → Option ℕ → Bool
@@ -52,7 +52,8 @@ with_state o shelved (Err stop) = Err stop
 
 -- the measurements behind one instruction, with the monitor call that it made
 abbrev pub measured_on : Opening → Measurements → Option MonitorCall → Result Measurements StopKind
-measured_on o m call = with_state o m.shelved (measured o m.state call)
+measured_on o m None = Ok m
+measured_on o m (Some call) = with_state o m.shelved (measured o m.state (Some call))
 
 -- the bodies of all windows that are sealed
 abbrev pub bodies_of : Opening → Measurements → List Body

@@ -1,4 +1,4 @@
-use Rattle.oat_journal.proofs.Lengths.{records_are_few}
+use Rattle.oat_journal.proofs.Reports.{records_are_few}
 use Rattle.oat_journal.proofs.laws.records_are_few.Goals as goal
 
 pub returns : goal.returns
