@@ -125,7 +125,7 @@ bare-at-six = turns-five 1 ∙ turns-go one_jump.code 0 s5 (Svc 0) refl halt-is 
 
 abbrev one_body : List ℕ → List ℕ → Body
 one_body nonce digest = record {
-  head = record { op = 1; nonce = nonce; digest = digest; hash = sha256 (window_head nonce 1 digest None); violation = None };
+  head = record { op = 1; nonce = nonce; digest = digest; hash = sha256 (window_head nonce 1 digest None); violation = None; serial = None };
   bits = [];
   targets = [];
 }

@@ -101,7 +101,7 @@ told-of image o inputs writes n s body h =
 pub bodies_tell_windows : BodiesTellWindows
 bodies_tell_windows image o inputs writes n s body h =
     let t = told-of image o inputs writes n s body h in
-    record { op = t.op; nonce = t.nonce; digest = t.digest; hash = t.hash; bits = t.bits; targets = t.targets; violation = t.violation }
+    record { op = t.op; nonce = t.nonce; digest = t.digest; serial = t.serial; hash = t.hash; bits = t.bits; targets = t.targets; violation = t.violation }
 
 -- ---- what no violation means
 

@@ -150,7 +150,7 @@ stays-open o (Some call ∷ calls) shelved s unsealed = by (measured o s (Some c
       ∙ (ap (λ (m : Measurements). session o m calls) (settled-open o (on_shelf shelved next) (λ is. rest (sealed-stays o calls next is)))
       ∙ (goes next rest ∙ ap (on_shelf shelved) (sym step)))
 
-closed-serial : (s : State) (call : MonitorCall) → (after_window s call).serial ≡ s.serial
+pub closed-serial : (s : State) (call : MonitorCall) → (after_window s call).serial ≡ s.serial
 closed-serial s (svc.Define cell value) = refl
 closed-serial s _ = refl
 

@@ -16,7 +16,7 @@ use Rattle.oat_journal.specs.Uses.{uses_behind}
 use Rattle.oat_journal.specs.Measured.{first_unsound}
 use Rattle.oat_journal.specs.Trace.{IsQuiet}
 use Rattle.oat_journal.proofs.Sealing.{Calls, Held, awaits, same, sealed-keeps, state_behind}
-use Rattle.oat_journal.proofs.Shelves.{bodies-open, bodies-sealed, get-beyond, get-last, is-sealed, on_shelf, sealed-stays, session, settled-sealed, shelf-stays, stays-open, stays-sealed}
+use Rattle.oat_journal.proofs.Shelves.{closed-serial, bodies-open, bodies-sealed, get-beyond, get-last, is-sealed, on_shelf, sealed-stays, session, settled-sealed, shelf-stays, stays-open, stays-sealed}
 use Rattle.oat_journal.proofs.Traces.{Awaits, Windowed, closed-bits, closed-hash, closed-targets, kept, windowed}
 
 -- ---- windows of instructions and of their calls
@@ -87,11 +87,12 @@ placed-next {X} call o s k xs w p =
 
 -- ---- what a body tells
 
-pub record Told {X : Type 0} (call : X → Option MonitorCall) (o : Opening) (words : Cells) (earlier : Calls) (serial : Option ℕ) (s : ℕ) (xs : List X) (body : Body) : Type 0 where
+pub record Told {X : Type 0} (call : X → Option MonitorCall) (o : Opening) (words : Cells) (earlier : Calls) (number : Option ℕ) (s : ℕ) (xs : List X) (body : Body) : Type 0 where
   pub op : body.head.op ≡ o.op
   pub nonce : body.head.nonce ≡ o.nonce
   pub digest : body.head.digest ≡ o.digest
-  pub hash : body.head.hash ≡ chain (window_head o.nonce o.op o.digest serial) (filter_map (λ x. returned (call x)) (window call o.op o.begin_at s xs))
+  pub serial : body.head.serial ≡ number
+  pub hash : body.head.hash ≡ chain (window_head o.nonce o.op o.digest number) (filter_map (λ x. returned (call x)) (window call o.op o.begin_at s xs))
   pub bits : body.bits ≡ filter_map (λ x. recorded_bit (call x)) (window call o.op o.begin_at s xs)
   pub targets : body.targets ≡ filter_map (λ x. recorded_target (call x)) (window call o.op o.begin_at s xs)
   pub violation : body.head.violation ≡ first_unsound (uses_behind words (earlier ++ map call (up_to_window call o.op o.begin_at s xs)) (map call (window call o.op o.begin_at s xs)))
@@ -102,6 +103,7 @@ record IsOf (o : Opening) (closing : State) (body : Body) : Type 0 where
   op : body.head.op ≡ o.op
   nonce : body.head.nonce ≡ o.nonce
   digest : body.head.digest ≡ o.digest
+  serial : body.head.serial ≡ closing.serial
   hash : body.head.hash ≡ closing.hash
   bits : body.bits ≡ closing.bits
   targets : body.targets ≡ closing.targets
@@ -110,9 +112,9 @@ record IsOf (o : Opening) (closing : State) (body : Body) : Type 0 where
 same-body : {body other : Body} → Some other ≡ Some body → other ≡ body
 same-body h = cc
 
-of-state : (o : Opening) (closing t : State) (body : Body) → t.hash ≡ closing.hash → t.bits ≡ closing.bits → t.targets ≡ closing.targets → t.violation ≡ closing.violation → Some (body_of o t) ≡ Some body → IsOf o closing body
-of-state o closing t body hash bits targets violation h =
-    subst (λ (b : Body). IsOf o closing b) (same-body h) (record { op = refl; nonce = refl; digest = refl; hash = hash; bits = bits; targets = targets; violation = violation })
+of-state : (o : Opening) (closing t : State) (body : Body) → t.serial ≡ closing.serial → t.hash ≡ closing.hash → t.bits ≡ closing.bits → t.targets ≡ closing.targets → t.violation ≡ closing.violation → Some (body_of o t) ≡ Some body → IsOf o closing body
+of-state o closing t body serial hash bits targets violation h =
+    subst (λ (b : Body). IsOf o closing b) (same-body h) (record { op = refl; nonce = refl; digest = refl; serial = serial; hash = hash; bits = bits; targets = targets; violation = violation })
 
 -- the body at the first place behind the shelf
 first-body : (o : Opening) (shelved : List Body) (closing : State) (calls : Calls) (body : Body) → closing.stage ≡ sealed → (due : Bool) → is_due o closing.serial ≡ due
@@ -121,14 +123,14 @@ first-body o shelved closing calls body is true due h =
     let to = settled-sealed o (on_shelf shelved closing) true is due in
     let more = shelved ++ body_of o closing ∷ [] in
     let long : length more ≡ length shelved + 1 = length-append shelved (body_of o closing ∷ []) in
-    of-state o closing closing body refl refl refl refl
+    of-state o closing closing body refl refl refl refl refl
     (sym (ap (λ (m : Measurements). slice_get (bodies_of o (session o m calls)) (length shelved)) to
     ∙ (shelf-stays o calls more (reopened closing) (length shelved) (omega arith) ∙ get-last shelved (body_of o closing))) ∙ h)
 first-body o shelved closing calls body is false due h =
     let to = settled-sealed o (on_shelf shelved closing) false is due in
     let t = state_behind o closing calls in
     of-state o closing t body
-    (kept (λ (s : State). s.hash) closed-hash o closing calls is) (kept (λ (s : State). s.bits) closed-bits o closing calls is)
+    (kept (λ (s : State). s.serial) closed-serial o closing calls is) (kept (λ (s : State). s.hash) closed-hash o closing calls is) (kept (λ (s : State). s.bits) closed-bits o closing calls is)
     (kept (λ (s : State). s.targets) closed-targets o closing calls is) (sealed-keeps o closing calls is)
     (sym (ap (λ (m : Measurements). slice_get (bodies_of o (session o m calls)) (length shelved)) to
     ∙ (ap (λ (m : Measurements). slice_get (bodies_of o m) (length shelved)) (stays-sealed o calls shelved closing is due)
@@ -182,6 +184,7 @@ told-first {X} call o words earlier xs s body waits none held w is of = record {
   op = of.op;
   nonce = of.nonce;
   digest = of.digest;
+  serial = of.serial ∙ (w.serial ∙ plus-none s.serial);
   hash = of.hash ∙ (w.holds.hash
       ∙ (ap (λ (ys : List X). chain (window_head o.nonce o.op o.digest s.serial) (filter_map (λ (x : X). returned (call x)) ys)) (sym w.window_is)
       ∙ ap (λ (k : Option ℕ). chain (window_head o.nonce o.op o.digest k) (filter_map (λ (x : X). returned (call x)) (window call o.op o.begin_at 0 xs))) (plus-none s.serial)));
@@ -223,6 +226,7 @@ told-next {X} call o words earlier k xs s body w t =
       op = t.op;
       nonce = t.nonce;
       digest = t.digest;
+      serial = t.serial ∙ (plus-one k w.closing.serial ∙ ap (option_map (λ (first : ℕ). first + suc k)) w.serial);
       hash = t.hash
           ∙ (ap (λ (ys : List X). chain (window_head o.nonce o.op o.digest (option_map (λ (first : ℕ). first + k) (option_map (λ (n : ℕ). n + 1) w.closing.serial))) (filter_map (λ (x : X). returned (call x)) ys)) here
           ∙ ap (λ (n : Option ℕ). chain (window_head o.nonce o.op o.digest n) (filter_map (λ (x : X). returned (call x)) (window call o.op o.begin_at (suc k) xs)))

@@ -86,6 +86,7 @@ pub record TellsItsWindow (image : Image) (o : Opening) (run : Run) (s : ℕ) (b
   pub op : body.head.op ≡ o.op
   pub nonce : body.head.nonce ≡ o.nonce
   pub digest : body.head.digest ≡ o.digest
+  pub serial : body.head.serial ≡ serial_of o s
   pub hash : body.head.hash ≡ chain (window_head o.nonce o.op o.digest (serial_of o s)) (returns_of_run (window_of o s run))
   pub bits : body.bits ≡ bits_of_run (window_of o s run)
   pub targets : body.targets ≡ targets_of_run (window_of o s run)

@@ -12,7 +12,7 @@ use Rattle.oat_measure.specs.Measurement.{State, unmeasured, measuring, sealed, 
 
 -- but for its bits and targets
 abbrev pub body_head : Opening → State → BodyHead
-body_head o s = record { op = o.op; nonce = o.nonce; digest = o.digest; hash = s.hash; violation = s.violation }
+body_head o s = record { op = o.op; nonce = o.nonce; digest = o.digest; hash = s.hash; violation = s.violation; serial = s.serial }
 
 abbrev pub body_of : Opening → State → Body
 body_of o s = record { head = body_head o s; bits = s.bits; targets = s.targets }

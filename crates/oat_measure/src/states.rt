@@ -254,6 +254,7 @@ impl Sealed {
             digest: self.opening.digest,
             hash: self.hash,
             violation: self.violation,
+            serial: self.opening.serial,
         }
     }
 

@@ -72,6 +72,7 @@ fn calls_of_one_window(rt: HostRuntime) -> Result<(), Fail> {
             expected: 8,
             found: 5,
         }),
+        serial: None,
     };
     assert_eq!(rt; sealed.head(), head);
     assert_eq!(rt; sealed.bits().len(), 2);
