@@ -18,7 +18,7 @@ use Rattle.oat_journal.specs.Run.{Running, Entry, AreGiven, entry, from_entry, j
 use Rattle.oat_journal.specs.Journal.{takes_input, IsMade}
 use Rattle.oat_journal.specs.Window.{made_call, recorded_bit, recorded_target, window}
 use Rattle.oat_journal.specs.Uses.{CheckedUse, IsSound}
-use Rattle.oat_journal.specs.Measured.{BodiesTellWindows, HasBody, NoViolationMeansSound, Run, dev, first_unsound, run_until, start_cells, uses_of, window_of}
+use Rattle.oat_journal.specs.Measured.{BodiesAreCalledFor, BodiesTellWindows, HasBody, NoViolationMeansSound, Run, dev, first_unsound, run_until, start_cells, uses_of, window_of}
 use Rattle.oat_journal.specs.Trace.{IsTrace, WindowsAreTraces}
 use Rattle.oat_journal.specs.TurnLaws.{RecordsAreFew}
 use Rattle.oat_journal.proofs.Bounds.{journal_is_bounded}
@@ -102,6 +102,9 @@ pub bodies_tell_windows : BodiesTellWindows
 bodies_tell_windows image o inputs writes n s body h =
     let t = told-of image o inputs writes n s body h in
     record { op = t.op; nonce = t.nonce; digest = t.digest; serial = t.serial; hash = t.hash; bits = t.bits; targets = t.targets; violation = t.violation }
+
+pub bodies_are_called_for : BodiesAreCalledFor
+bodies_are_called_for image o inputs writes n s body h = (told-of image o inputs writes n s body h).called_for
 
 -- ---- what no violation means
 

@@ -1,5 +1,6 @@
 -- Each body of a session tells its window, whatever its number.
-use Rattle.std.proofs.Common.{◌≡◌, ◌+◌, ℕ, zero, suc, Bool, true, false, cond, List, [], ◌∷◌, ◌++◌, length, map, filter_map, slice_get, Option, Some, None, option_map, refl, sym, ap, subst, ◌∙◌, inl, inr, arith, append_assoc, length-append}
+use Rattle.std.proofs.Common.{◌≡◌, ◌+◌, ◌<◌, ◌⊎◌, ℕ, zero, suc, Bool, true, false, cond, List, [], ◌∷◌, ◌++◌, length, map, filter_map, slice_get, Option, Some, None, option_map, refl, sym, ap, subst, ◌∙◌, inl, inr, arith, append_assoc, length-append}
+use Rattle.std.proofs.lemmas.Bool.{ltb-true}
 use Rattle.std.proofs.lemmas.List.{map-append}
 use Rattle.oat_blob.specs.Body.{Body}
 use Rattle.oat_chain.specs.Chain.{window_head, chain}
@@ -92,6 +93,7 @@ pub record Told {X : Type 0} (call : X → Option MonitorCall) (o : Opening) (wo
   pub nonce : body.head.nonce ≡ o.nonce
   pub digest : body.head.digest ≡ o.digest
   pub serial : body.head.serial ≡ number
+  pub called_for : (s ≡ 0) ⊎ ((n : ℕ) × (number ≡ Some n) × (n < o.calls))
   pub hash : body.head.hash ≡ chain (window_head o.nonce o.op o.digest number) (filter_map (λ x. returned (call x)) (window call o.op o.begin_at s xs))
   pub bits : body.bits ≡ filter_map (λ x. recorded_bit (call x)) (window call o.op o.begin_at s xs)
   pub targets : body.targets ≡ filter_map (λ x. recorded_target (call x)) (window call o.op o.begin_at s xs)
@@ -185,6 +187,7 @@ told-first {X} call o words earlier xs s body waits none held w is of = record {
   nonce = of.nonce;
   digest = of.digest;
   serial = of.serial ∙ (w.serial ∙ plus-none s.serial);
+  called_for = inl refl;
   hash = of.hash ∙ (w.holds.hash
       ∙ (ap (λ (ys : List X). chain (window_head o.nonce o.op o.digest s.serial) (filter_map (λ (x : X). returned (call x)) ys)) (sym w.window_is)
       ∙ ap (λ (k : Option ℕ). chain (window_head o.nonce o.op o.digest k) (filter_map (λ (x : X). returned (call x)) (window call o.op o.begin_at 0 xs))) (plus-none s.serial)));
@@ -217,16 +220,31 @@ ahead-next {X} call o earlier k xs s w =
     ∙ ap (λ (calls : Calls). earlier ++ calls) (ap (λ (front : Calls). front ++ map call later) (sym (map-append call first inner))
     ∙ (sym (map-append call (first ++ inner) later) ∙ ap (map call) parts)))
 
-told-next : {X : Type 0} (call : X → Option MonitorCall) (o : Opening) (words : Cells) (earlier : Calls) (k : ℕ) (xs : List X) (s : State) (body : Body) (w : Windowed call o s xs)
+-- the number of a window that is due
+due-number : (o : Opening) (serial : Option ℕ) (k : ℕ) → is_due o serial ≡ true
+    → ((k ≡ 0) ⊎ ((n : ℕ) × (option_map (λ (first : ℕ). first + k) (option_map (λ (n : ℕ). n + 1) serial) ≡ Some n) × (n < o.calls)))
+    → (n : ℕ) × (option_map (λ (first : ℕ). first + suc k) serial ≡ Some n) × (n < o.calls)
+due-number o None k due (inl none) = absurd (cc)
+due-number o None k due (inr more) = absurd (cc)
+due-number o (Some first) k due (inl none) =
+    let low : first + 1 < o.calls = ltb-true (first + 1) o.calls due in
+    (first + suc k, refl, omega (arith, low, none))
+due-number o (Some first) k due (inr more) =
+    let same : (first + 1) + k ≡ more.0 = (let h : Some ((first + 1) + k) ≡ Some more.0 = more.1 in cc) in
+    let low : more.0 < o.calls = more.2 in
+    (first + suc k, refl, omega (arith, low, same))
+
+told-next : {X : Type 0} (call : X → Option MonitorCall) (o : Opening) (words : Cells) (earlier : Calls) (k : ℕ) (xs : List X) (s : State) (body : Body) (w : Windowed call o s xs) → is_due o w.closing.serial ≡ true
     → Told call o words ((earlier ++ map call (w.before ++ w.opening ∷ [])) ++ map call (w.front ++ w.last ∷ [])) (option_map (λ (first : ℕ). first + k) (option_map (λ (n : ℕ). n + 1) w.closing.serial)) k w.rest body
     → Told call o words earlier (option_map (λ (first : ℕ). first + suc k) s.serial) (suc k) xs body
-told-next {X} call o words earlier k xs s body w t =
+told-next {X} call o words earlier k xs s body w due t =
     let here : window call o.op o.begin_at k w.rest ≡ window call o.op o.begin_at (suc k) xs = ap (inside (opens_window call o.op o.begin_at) (seals_window call o.op) k) (sym w.behind) in
     record {
       op = t.op;
       nonce = t.nonce;
       digest = t.digest;
       serial = t.serial ∙ (plus-one k w.closing.serial ∙ ap (option_map (λ (first : ℕ). first + suc k)) w.serial);
+      called_for = inr (subst (λ (m : Option ℕ). (n : ℕ) × (option_map (λ (first : ℕ). first + suc k) m ≡ Some n) × (n < o.calls)) w.serial (due-number o w.closing.serial k due t.called_for));
       hash = t.hash
           ∙ (ap (λ (ys : List X). chain (window_head o.nonce o.op o.digest (option_map (λ (first : ℕ). first + k) (option_map (λ (n : ℕ). n + 1) w.closing.serial))) (filter_map (λ (x : X). returned (call x)) ys)) here
           ∙ ap (λ (n : Option ℕ). chain (window_head o.nonce o.op o.digest n) (filter_map (λ (x : X). returned (call x)) (window call o.op o.begin_at (suc k) xs)))
@@ -269,6 +287,6 @@ told (suc k) {X} call o words earlier xs shelved st body waits none held h = eli
   further w true due here rest =
       let long : length (shelved ++ body_of o w.closing ∷ []) ≡ length shelved + 1 = length-append shelved (body_of o w.closing ∷ []) in
       let at : length shelved + suc k ≡ length (shelved ++ body_of o w.closing ∷ []) + k = omega arith in
-      told-next call o words earlier k xs st body w (rest
+      told-next call o words earlier k xs st body w due (rest
       (subst (λ (n : ℕ). IsBodyAt o (session o (on_shelf (shelved ++ body_of o w.closing ∷ []) (reopened w.closing)) (map call w.rest)) n body) at
       (subst (λ (m : Measurements). IsBodyAt o (session o m (map call w.rest)) (length shelved + suc k) body) (settled-sealed o (on_shelf shelved w.closing) true w.shut due) here)))

@@ -1,5 +1,5 @@
 -- The measured run (`dev`): the bare run of an image with the measurement step applied to its journal's monitor calls (docs/DEFINITIONS.md, "Measured run").
-use Rattle.std.specs.Prelude.{◌≡◌, ℕ, ℤ, List, [], ◌∷◌, map, nat_eq, if◌then◌else◌, Option, Some, None, option_map, slice_get}
+use Rattle.std.specs.Prelude.{◌≡◌, ◌<◌, ◌⊎◌, ℕ, ℤ, List, [], ◌∷◌, map, nat_eq, if◌then◌else◌, Option, Some, None, option_map, slice_get, unwrap_or}
 use Rattle.std.specs.List.{All}
 use Rattle.oat_blob.specs.declared.body.Violation.{Violation}
 use Rattle.oat_blob.specs.Body.{Body}
@@ -22,7 +22,7 @@ use Rattle.oat_journal.specs.Uses.{CheckedUse, IsSound, uses_behind}
 
 -- what the windows of a session on an image are opened for: the session's nonce and operation, the image's digest, and where the operation's windows open
 abbrev pub opening_of : Image → Session → ℕ → Opening
-opening_of image session begin_at = record { nonce = session.nonce; op = session.op; digest = sha256 (image_text image); begin_at = begin_at; serial = None; calls = 1 }
+opening_of image session begin_at = record { nonce = session.nonce; op = session.op; digest = sha256 (image_text image); begin_at = begin_at; serial = option_map (λ calls. 0) session.calls; calls = unwrap_or session.calls 1 }
 
 -- a cell holds the word of global data whose index the image gives it
 abbrev pub start_cells : Image → Cells
@@ -97,6 +97,16 @@ abbrev pub BodiesTellWindows : Type 0
 BodiesTellWindows =
     (image : Image) (o : Opening) (inputs : List ℤ) (writes : List Write) (n s : ℕ) (body : Body)
     → HasBody o (dev image o inputs writes n) s body → TellsItsWindow image o (dev image o inputs writes n) s body
+
+-- window s is the session's first, or one of its calls
+abbrev pub IsCalledFor : Opening → ℕ → Type 0
+IsCalledFor o s = (s ≡ 0) ⊎ ((number : ℕ) × (serial_of o s ≡ Some number) × (number < o.calls))
+
+-- A run reports no more windows than the session calls for.
+abbrev pub BodiesAreCalledFor : Type 0
+BodiesAreCalledFor =
+    (image : Image) (o : Opening) (inputs : List ℤ) (writes : List Write) (n s : ℕ) (body : Body)
+    → HasBody o (dev image o inputs writes n) s body → IsCalledFor o s
 
 -- A body has no violation exactly where each checked use of its window was sound.
 pub record ReportsSoundness (image : Image) (o : Opening) (run : Run) (s : ℕ) (body : Body) : Type 0 where

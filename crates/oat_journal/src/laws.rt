@@ -1,6 +1,6 @@
 //! Laws of journals and of measured runs, each the contract of a function that does nothing.
 ghost use Rattle.oat_journal.specs.Journal.{JournalIsBounded, JournalIsLinked, JournalIsMade};
-ghost use Rattle.oat_journal.specs.Measured.{BodiesTellWindows, NoViolationMeansSound};
+ghost use Rattle.oat_journal.specs.Measured.{BodiesAreCalledFor, BodiesTellWindows, NoViolationMeansSound};
 ghost use Rattle.oat_journal.specs.Progress.{TurnsAreTheRun};
 ghost use Rattle.oat_journal.specs.Trace.{WindowsAreTraces};
 ghost use Rattle.oat_journal.specs.Worked.{OneJumpIsMeasured};
@@ -34,6 +34,11 @@ pub fn journal_is_bounded()
 /// Each body that a run reports tells its window, whatever was given and written: the chain of its returns, its branch bits, its indirect targets, and the first checked use that wasn't sound.
 pub fn bodies_tell_windows()
     ensures { BodiesTellWindows }
+{}
+
+/// A run reports no more windows than the session calls for.
+pub fn bodies_are_called_for()
+    ensures { BodiesAreCalledFor }
 {}
 
 /// The window of each body that a run reports is a trace of its code from behind the call that opened it, whatever was given and written.
