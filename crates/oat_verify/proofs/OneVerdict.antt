@@ -13,7 +13,7 @@ use Rattle.oat_verify.specs.declared.verdict.Cause.{Cause}
 use Rattle.oat_verify.specs.declared.verdict.Cause.TheVariants as causes
 use Rattle.oat_verify.specs.declared.verdict.Verdict.{Verdict}
 use Rattle.oat_verify.specs.declared.verdict.Verdict.TheVariants.{Accept, Refuse}
-use Rattle.oat_verify.specs.Verdict.{Subject, Looks, Settles, Replays, stuck, walked, Judges, IsVerdict, blob, form, Accepts, AcceptanceAtOnce, OneVerdict}
+use Rattle.oat_verify.specs.Verdict.{Subject, FitsSession, Looks, JudgesPath, Replays, stuck, walked, Judges, IsVerdict, blob, form, carried, no_blob, Accepts, AcceptanceAtOnce, OneSerial, OneVerdict}
 use Rattle.oat_replay.proofs.OneStuck.{one_stuck}
 use Rattle.oat_first.specs.First.{fails, passes, IsOne, IsDecisive}
 use Rattle.oat_first.proofs.FirstLaws.{First-one, Tests-decisive}
@@ -34,8 +34,8 @@ reports_one : (violation : Option Violation) (path : List Edge) (v w : Verdict)
 reports_one None path v w is is' = is ∙ sym is'
 reports_one (Some x) path v w is is' = is ∙ sym is'
 
-settles_one : (head : List ℕ) (body : Body) (path : List Edge) → IsOne Verdict (Settles head body path)
-settles_one head body path = looks_one _ causes.Hash _ (reports_one body.head.violation path)
+judges_path_one : (head : List ℕ) (body : Body) (path : List Edge) → IsOne Verdict (JudgesPath head body path)
+judges_path_one head body path = looks_one _ causes.Hash _ (reports_one body.head.violation path)
 
 replays_one : (s : Subject) (body : Body) → IsOne Verdict (Replays s body)
 replays_one s body v w (stuck cause turn gets is) (stuck other next gets' is') =
@@ -47,11 +47,11 @@ replays_one s body v w (walked path walks settles) (stuck cause turn gets is) =
     absurd (never_both s.map s.session.op body.bits body.targets path cause turn walks gets)
 replays_one s body v w (walked path walks settles) (walked other walks' settles') =
     let same : path ≡ other = one_path s.map s.session.op body.bits body.targets path other walks walks' in
-    settles_one _ body path v w settles (rw same settles')
+    judges_path_one _ body path v w settles (rw same settles')
 
 judges_one : (s : Subject) (body : Body) (mac : List ℕ) → IsOne Verdict (Judges s body mac)
 judges_one s body mac =
-    looks_one _ causes.Mac _ (looks_one _ causes.Nonce _ (looks_one _ causes.Operation _ (looks_one _ causes.Image _ (replays_one s body))))
+    looks_one _ causes.Mac _ (looks_one _ causes.Nonce _ (looks_one _ (causes.Serial body.head.serial) _ (looks_one _ causes.Operation _ (looks_one _ causes.Image _ (replays_one s body)))))
 
 offset_below : (bytes : List ℕ) (one two : ℕ) → IsFormOffset bytes one → IsFormOffset bytes two → one < two → ⊥
 offset_below bytes one two first second below = first.longest two below second.within second.begins
@@ -75,6 +75,13 @@ one_verdict s bytes v w (form offset at is') (blob body mac is judges) = absurd 
 one_verdict s bytes v w (form offset at is) (form other at' is') =
     is ∙ ap (λ place. Refuse (causes.Form place)) (offset_one bytes offset other at at') ∙ sym is'
 
+pub one_serial : OneSerial
+one_serial bytes one two (carried body mac is same) (carried other other_mac is' same') =
+    same ∙ ap (λ (b : Body). b.head.serial) (one_body bytes body other mac other_mac is is').0 ∙ sym same'
+one_serial bytes one two (carried body mac is same) (no_blob none same') = absurd (none body mac is)
+one_serial bytes one two (no_blob none same) (carried body mac is same') = absurd (none body mac is)
+one_serial bytes one two (no_blob none same) (no_blob none' same') = same ∙ sym same'
+
 -- ---- an acceptance
 
 never_refused : (path : List Edge) (cause : Cause) → Accept path ≡ Refuse cause → ⊥
@@ -93,13 +100,13 @@ reported : (violation : Option Violation) (path accepted : List Edge)
 reported None path accepted is = (refl, accepted_path accepted path is)
 reported (Some x) path accepted is = absurd (never_refused accepted (causes.Critical x) is)
 
--- what is accepted beside the first four
+-- what is accepted beside the first five
 accepts_replay : (s : Subject) (bytes : List ℕ) (path : List Edge) (body : Body) (mac : List ℕ) → IsBlob bytes body mac
-    → mac ≡ hmac s.session.key (covered_of body) → body.head.nonce ≡ s.session.nonce → body.head.op ≡ s.session.op
+    → mac ≡ hmac s.session.key (covered_of body) → body.head.nonce ≡ s.session.nonce → FitsSession body.head.serial s.session.calls → body.head.op ≡ s.session.op
     → body.head.digest ≡ s.digest → Replays s body (Accept path) → Accepts s bytes path
-accepts_replay s bytes path body mac is right nonce op digest (stuck cause turn gets refused) =
+accepts_replay s bytes path body mac is right nonce serial op digest (stuck cause turn gets refused) =
     absurd (never_refused path (causes.Replay cause turn) refused)
-accepts_replay s bytes path body mac is right nonce op digest (walked other walks settles) =
+accepts_replay s bytes path body mac is right nonce serial op digest (walked other walks settles) =
     let hash = looked _ _ _ path settles in
     let clean = reported body.head.violation other path hash.1 in
     record {
@@ -108,6 +115,7 @@ accepts_replay s bytes path body mac is right nonce op digest (walked other walk
       is_blob = is;
       right_mac = right;
       nonce = nonce;
+      serial = serial;
       operation = op;
       image = digest;
       walked = rw clean.1 walks;
@@ -120,9 +128,10 @@ accepts s bytes path (form offset at is) = absurd (never_refused path (causes.Fo
 accepts s bytes path (blob body mac is judges) =
     let right_mac = looked _ _ _ path judges in
     let nonce = looked _ _ _ path right_mac.1 in
-    let operation = looked _ _ _ path nonce.1 in
+    let serial = looked _ _ _ path nonce.1 in
+    let operation = looked _ _ _ path serial.1 in
     let image = looked _ _ _ path operation.1 in
-    accepts_replay s bytes path body mac is right_mac.0 nonce.0 operation.0 image.0 image.1
+    accepts_replay s bytes path body mac is right_mac.0 nonce.0 serial.0 operation.0 image.0 image.1
 
 unreported : (violation : Option Violation) (path : List Edge) → violation ≡ None
     → MatchOption violation (Accept path ≡ Accept path) (λ x. Accept path ≡ Refuse (causes.Critical x))
@@ -130,8 +139,8 @@ unreported violation path none = rw none refl
 
 is_accepted : (s : Subject) (bytes : List ℕ) (path : List Edge) → Accepts s bytes path → IsVerdict s bytes (Accept path)
 is_accepted s bytes path a =
-    blob a.body a.mac a.is_blob (passes tt a.right_mac (passes tt a.nonce (passes tt a.operation (passes tt a.image
-    (walked path a.walked (passes tt a.hash (unreported a.body.head.violation path a.clean)))))))
+    blob a.body a.mac a.is_blob (passes tt a.right_mac (passes tt a.nonce (passes tt a.serial (passes tt a.operation (passes tt a.image
+    (walked path a.walked (passes tt a.hash (unreported a.body.head.violation path a.clean))))))))
 
 pub acceptance_at_once : AcceptanceAtOnce
 acceptance_at_once s bytes path = (accepts s bytes path, is_accepted s bytes path)

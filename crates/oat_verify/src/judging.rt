@@ -5,12 +5,12 @@ ghost use Rattle.oat_chain.specs.Standing.{StandsFor};
 ghost use Rattle.oat_map.specs.Walk.{returns_of};
 ghost use Rattle.oat_blob.specs.Layout.{covered_of};
 ghost use Rattle.oat_map.specs.Rows.{IsOperation};
-ghost use Rattle.oat_verify.specs.Verdict.{subject_of, Judges, Replays, Settles, IsVerdict};
+ghost use Rattle.oat_verify.specs.Verdict.{subject_of, FitsSession, Judges, JudgesPath, Replays, IsVerdict, CarriesSerial};
 
-use crate::verdict::{Cause, Verdict};
+use crate::verdict::{Cause, Settled, Verdict};
 use oat_blob::{BlobRef, decode};
 use oat_case::Session;
-use oat_chain::{Chain, begin_record};
+use oat_chain::{Chain, window_head};
 use oat_hmac::Mac;
 use oat_map::{Edge, Path};
 use oat_replay::{WalkFault, walk};
@@ -25,6 +25,17 @@ fn has_right_mac(session: &Session, blob: &BlobRef<'_>) -> bool
     mac.finish() == blob.mac()
 }
 
+/// Whether a session of so many calls has a window with such a serial number, or one without.
+fn fits_session(serial: Option<u32>, calls: Option<u32>) -> bool
+    ensures { IsTrue result ↔ FitsSession serial calls }
+{
+    match (serial, calls) {
+        (None, None) => true,
+        (Some(serial), Some(calls)) => serial < calls,
+        _ => false,
+    }
+}
+
 /// Chains the return that an edge makes, if it makes one.
 fn absorb_return(chain: &mut Chain, edge: &Edge)
     ensures { (head returns : List ℕ) → StandsFor chain.old head returns
@@ -35,7 +46,7 @@ fn absorb_return(chain: &mut Chain, edge: &Edge)
     }
 }
 
-/// The chain of a path's returns, behind the begin record.
+/// The chain of a path's returns, behind the window's head.
 fn hash_of(head: &[u8; 50], path: &[Edge]) -> [u8; 32]
     ensures { result ≡ chain head.now (returns_of path.now) }
 {
@@ -47,8 +58,8 @@ fn hash_of(head: &[u8; 50], path: &[Edge]) -> [u8; 32]
 }
 
 /// What is looked at once the replay has found a path.
-fn settle(head: &[u8; 50], blob: &BlobRef<'_>, path: Path) -> Verdict
-    ensures { Settles head.now blob.now.body path result }
+fn judge_path(head: &[u8; 50], blob: &BlobRef<'_>, path: Path) -> Verdict
+    ensures { JudgesPath head.now blob.now.body path result }
 {
     let body = blob.head();
     if body.hash != hash_of(head, path.as_slice()) {
@@ -69,9 +80,14 @@ fn replay(
     requires { IsOperation shaped.now.map session.now.op }
     ensures { IfOk result (Replays (subject_of shaped.now session.now) blob.now.body) }
 {
-    let head = begin_record(&session.nonce, session.op, &shaped.digest());
+    let head = window_head(
+        &session.nonce,
+        session.op,
+        &shaped.digest(),
+        blob.head().serial,
+    );
     match walk(alloc, &shaped.image().map, session.op, blob) {
-        Ok(path) => Ok(settle(&head, blob, path)),
+        Ok(path) => Ok(judge_path(&head, blob, path)),
         Err(WalkFault::Stuck { cause, turn }) => Ok(Verdict::Refuse(Cause::Replay { cause, turn })),
         Err(WalkFault::Memory) => Err(AllocError),
     }
@@ -94,6 +110,9 @@ fn judge(
     if head.nonce != session.nonce {
         return Ok(Verdict::Refuse(Cause::Nonce));
     }
+    if !fits_session(head.serial, session.calls) {
+        return Ok(Verdict::Refuse(Cause::Serial(head.serial)));
+    }
     if head.op != session.op {
         return Ok(Verdict::Refuse(Cause::Operation));
     }
@@ -101,6 +120,32 @@ fn judge(
         return Ok(Verdict::Refuse(Cause::Image));
     }
     replay(alloc, shaped, session, blob)
+}
+
+/// The verdict on a blob's bytes, in a session for one of the image's operations, and the serial
+/// number that they carry.
+///
+/// The error is want of memory.
+pub fn settle(
+    alloc: Global,
+    shaped: &Shaped,
+    session: &Session,
+    blob: &[u8],
+) -> Result<Settled, AllocError>
+    requires { IsOperation shaped.now.map session.now.op }
+    ensures verdict { IfOk result (λ settled. IsVerdict (subject_of shaped.now session.now) blob.now settled.verdict) }
+    ensures serial { IfOk result (λ settled. CarriesSerial blob.now settled.serial) }
+{
+    match decode(blob) {
+        Ok(blob) => Ok(Settled {
+            verdict: judge(alloc, shaped, session, &blob)?,
+            serial: blob.head().serial,
+        }),
+        Err(fault) => Ok(Settled {
+            verdict: Verdict::Refuse(Cause::Form(fault.offset)),
+            serial: None,
+        }),
+    }
 }
 
 /// The verdict on a blob's bytes, in a session for one of the image's operations.
@@ -115,8 +160,6 @@ pub fn verify(
     requires { IsOperation shaped.now.map session.now.op }
     ensures { IfOk result (IsVerdict (subject_of shaped.now session.now) blob.now) }
 {
-    match decode(blob) {
-        Ok(blob) => judge(alloc, shaped, session, &blob),
-        Err(fault) => Ok(Verdict::Refuse(Cause::Form(fault.offset))),
-    }
+    let settled = settle(alloc, shaped, session, blob)?;
+    Ok(settled.verdict)
 }

@@ -1,5 +1,5 @@
 use Rattle.std.proofs.Common.{refl, subst, List, ℕ}
-use Rattle.oat_verify.specs.Verdict.{stuck, walked, Settles}
+use Rattle.oat_verify.specs.Verdict.{stuck, walked, JudgesPath}
 use Rattle.oat_shape.proofs.Laid.{laid, starts}
 use Rattle.oat_verify.proofs.judging.replay.Goals as goal
 
@@ -13,8 +13,8 @@ walk-requires-clause-begun c = rw c.image.ensures.same (starts c.args.shaped.now
 pub returns-in-Ok : goal.returns-in-Ok
 returns-in-Ok c =
     walked c.in-Ok.path (rw c.image.ensures.same at c.in-Ok.ensures.walks)
-    (subst (λ (head : List ℕ). Settles head c.args.blob.now.body c.in-Ok.path c.settle.result)
-    (rw c.digest.ensures at c.begin_record-head.ensures) c.settle.ensures)
+    (subst (λ (head : List ℕ). JudgesPath head c.args.blob.now.body c.in-Ok.path c.judge_path.result)
+    (rw (c.digest.ensures, c.head.ensures) at c.window_head-head.ensures) c.judge_path.ensures)
 
 pub returns-in-Err-Stuck : goal.returns-in-Err-Stuck
 returns-in-Err-Stuck c =
