@@ -1,5 +1,5 @@
 -- The line of a verdict (docs/FORMATS.md, "Commands, texts and statuses").
-use Rattle.std.specs.Prelude.{ℕ, List, ◌++◌, codes}
+use Rattle.std.specs.Prelude.{ℕ, List, ◌++◌, Option, Some, None, codes}
 use Rattle.std.specs.Fmt.{decimal, signed_decimal}
 use Rattle.std.specs.Int.{w64, cast_signed}
 use Rattle.oat_blob.specs.declared.body.Violation.{Violation}
@@ -32,17 +32,28 @@ abbrev pub violation_text : Violation → List ℕ
 violation_text violation =
     codes "critical " ++ decimal violation.cell ++ space ++ value_text violation.expected ++ space ++ value_text violation.found
 
+-- the serial number that a blob carries, or a dash
+abbrev pub serial_text : Option ℕ → List ℕ
+serial_text None = codes "-"
+serial_text (Some serial) = decimal serial
+
 abbrev pub cause_text : Cause → List ℕ
 cause_text (causes.Form offset) = codes "form " ++ decimal offset
 cause_text causes.Mac = codes "mac"
 cause_text causes.Nonce = codes "nonce"
+cause_text (causes.Serial serial) = codes "serial " ++ serial_text serial
 cause_text causes.Operation = codes "operation"
 cause_text causes.Image = codes "image"
 cause_text (causes.Replay cause turn) = codes "replay " ++ decimal turn ++ space ++ replay_text cause
 cause_text causes.Hash = codes "hash"
 cause_text (causes.Critical violation) = violation_text violation
 
--- the line without its line end
-abbrev pub verdict_text : Verdict → List ℕ
-verdict_text (Accept path) = codes "accept"
-verdict_text (Refuse cause) = codes "refuse " ++ cause_text cause
+-- an acceptance says which window it is of, where windows are numbered
+abbrev pub acceptance_text : Option ℕ → List ℕ
+acceptance_text None = codes "accept"
+acceptance_text (Some serial) = codes "accept " ++ decimal serial
+
+-- the line without its line end, on a blob with such a serial number
+abbrev pub verdict_text : Option ℕ → Verdict → List ℕ
+verdict_text serial (Accept path) = acceptance_text serial
+verdict_text serial (Refuse cause) = codes "refuse " ++ cause_text cause

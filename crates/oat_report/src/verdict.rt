@@ -3,7 +3,7 @@
 ghost use Rattle.std.specs.Prelude.{◌≡◌, ◌++◌, OnOk, IfOk, codes};
 ghost use Rattle.std.specs.Fmt.{decimal};
 ghost use Rattle.oat_report.specs.PathLine.{address_digits};
-ghost use Rattle.oat_report.specs.VerdictLine.{value_text, replay_text, violation_text, cause_text, verdict_text};
+ghost use Rattle.oat_report.specs.VerdictLine.{value_text, replay_text, violation_text, serial_text, cause_text, acceptance_text, verdict_text};
 
 use crate::text::{put_address, put_number};
 use oat_blob::Violation;
@@ -75,6 +75,15 @@ fn put_offset(out: &mut Vec<u8>, offset: usize) -> Result<(), AllocError>
     put_number(out, offset)
 }
 
+fn put_serial(out: &mut Vec<u8>, serial: Option<u32>) -> Result<(), AllocError>
+    ensures { OnOk result (out.new.items ≡ out.old.items ++ (codes "serial " ++ serial_text serial)) }
+{
+    match serial {
+        Some(serial) => put_counted(out, b"serial ", serial),
+        None => out.extend_from_slice(b"serial -"),
+    }
+}
+
 fn put_cause(out: &mut Vec<u8>, cause: &Cause) -> Result<(), AllocError>
     ensures { OnOk result (out.new.items ≡ out.old.items ++ cause_text cause.now) }
 {
@@ -82,6 +91,7 @@ fn put_cause(out: &mut Vec<u8>, cause: &Cause) -> Result<(), AllocError>
         Cause::Form(offset) => put_offset(out, offset),
         Cause::Mac => out.extend_from_slice(b"mac"),
         Cause::Nonce => out.extend_from_slice(b"nonce"),
+        Cause::Serial(serial) => put_serial(out, serial),
         Cause::Operation => out.extend_from_slice(b"operation"),
         Cause::Image => out.extend_from_slice(b"image"),
         Cause::Replay { cause, turn } => put_replay(out, cause, turn),
@@ -98,12 +108,27 @@ fn refusal_line(alloc: Global, cause: &Cause) -> Result<Vec<u8>, AllocError>
     Ok(line)
 }
 
-/// The line of a verdict, without its line end (docs/FORMATS.md, "Commands, texts and statuses").
-pub fn verdict_line(alloc: Global, verdict: &Verdict) -> Result<Vec<u8>, AllocError>
-    ensures { IfOk result (λ line. line.items ≡ verdict_text verdict.now) }
+fn acceptance_line(alloc: Global, serial: Option<u32>) -> Result<Vec<u8>, AllocError>
+    ensures { IfOk result (λ line. line.items ≡ acceptance_text serial) }
+{
+    let mut line = Vec::from_slice(alloc, b"accept")?;
+    if let Some(serial) = serial {
+        put_counted(&mut line, b" ", serial)?;
+    }
+    Ok(line)
+}
+
+/// The line of a verdict on a blob with such a serial number, without its line end (docs/FORMATS.md,
+/// "Commands, texts and statuses").
+pub fn verdict_line(
+    alloc: Global,
+    serial: Option<u32>,
+    verdict: &Verdict,
+) -> Result<Vec<u8>, AllocError>
+    ensures { IfOk result (λ line. line.items ≡ verdict_text serial verdict.now) }
 {
     match verdict {
-        Verdict::Accept(_) => Ok(Vec::from_slice(alloc, b"accept")?),
+        Verdict::Accept(_) => acceptance_line(alloc, serial),
         Verdict::Refuse(cause) => refusal_line(alloc, cause),
     }
 }
