@@ -10,7 +10,7 @@ use Rattle.oat_blob.specs.Body.{Body}
 use Rattle.oat_blob.proofs.OneLayout.{one_body}
 use Rattle.oat_case.specs.declared.case.Session.{Session}
 use Rattle.oat_chain.specs.Chain.{chain}
-use Rattle.oat_chain.proofs.Lengths.{length-begin_record, length-digest}
+use Rattle.oat_chain.proofs.Lengths.{length-window_head, length-digest}
 use Rattle.oat_chain.proofs.Messages.{clash_exists}
 use Rattle.oat_image.specs.declared.image.Image.{Image}
 use Rattle.oat_image.specs.Grammar.{image_text}
@@ -26,8 +26,9 @@ use Rattle.oat_measure.specs.declared.call.MonitorCall.TheVariants as svc
 use Rattle.oat_journal.specs.Run.{Entry}
 use Rattle.oat_journal.specs.Journal.{IsEntryBounded}
 use Rattle.oat_journal.specs.Window.{made_call, returned, returns_of_run}
-use Rattle.oat_journal.specs.Measured.{dev, body_of, window_of, opening_of}
-use Rattle.oat_journal.proofs.RunLaws.{windows_are_traces, runs_report_their_window}
+use Rattle.oat_journal.specs.Measured.{dev, window_of, opening_of}
+use Rattle.oat_measure.specs.Shelving.{serial_of}
+use Rattle.oat_journal.proofs.RunLaws.{bodies_tell_windows, windows_are_traces}
 use Rattle.oat_verify.specs.Verdict.{Accepts, head_of, subject_of}
 use Rattle.oat_attest.specs.Lockstep.{ClashOfUnequalReturns}
 
@@ -134,24 +135,26 @@ path_fits flow op steps path walk is = subst (λ (edges_are : List Edge). AllFit
 
 -- ---- the clash
 
--- the begin record of an accepted session has 50 bytes
-head_length : (image : Image) (session : Session) (bytes : List ℕ) (path : List Edge) → Accepts (subject_of image session) bytes path → length (head_of (subject_of image session)) ≡ 50
-head_length image session bytes path accepted =
-    length-begin_record session.nonce session.op (sha256 (image_text image))
+-- what a window of an accepted session begins with has 50 bytes
+head_length : (image : Image) (session : Session) (bytes : List ℕ) (path : List Edge) (serial : Option ℕ) → Accepts (subject_of image session) bytes path → length (head_of (subject_of image session) serial) ≡ 50
+head_length image session bytes path serial accepted =
+    length-window_head session.nonce session.op (sha256 (image_text image)) serial
     (sym (ap length accepted.nonce) ∙ accepted.is_blob.body_fits.nonce.counted) (length-digest (image_text image))
 
 pub clash_of_unequal_returns : ClashOfUnequalReturns
-clash_of_unequal_returns image session begin_at setting bytes path accepted inputs writes n given reported unequal =
+clash_of_unequal_returns image session begin_at setting bytes path accepted inputs writes n s body given reported unequal =
     let o = opening_of image session begin_at in
     let run = dev image o inputs writes n in
-    let trace = windows_are_traces image o inputs writes n given reported.sealed in
-    let same = one_body bytes (body_of o run.state) accepted.body _ accepted.mac reported.blob accepted.is_blob in
-    let hash : run.state.hash ≡ accepted.body.head.hash = ap (λ (body : Body). body.head.hash) same.0 in
-    let chains : chain (head_of (subject_of image session)) (returns_of_run (window_of o run)) ≡ chain (head_of (subject_of image session)) (returns_of path) =
-    sym (runs_report_their_window image o inputs writes n reported.sealed).hash ∙ hash ∙ accepted.hash in
-    let clash = clash_exists (head_of (subject_of image session)) (returns_of_run (window_of o run)) (returns_of path)
-    (head_length image session bytes path accepted)
-    (run_fits (window_of o run) (λ k e at. (trace.made k e at).1))
+    let trace = windows_are_traces image o inputs writes n s body given reported.has in
+    let window = bodies_tell_windows image o inputs writes n s body reported.has in
+    let same = one_body bytes body accepted.body _ accepted.mac reported.blob accepted.is_blob in
+    let head = head_of (subject_of image session) in
+    let serial : accepted.body.head.serial ≡ serial_of o s = ap (λ (b : Body). b.head.serial) (sym same.0) ∙ window.serial in
+    let chains : chain (head (serial_of o s)) (returns_of_run (window_of o s run)) ≡ chain (head (serial_of o s)) (returns_of path) =
+    sym window.hash ∙ ap (λ (b : Body). b.head.hash) same.0 ∙ accepted.hash ∙ ap (λ (number : Option ℕ). chain (head number) (returns_of path)) serial in
+    let clash = clash_exists (head (serial_of o s)) (returns_of_run (window_of o s run)) (returns_of path)
+    (head_length image session bytes path (serial_of o s) accepted)
+    (run_fits (window_of o s run) (λ k e at. (trace.made k e at).1))
     (path_fits image.map session.op accepted.walked.steps path accepted.walked.walk accepted.walked.path_is)
     chains unequal in
     record { differ = unequal; first = clash.first; second = clash.second; place = clash.place; one_digest = clash.one_digest }

@@ -1,5 +1,5 @@
 -- The headline for `verify`, from same path, the clash of unequal returns, and exact violations: by whether the run's returns are those of the path.
-use Rattle.std.proofs.Common.{◌≡◌, ℕ, ℤ, inl, inr, List, All, None, sym, ap, ◌∙◌}
+use Rattle.std.proofs.Common.{◌≡◌, ℕ, ℤ, inl, inr, List, All, None, ap, ◌∙◌}
 use Rattle.oat_blob.specs.Body.{Body}
 use Rattle.oat_blob.proofs.OneLayout.{one_body}
 use Rattle.oat_case.specs.declared.case.Session.{Session}
@@ -10,7 +10,7 @@ use Rattle.oat_map.specs.declared.edge.Edge.{Edge}
 use Rattle.oat_map.specs.Walk.{returns_of}
 use Rattle.oat_journal.specs.Uses.{IsSound}
 use Rattle.oat_journal.specs.Window.{returns_of_run}
-use Rattle.oat_journal.specs.Measured.{dev, body_of, window_of, uses_of, opening_of}
+use Rattle.oat_journal.specs.Measured.{dev, window_of, uses_of, opening_of}
 use Rattle.oat_journal.proofs.RunLaws.{no_violation_means_sound}
 use Rattle.oat_verify.specs.Verdict.{Accepts, subject_of}
 use Rattle.oat_attest.proofs.Joining.{same_path}
@@ -20,25 +20,23 @@ use Rattle.oat_attest.specs.Lockstep.{SamePath, ClashOfUnequalReturns}
 
 -- an accepted run has no violation, and so each of its checked uses is sound
 all_sound : (image : Image) (session : Session) (begin_at : ℕ) (bytes : List ℕ) (path : List Edge) → Accepts (subject_of image session) bytes path
-    → (inputs : List ℤ) (writes : List Write) (n : ℕ)
-    → IsReported image session begin_at (dev image (opening_of image session begin_at) inputs writes n) bytes
-    → All IsSound (uses_of image (opening_of image session begin_at) (dev image (opening_of image session begin_at) inputs writes n))
-all_sound image session begin_at bytes path accepted inputs writes n reported =
-    let o = opening_of image session begin_at in
-    let run = dev image o inputs writes n in
-    let same = one_body bytes (body_of o run.state) accepted.body _ accepted.mac reported.blob accepted.is_blob in
-    let none : run.state.violation ≡ None = ap (λ (body : Body). body.head.violation) same.0 ∙ accepted.clean in
-    (no_violation_means_sound image o inputs writes n reported.sealed).sound none
+    → (inputs : List ℤ) (writes : List Write) (n s : ℕ) (body : Body)
+    → IsReported image session begin_at (dev image (opening_of image session begin_at) inputs writes n) s body bytes
+    → All IsSound (uses_of image (opening_of image session begin_at) s (dev image (opening_of image session begin_at) inputs writes n))
+all_sound image session begin_at bytes path accepted inputs writes n s body reported =
+    let same = one_body bytes body accepted.body _ accepted.mac reported.blob accepted.is_blob in
+    let none : body.head.violation ≡ None = ap (λ (b : Body). b.head.violation) same.0 ∙ accepted.clean in
+    (no_violation_means_sound image (opening_of image session begin_at) inputs writes n s body reported.has).sound none
 
 headline_from : SamePath → ClashOfUnequalReturns → Headline
-headline_from same_path clash image session begin_at setting bytes path accepted inputs writes n given reported =
+headline_from same_path clash image session begin_at setting bytes path accepted inputs writes n s body given reported =
     let o = opening_of image session begin_at in
-    let run_returns = returns_of_run (window_of o (dev image o inputs writes n)) in
+    let run_returns = returns_of_run (window_of o s (dev image o inputs writes n)) in
     decided run_returns (returns_of path)
     (λ equal.
-    let followed = same_path image session begin_at setting bytes path accepted inputs writes n given reported equal in
-    inl (record { executed = followed.0; sound = all_sound image session begin_at bytes path accepted inputs writes n reported; loaded = followed.2 }))
-    (λ unequal. inr (clash image session begin_at setting bytes path accepted inputs writes n given reported unequal))
+    let followed = same_path image session begin_at setting bytes path accepted inputs writes n s body given reported equal in
+    inl (record { executed = followed.0; sound = all_sound image session begin_at bytes path accepted inputs writes n s body reported; loaded = followed.2 }))
+    (λ unequal. inr (clash image session begin_at setting bytes path accepted inputs writes n s body given reported unequal))
 
 pub headline : Headline
 headline = headline_from same_path clash_of_unequal_returns

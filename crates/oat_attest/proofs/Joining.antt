@@ -23,9 +23,9 @@ use Rattle.oat_mem.specs.DataMemory.{global_address, word_in}
 use Rattle.oat_journal.specs.Journal.{IsMade}
 use Rattle.oat_journal.specs.Window.{made_call, executed_path, returned, bits_of_run, targets_of_run, returns_of_run}
 use Rattle.oat_journal.specs.Uses.{CheckedUse, defined_value, use_behind, uses_behind}
-use Rattle.oat_journal.specs.Measured.{dev, body_of, window_of, start_cells, opening_of}
+use Rattle.oat_journal.specs.Measured.{dev, window_of, start_cells, opening_of}
 use Rattle.oat_journal.specs.Trace.{IsQuiet, IsTrace}
-use Rattle.oat_journal.proofs.RunLaws.{windows_are_traces, runs_report_their_window}
+use Rattle.oat_journal.proofs.RunLaws.{bodies_tell_windows, windows_are_traces}
 use Rattle.oat_verify.specs.Verdict.{Accepts, subject_of}
 use Rattle.oat_attest.specs.Headline.{IsSetting, IsReported, calls_before}
 use Rattle.oat_attest.specs.Lockstep.{placed_of, Makes, ExecutesWalk, ExecutesUpToFirst, PassesCells, SamePath, Lockstep}
@@ -129,21 +129,20 @@ pub record IsAccepted (image : Image) (op begin_at : ℕ) (window : List Entry) 
 
 pub accepted : (image : Image) (session : Session) (begin_at : ℕ) → IsSetting image session begin_at
     → (bytes : List ℕ) (path : List Edge) → Accepts (subject_of image session) bytes path
-    → (inputs : List ℤ) (writes : List Write) (n : ℕ) → AreGiven inputs writes
-    → IsReported image session begin_at (dev image (opening_of image session begin_at) inputs writes n) bytes
-    → IsAccepted image session.op begin_at (window_of (opening_of image session begin_at) (dev image (opening_of image session begin_at) inputs writes n)) path
-accepted image session begin_at setting bytes path accepts inputs writes n given reported =
+    → (inputs : List ℤ) (writes : List Write) (n s : ℕ) (body : Body) → AreGiven inputs writes
+    → IsReported image session begin_at (dev image (opening_of image session begin_at) inputs writes n) s body bytes
+    → IsAccepted image session.op begin_at (window_of (opening_of image session begin_at) s (dev image (opening_of image session begin_at) inputs writes n)) path
+accepted image session begin_at setting bytes path accepts inputs writes n s body given reported =
     let o = opening_of image session begin_at in
-    let run = dev image o inputs writes n in
     let (at, has, begins) = setting.begins in
-    let window = runs_report_their_window image o inputs writes n reported.sealed in
-    let same : body_of o run.state ≡ accepts.body = (one_body bytes (body_of o run.state) accepts.body _ accepts.mac reported.blob accepts.is_blob).0 in
+    let window = bodies_tell_windows image o inputs writes n s body reported.has in
+    let same : body ≡ accepts.body = (one_body bytes body accepts.body _ accepts.mac reported.blob accepts.is_blob).0 in
     record {
       laid = laid image setting.well_formed setting.shaped;
       at = at;
       has = has;
       begins = begins;
-      trace = windows_are_traces image o inputs writes n given reported.sealed;
+      trace = windows_are_traces image o inputs writes n s body given reported.has;
       bits = sym window.bits ∙ ap (λ (b : Body). b.bits) same ∙ sym accepts.walked.bits_are;
       targets = sym window.targets ∙ ap (λ (b : Body). b.targets) same ∙ sym accepts.walked.targets_are;
     }
@@ -276,10 +275,10 @@ parts_there image op path es steps walk is p =
 -- ---- lockstep
 
 pub lockstep : Lockstep
-lockstep image session begin_at setting bytes path accepts inputs writes n given reported steps walk is =
+lockstep image session begin_at setting bytes path accepts inputs writes n s body given reported steps walk is =
     let op = session.op in
-    let es = window_of (opening_of image session begin_at) (dev image (opening_of image session begin_at) inputs writes n) in
-    let a = accepted image session begin_at setting bytes path accepts inputs writes n given reported in
+    let es = window_of (opening_of image session begin_at) s (dev image (opening_of image session begin_at) inputs writes n) in
+    let a = accepted image session begin_at setting bytes path accepts inputs writes n s body given reported in
     elim (outcome image op begin_at es path a steps walk is) [
       | follows f ↦
           let x = executes_walk image op steps walk es f in
@@ -312,19 +311,19 @@ following image op begin_at es path a same steps walk is =
     ]
 
 pub same_path : SamePath
-same_path image session begin_at setting bytes path accepts inputs writes n given reported same =
+same_path image session begin_at setting bytes path accepts inputs writes n s body given reported same =
     let op = session.op in
     let o = opening_of image session begin_at in
     let run = dev image o inputs writes n in
-    let es = window_of o run in
-    let a = accepted image session begin_at setting bytes path accepts inputs writes n given reported in
+    let es = window_of o s run in
+    let a = accepted image session begin_at setting bytes path accepts inputs writes n s body given reported in
     let w = accepts.walked in
     let f = following image op begin_at es path a same w.steps w.walk w.path_is in (
       walk_path image op w.steps w.walk es (executes_walk image op w.steps w.walk es f) ∙ sym w.path_is,
       λ steps walk is.
           let x = executes_walk image op steps walk es (following image op begin_at es path a same steps walk is) in (
             x,
-            subst (PassesCells image.map [] walk.partial.from walk.front) (sym (cells_used image (calls_before o run) es)) (walk_cells image a.laid op steps walk es x),
+            subst (PassesCells image.map [] walk.partial.from walk.front) (sym (cells_used image (calls_before o s run) es)) (walk_cells image a.laid op steps walk es x),
           ),
       f.loads,
     )

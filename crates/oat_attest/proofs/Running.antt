@@ -1,8 +1,7 @@
 -- The window of an honest sealed run is a walk, and its blob is accepted.
-use Rattle.std.proofs.Common.{◌≡◌, ◌⊎◌, inl, inr, ℕ, suc, true, eqb, List, [], ◌∷◌, ◌++◌, Some, None, refl, sym, ap, subst, ◌∙◌, arith}
+use Rattle.std.specs.Prelude.{IfSome, unwrap_or}
+use Rattle.std.proofs.Common.{◌≡◌, ◌+◌, ◌<◌, ◌⊎◌, inl, inr, ℕ, suc, Option, option_map, List, [], ◌∷◌, ◌++◌, Some, None, refl, sym, ap, subst, ◌∙◌, arith}
 use Rattle.std.specs.List.{slice_get}
-use Rattle.std.proofs.lemmas.Bool.{eq-eqb}
-use Rattle.std.proofs.lemmas.List.Elements.{All-contains}
 use Rattle.oat_a64.specs.Step.{next_pc}
 use Rattle.oat_chain.specs.Chain.{chain}
 use Rattle.oat_map.specs.declared.edge.Edge.{Edge}
@@ -11,26 +10,23 @@ use Rattle.oat_map.specs.declared.row.Row.TheVariants.{Begin}
 use Rattle.oat_map.specs.Rows.{after}
 use Rattle.oat_map.specs.Walk.{moved, Walk, bit_of, bits_of, target_of, targets_of, return_of, returns_of}
 use Rattle.oat_map.proofs.StackLemmas.{IsStack-empty}
+use Rattle.oat_measure.specs.Shelving.{serial_of}
 use Rattle.oat_measure.specs.declared.call.MonitorCall.TheVariants as svc
 use Rattle.oat_journal.specs.Run.{Entry}
-use Rattle.oat_journal.specs.Uses.{CheckedUse, IsSound}
-use Rattle.oat_journal.specs.Window.{made_call, executed_path, returned, recorded_bit, recorded_target}
-use Rattle.oat_journal.specs.Measured.{dev, body_of, window_of, uses_of, first_unsound, opening_of}
+use Rattle.oat_journal.specs.Window.{made_call, executed_path, returned, recorded_bit, recorded_target, returns_of_run}
+use Rattle.oat_journal.specs.Measured.{dev, window_of, opening_of}
 use Rattle.oat_journal.specs.Trace.{IsQuiet, IsTrace}
-use Rattle.oat_journal.proofs.RunLaws.{no_violation_means_sound}
-use Rattle.oat_journal.proofs.RunLaws.{windows_are_traces, runs_report_their_window}
+use Rattle.oat_journal.proofs.RunLaws.{bodies_are_called_for, bodies_tell_windows, no_violation_means_sound, windows_are_short, windows_are_traces}
 use Rattle.oat_verify.proofs.OneVerdict.{one_verdict, acceptance_at_once}
-use Rattle.oat_verify.specs.Verdict.{IsVerdict, subject_of, head_of}
+use Rattle.oat_verify.specs.Verdict.{FitsSession, IsVerdict, subject_of, head_of}
 use Rattle.oat_verify.specs.declared.verdict.Verdict.TheVariants.{Accept}
 use Rattle.oat_attest.specs.Honest.{TracesAreWalks, HonestRunsWalk, HonestRunsAreAccepted, SoundRunsAreAccepted}
 use Rattle.oat_attest.specs.Lockstep.{ExecutesWalk}
-use Rattle.oat_attest.proofs.Lists.{contains_get}
 use Rattle.oat_shape.proofs.Laid.{laid}
 use Rattle.oat_attest.proofs.Stretches.{Runs, moved_to}
 use Rattle.oat_attest.proofs.Places.{called_none}
 use Rattle.oat_attest.proofs.Executing.{bits_agree, targets_agree, returns_agree, executed_leads}
 use Rattle.oat_attest.proofs.Joining.{trace_runs, starts_at, walk_path, walk_records, walk_length}
-use Rattle.oat_journal.proofs.RunLaws.{windows_are_short}
 use Rattle.oat_attest.proofs.Walking.{NoneBegins, finds}
 
 -- ---- no operation begins in a trace
@@ -89,56 +85,72 @@ traces_are_walks image op begin_at es formed shaped (at, has, begins_there) trac
     }
 
 pub honest_runs_walk : HonestRunsWalk
-honest_runs_walk image session begin_at setting inputs writes n given sealed back =
+honest_runs_walk image session begin_at setting inputs writes n s body given has back =
     let o = opening_of image session begin_at in
-    let es = window_of o (dev image o inputs writes n) in
-    let w = traces_are_walks image session.op begin_at es setting.well_formed setting.shaped setting.begins (windows_are_traces image o inputs writes n given sealed) back in
-    let reports = runs_report_their_window image o inputs writes n sealed in
+    let es = window_of o s (dev image o inputs writes n) in
+    let w = traces_are_walks image session.op begin_at es setting.well_formed setting.shaped setting.begins (windows_are_traces image o inputs writes n s body given has) back in
+    let tells = bodies_tell_windows image o inputs writes n s body has in
     record {
       walk = w;
-      bits = w.bits ∙ sym reports.bits;
-      targets = w.targets ∙ sym reports.targets;
-      hash = reports.hash ∙ ap (chain (head_of (subject_of image session))) (sym w.returns);
-      within = (let s = w.short in let m = windows_are_short image o inputs writes n in omega arith);
+      bits = w.bits ∙ sym tells.bits;
+      targets = w.targets ∙ sym tells.targets;
+      hash = tells.hash
+          ∙ (ap (λ (number : Option ℕ). chain (head_of (subject_of image session) number) (returns_of_run es)) (sym tells.serial)
+          ∙ ap (chain (head_of (subject_of image session) body.head.serial)) (sym w.returns));
+      within = (let short = w.short in let m = windows_are_short image o inputs writes n s in omega arith);
     }
 
 -- ---- the verdict
 
+-- the number of a window that a session calls for
+fits_session : (calls serial : Option ℕ) (s most : ℕ) → serial ≡ option_map (λ (first : ℕ). first + s) (option_map (λ (n : ℕ). 0) calls) → most ≡ unwrap_or calls 1 → IfSome calls (λ k. 0 < k)
+    → ((s ≡ 0) ⊎ ((number : ℕ) × (serial ≡ Some number) × (number < most))) → FitsSession serial calls
+fits_session None serial s most is bound some due = subst (λ (n : Option ℕ). FitsSession n None) (sym is) tt
+fits_session (Some k) serial s most is bound some (inl first) =
+    let low : 0 + s < k = omega (arith, some, first) in
+    subst (λ (n : Option ℕ). FitsSession n (Some k)) (sym is) low
+fits_session (Some k) serial s most is bound some (inr due) =
+    let same : 0 + s ≡ due.0 = (let h : Some (0 + s) ≡ Some due.0 = sym is ∙ due.1 in cc) in
+    let few : due.0 < most = due.2 in
+    let low : 0 + s < k = omega (arith, few, same, bound) in
+    subst (λ (n : Option ℕ). FitsSession n (Some k)) (sym is) low
+
 pub honest_runs_are_accepted : HonestRunsAreAccepted
-honest_runs_are_accepted image session begin_at setting inputs writes n given sealed back clean few bytes blob =
+honest_runs_are_accepted image session begin_at setting inputs writes n s body given has back some clean few bytes blob =
     let o = opening_of image session begin_at in
-    let run = dev image o inputs writes n in
-    let path = executed_path image.map session.op (window_of o run) in
-    let w = honest_runs_walk image session begin_at setting inputs writes n given sealed back in
+    let path = executed_path image.map session.op (window_of o s (dev image o inputs writes n)) in
+    let w = honest_runs_walk image session begin_at setting inputs writes n s body given has back in
+    let tells = bodies_tell_windows image o inputs writes n s body has in
     record {
-      body = body_of o run.state;
+      body = body;
       mac = _;
       is_blob = blob;
       right_mac = refl;
-      nonce = refl;
-      operation = refl;
-      image = refl;
+      nonce = tells.nonce;
+      serial = subst (λ (number : Option ℕ). FitsSession number session.calls) (sym tells.serial)
+          (fits_session session.calls (serial_of o s) s o.calls refl refl some (bodies_are_called_for image o inputs writes n s body has));
+      operation = tells.op;
+      image = tells.digest;
       walked = record {
         steps = w.walk.steps;
         walk = w.walk.walk;
-        within = (let s = w.within in omega arith);
+        within = (let within = w.within in omega arith);
         path_is = w.walk.path;
         bits_are = ap bits_of w.walk.path ∙ w.bits;
         targets_are = ap targets_of w.walk.path ∙ w.targets;
       };
-      hash = w.hash ∙ ap (λ (xs : List Edge). chain (head_of (subject_of image session)) (returns_of xs)) (sym w.walk.path);
+      hash = w.hash ∙ ap (λ (xs : List Edge). chain (head_of (subject_of image session) body.head.serial) (returns_of xs)) (sym w.walk.path);
       clean = clean;
     }
 
 -- ---- as `verify` sees it
 
 pub sound_runs_are_accepted : SoundRunsAreAccepted
-sound_runs_are_accepted image session begin_at setting inputs writes n given sealed back sound few bytes blob v =
+sound_runs_are_accepted image session begin_at setting inputs writes n s body given has back some sound few bytes blob v =
     let o = opening_of image session begin_at in
-    let run = dev image o inputs writes n in
-    let clean = (no_violation_means_sound image o inputs writes n sealed).none sound in
-    let path = executed_path image.map session.op (window_of o run) in
-    let accepts = honest_runs_are_accepted image session begin_at setting inputs writes n given sealed back clean few bytes blob in
+    let clean = (no_violation_means_sound image o inputs writes n s body has).none sound in
+    let path = executed_path image.map session.op (window_of o s (dev image o inputs writes n)) in
+    let accepts = honest_runs_are_accepted image session begin_at setting inputs writes n s body given has back some clean few bytes blob in
     let verdict = (acceptance_at_once (subject_of image session) bytes path).1 accepts in (
       λ other. one_verdict (subject_of image session) bytes v (Accept path) other verdict,
       λ same. subst (IsVerdict (subject_of image session) bytes) (sym same) verdict,

@@ -2,6 +2,7 @@
 use Rattle.std.specs.Prelude.{◌≡◌, ◌≢◌, ◌+◌, ◌*◌, ◌⊎◌, ℕ, ℤ, List, Option, Some, Contains, map, slice_get}
 use Rattle.std.specs.List.{All}
 use Rattle.sha2.specs.Sha256.{sha256}
+use Rattle.oat_blob.specs.Body.{Body}
 use Rattle.oat_blob.specs.Layout.{IsBlobOf}
 use Rattle.oat_chain.specs.Chain.{messages, DiffersAt}
 use Rattle.oat_case.specs.declared.case.Session.{Session}
@@ -22,40 +23,45 @@ use Rattle.oat_map.specs.Rows.{BeginsAt}
 use Rattle.oat_journal.specs.Run.{Entry, AreGiven, pc_of}
 use Rattle.oat_journal.specs.Window.{executed_path, returns_of_run, made_call, up_to_window}
 use Rattle.oat_journal.specs.Uses.{CheckedUse, IsSound, uses_behind}
-use Rattle.oat_journal.specs.Measured.{Run, dev, opening_of, IsSealed, body_of, window_of, start_cells}
+use Rattle.oat_journal.specs.Measured.{HasBody, Run, dev, opening_of, start_cells, window_of}
+use Rattle.oat_measure.specs.Shelving.{serial_of}
 use Rattle.oat_verify.specs.Verdict.{Accepts, subject_of, head_of}
 
--- ---- the run and its window
+-- ---- runs and their windows
 
--- an image with the shape, and a session for one of its operations, whose window opens at begin_at
+-- an image with the shape, and a session for one of its operations, whose windows open at begin_at
 pub record IsSetting (image : Image) (session : Session) (begin_at : ℕ) : Type 0 where
   pub well_formed : IsWellFormedImage image
   pub shaped : IsShaped image
   pub begins : BeginsAt image.map session.op begin_at
 
--- A sealed run, and the blob of its body under the session's key.
-pub record IsReported (image : Image) (session : Session) (begin_at : ℕ) (run : Run) (bytes : List ℕ) : Type 0 where
-  pub sealed : IsSealed run
-  pub blob : IsBlobOf (body_of (opening_of image session begin_at) run.state) session.key bytes
+-- A run's body of a window, and its blob under the session's key.
+pub record IsReported (image : Image) (session : Session) (begin_at : ℕ) (run : Run) (s : ℕ) (body : Body) (bytes : List ℕ) : Type 0 where
+  pub has : HasBody (opening_of image session begin_at) run s body
+  pub blob : IsBlobOf body session.key bytes
 
--- the monitor calls that a run made up to the begin that opens its window
-abbrev pub calls_before : Opening → Run → List (Option MonitorCall)
-calls_before o run = map made_call (up_to_window made_call o.op o.begin_at run.journal)
+-- the monitor calls that a run made up to the begin that opens the window
+abbrev pub calls_before : Opening → ℕ → Run → List (Option MonitorCall)
+calls_before o s run = map made_call (up_to_window made_call o.op o.begin_at s run.journal)
 
 -- the checked uses of a window, behind the calls before it
 abbrev pub uses_in : Image → List (Option MonitorCall) → List Entry → List CheckedUse
 uses_in image before window = uses_behind (start_cells image) before (map made_call window)
 
--- What holds of the window of each device run whose blob these bytes are, and of the calls before it, whatever was given and written.
-abbrev pub OfRuns : Image → Session → ℕ → List ℕ → (List (Option MonitorCall) → List Entry → Type 0) → Type 0
+-- what is said of a window: of its number, where windows are numbered, of the calls before it, and of its instructions
+abbrev pub Claim : Type 1
+Claim = Option ℕ → List (Option MonitorCall) → List Entry → Type 0
+
+-- What holds of each window of a device run whose blob these bytes are, whatever was given and written.
+abbrev pub OfRuns : Image → Session → ℕ → List ℕ → Claim → Type 0
 OfRuns image session begin_at bytes claim =
-    (inputs : List ℤ) (writes : List Write) (n : ℕ) → AreGiven inputs writes
+    (inputs : List ℤ) (writes : List Write) (n s : ℕ) (body : Body) → AreGiven inputs writes
     → let o = opening_of image session begin_at in
     let run = dev image o inputs writes n in
-    IsReported image session begin_at run bytes → claim (calls_before o run) (window_of o run)
+    IsReported image session begin_at run s body bytes → claim (serial_of o s) (calls_before o s run) (window_of o s run)
 
 -- What holds of each accepted blob of a device run.
-abbrev pub OfAcceptedRuns : ((image : Image) → Session → List Edge → List (Option MonitorCall) → List Entry → Type 0) → Type 0
+abbrev pub OfAcceptedRuns : (Image → Session → List Edge → Claim) → Type 0
 OfAcceptedRuns claim =
     (image : Image) (session : Session) (begin_at : ℕ) → IsSetting image session begin_at
     → (bytes : List ℕ) (path : List Edge) → Accepts (subject_of image session) bytes path
@@ -116,10 +122,10 @@ pub record Clashes (head run_returns replay_returns : List ℕ) : Type 0 where
   pub one_digest : sha256 first ≡ sha256 second
 
 -- The run followed the path, or its returns and the replay's clash.
-abbrev pub FollowedOrClashes : Image → Session → List Edge → List (Option MonitorCall) → List Entry → Type 0
-FollowedOrClashes image session path before window =
+abbrev pub FollowedOrClashes : Image → Session → List Edge → Claim
+FollowedOrClashes image session path serial before window =
     Followed image session.op path before window
-    ⊎ Clashes (head_of (subject_of image session)) (returns_of_run window) (returns_of path)
+    ⊎ Clashes (head_of (subject_of image session) serial) (returns_of_run window) (returns_of path)
 
 -- The headline for `verify`.
 abbrev pub Headline : Type 0

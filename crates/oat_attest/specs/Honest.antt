@@ -1,7 +1,8 @@
 -- Honest runs: a window in which each return goes back to the site of its call is a walk, and its blob is accepted (docs/PROMISES.md).
-use Rattle.std.specs.Prelude.{◌≡◌, ◌↔◌, ◌≤◌, ℕ, ℤ, List, [], length, None}
+use Rattle.std.specs.Prelude.{◌≡◌, ◌↔◌, ◌≤◌, ◌<◌, ℕ, ℤ, List, [], length, None, IfSome}
 use Rattle.std.specs.List.{All}
 use Rattle.oat_a64.specs.Step.{next_pc}
+use Rattle.oat_blob.specs.Body.{Body}
 use Rattle.oat_blob.specs.Layout.{IsBlobOf}
 use Rattle.oat_case.specs.declared.case.Session.{Session}
 use Rattle.oat_case.specs.declared.case.Write.{Write}
@@ -14,7 +15,7 @@ use Rattle.oat_shape.specs.Shape.{IsShaped}
 use Rattle.oat_map.specs.Rows.{BeginsAt}
 use Rattle.oat_journal.specs.Uses.{IsSound}
 use Rattle.oat_journal.specs.Window.{executed_path, bits_of_run, targets_of_run, returns_of_run}
-use Rattle.oat_journal.specs.Measured.{Run, dev, IsSealed, body_of, window_of, uses_of, opening_of}
+use Rattle.oat_journal.specs.Measured.{HasBody, Run, dev, window_of, uses_of, opening_of}
 use Rattle.oat_journal.specs.Trace.{IsTrace}
 use Rattle.oat_verify.specs.Verdict.{Accepts, IsVerdict, subject_of, head_of}
 use Rattle.oat_verify.specs.declared.verdict.Verdict.{Verdict}
@@ -40,37 +41,39 @@ TracesAreWalks =
     (image : Image) (op begin_at : ℕ) (window : List Entry) → IsWellFormedImage image → IsShaped image → BeginsAt image.map op begin_at
     → IsTrace image.code op (next_pc begin_at) window → GoesBack turn_of [] (executed_path image.map op window) → IsWalkOf image op window
 
--- the sealed runs of an image, whatever was given and written, whose executed path goes back as it called
-abbrev pub OfHonestRuns : ((image : Image) → Session → ℕ → ℕ → Run → Type 0) → Type 0
+-- the windows of a run on an image that were sealed, whatever was given and written, and whose executed path goes back as it called
+abbrev pub OfHonestRuns : ((image : Image) → Session → ℕ → ℕ → Run → ℕ → Body → Type 0) → Type 0
 OfHonestRuns claim =
     (image : Image) (session : Session) (begin_at : ℕ) → IsSetting image session begin_at
-    → (inputs : List ℤ) (writes : List Write) (n : ℕ) → AreGiven inputs writes
+    → (inputs : List ℤ) (writes : List Write) (n s : ℕ) (body : Body) → AreGiven inputs writes
     → let o = opening_of image session begin_at in
     let run = dev image o inputs writes n in
-    IsSealed run → GoesBack turn_of [] (executed_path image.map session.op (window_of o run)) → claim image session begin_at n run
+    HasBody o run s body → GoesBack turn_of [] (executed_path image.map session.op (window_of o s run)) → claim image session begin_at n run s body
 
--- The window is that of a walk, with the records that the run reports, and with no more steps than the run has instructions.
-pub record IsWalkOfRun (image : Image) (session : Session) (begin_at n : ℕ) (run : Run) : Type 0 where
-  pub walk : IsWalkOf image session.op (window_of (opening_of image session begin_at) run)
-  pub bits : bits_of (path_of walk.steps) ≡ run.state.bits
-  pub targets : targets_of (path_of walk.steps) ≡ run.state.targets
-  pub hash : run.state.hash ≡ chain (head_of (subject_of image session)) (returns_of (path_of walk.steps))
+-- The window is that of a walk, with the records in its body, and with no more steps than the run has instructions.
+pub record IsWalkOfRun (image : Image) (session : Session) (begin_at n : ℕ) (run : Run) (s : ℕ) (body : Body) : Type 0 where
+  pub walk : IsWalkOf image session.op (window_of (opening_of image session begin_at) s run)
+  pub bits : bits_of (path_of walk.steps) ≡ body.bits
+  pub targets : targets_of (path_of walk.steps) ≡ body.targets
+  pub hash : body.head.hash ≡ chain (head_of (subject_of image session) body.head.serial) (returns_of (path_of walk.steps))
   pub within : length walk.steps ≤ n
 
 abbrev pub HonestRunsWalk : Type 0
 HonestRunsWalk = OfHonestRuns IsWalkOfRun
 
--- Honest runs are accepted: without a violation, and after at most so many instructions as a walk may have steps, the blob of the body is accepted with the executed path.
+-- a session that numbers its windows has one
+abbrev pub CallsForOne : Session → Type 0
+CallsForOne session = IfSome session.calls (λ calls. 0 < calls)
+
+-- Honest runs are accepted: without a violation, and after at most so many instructions as a walk may have steps, the blob of a body is accepted with its window's executed path.
 abbrev pub HonestRunsAreAccepted : Type 0
-HonestRunsAreAccepted = OfHonestRuns (λ image session begin_at n run.
-    run.state.violation ≡ None → n ≤ path_limit → (bytes : List ℕ)
-    → IsBlobOf (body_of (opening_of image session begin_at) run.state) session.key bytes
-    → Accepts (subject_of image session) bytes (executed_path image.map session.op (window_of (opening_of image session begin_at) run)))
+HonestRunsAreAccepted = OfHonestRuns (λ image session begin_at n run s body.
+    CallsForOne session → body.head.violation ≡ None → n ≤ path_limit → (bytes : List ℕ) → IsBlobOf body session.key bytes
+    → Accepts (subject_of image session) bytes (executed_path image.map session.op (window_of (opening_of image session begin_at) s run)))
 
 -- The same as `verify` sees it: where each checked use was sound, the one verdict on the blob is the acceptance of the executed path.
 abbrev pub SoundRunsAreAccepted : Type 0
-SoundRunsAreAccepted = OfHonestRuns (λ image session begin_at n run.
-    All IsSound (uses_of image (opening_of image session begin_at) run) → n ≤ path_limit → (bytes : List ℕ)
-    → IsBlobOf (body_of (opening_of image session begin_at) run.state) session.key bytes
+SoundRunsAreAccepted = OfHonestRuns (λ image session begin_at n run s body.
+    CallsForOne session → All IsSound (uses_of image (opening_of image session begin_at) s run) → n ≤ path_limit → (bytes : List ℕ) → IsBlobOf body session.key bytes
     → (v : Verdict)
-    → IsVerdict (subject_of image session) bytes v ↔ (v ≡ Accept (executed_path image.map session.op (window_of (opening_of image session begin_at) run))))
+    → IsVerdict (subject_of image session) bytes v ↔ (v ≡ Accept (executed_path image.map session.op (window_of (opening_of image session begin_at) s run))))

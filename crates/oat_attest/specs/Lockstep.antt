@@ -1,5 +1,6 @@
 -- Lockstep, same path, and the clash of unequal returns: the window of a run beside the walk of the path that is accepted for its blob (docs/PROMISES.md).
 use Rattle.std.specs.Prelude.{◌≡◌, ◌≢◌, ◌+◌, ◌⊎◌, ℕ, ℤ, true, false, List, [], ◌∷◌, ◌++◌, Option, Some, None, map, slice_get}
+use Rattle.oat_blob.specs.Body.{Body}
 use Rattle.oat_case.specs.declared.case.Session.{Session}
 use Rattle.oat_case.specs.declared.case.Write.{Write}
 use Rattle.oat_image.specs.declared.image.Image.{Image}
@@ -15,7 +16,7 @@ use Rattle.oat_measure.specs.declared.call.MonitorCall.TheVariants as svc
 use Rattle.oat_journal.specs.Run.{Entry, pc_of}
 use Rattle.oat_a64.specs.Kinds.{is_transfer}
 use Rattle.oat_journal.specs.Window.{executed_path, returns_of_run, made_call}
-use Rattle.oat_journal.specs.Measured.{dev, IsSealed, uses_of, first_unsound, opening_of}
+use Rattle.oat_journal.specs.Measured.{HasBody, dev, uses_of, first_unsound, opening_of}
 use Rattle.oat_verify.specs.Verdict.{subject_of, head_of}
 use Rattle.oat_attest.specs.Headline.{uses_in, OfAcceptedRuns, AllReadByLoad, Clashes, NamesCell}
 
@@ -141,7 +142,7 @@ pub record TakesPath (image : Image) (op : ℕ) (steps : List Step) (walk : Walk
 
 -- Lockstep: the run executes the walk of the accepted path, or executes it up to the run's first false return.
 abbrev pub Lockstep : Type 0
-Lockstep = OfAcceptedRuns (λ image session path before window.
+Lockstep = OfAcceptedRuns (λ image session path serial before window.
     (steps : List Step) (walk : Walk image.map session.op steps) → path ≡ path_of steps
     → TakesPath image session.op steps walk path window
     ⊎ ExecutesUpToFirst image session.op walk.partial.from walk.front path window)
@@ -162,7 +163,7 @@ PassesCells flow before from (step ∷ steps) cells =
 
 -- Same path: with equal returns the executed path is the accepted one. The run executes its walk, so that the checked uses are those of the rows that the walk passes, in order and each by its whole group; and each was read by the load of its own group.
 abbrev pub SamePath : Type 0
-SamePath = OfAcceptedRuns (λ image session path before window.
+SamePath = OfAcceptedRuns (λ image session path serial before window.
     returns_of_run window ≡ returns_of path
     → (executed_path image.map session.op window ≡ path)
     × ((steps : List Step) (walk : Walk image.map session.op steps) → path ≡ path_of steps
@@ -174,14 +175,14 @@ SamePath = OfAcceptedRuns (λ image session path before window.
 
 -- Clash of unequal returns.
 abbrev pub ClashOfUnequalReturns : Type 0
-ClashOfUnequalReturns = OfAcceptedRuns (λ image session path before window.
+ClashOfUnequalReturns = OfAcceptedRuns (λ image session path serial before window.
     returns_of_run window ≢ returns_of path
-    → Clashes (head_of (subject_of image session)) (returns_of_run window) (returns_of path))
+    → Clashes (head_of (subject_of image session) serial) (returns_of_run window) (returns_of path))
 
--- Exact violations: the violation that a sealed run reports is that of the first checked use that wasn't sound.
+-- Exact violations: the violation in a body is that of the first checked use of its window that wasn't sound.
 abbrev pub ExactViolations : Type 0
 ExactViolations =
-    (image : Image) (session : Session) (begin_at : ℕ) (inputs : List ℤ) (writes : List Write) (n : ℕ)
+    (image : Image) (session : Session) (begin_at : ℕ) (inputs : List ℤ) (writes : List Write) (n s : ℕ) (body : Body)
     → let o = opening_of image session begin_at in
     let run = dev image o inputs writes n in
-    IsSealed run → run.state.violation ≡ first_unsound (uses_of image o run)
+    HasBody o run s body → body.head.violation ≡ first_unsound (uses_of image o s run)
