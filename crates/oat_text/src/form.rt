@@ -2,7 +2,7 @@
 
 ghost use Rattle.std.specs.Prelude.{◌≡◌};
 ghost use Rattle.oat_text.specs.Grammar.{op_keyword};
-ghost use Rattle.oat_text.specs.Forms.{global_word, func_word, instr_word, term_word, spelled, form_of, global_kinds, func_kinds, instr_kinds, term_kinds, kinds_of, optional};
+ghost use Rattle.oat_text.specs.Forms.{global_word, func_word, instr_word, term_word, spelled, line_form, global_kinds, func_kinds, instr_kinds, term_kinds, kinds_of, optional};
 
 use oat_ir::BinOp;
 
@@ -320,8 +320,8 @@ impl TermForm {
 }
 
 /// The form that a first word begins.
-pub fn form_of(word: &[u8]) -> Option<LineForm>
-    ensures { result ≡ form_of word.now }
+pub fn line_form(word: &[u8]) -> Option<LineForm>
+    ensures { result ≡ line_form word.now }
 {
     FORMS.iter().copied().find(|form| word == form.spelled())
 }
