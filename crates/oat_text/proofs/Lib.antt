@@ -9,3 +9,6 @@ mod Finding
 mod Joined
 mod Spoken
 mod Lines
+mod Crossing
+mod Filling
+mod ReadBack

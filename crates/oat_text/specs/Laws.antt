@@ -1,5 +1,5 @@
 -- What is printed for a program is a text of it (docs/FORMATS.md, "Program text").
-use Rattle.std.specs.Prelude.{IsTrue}
+use Rattle.std.specs.Prelude.{ℕ, ◌≡◌, List, IsTrue, Ok}
 use Rattle.std.specs.List.{All}
 use Rattle.oat_lines.specs.Integer.{is_i64}
 use Rattle.oat_map.specs.Name.{IsName}
@@ -12,6 +12,7 @@ use Rattle.oat_ir.specs.declared.instr.Instr.{Instr}
 use Rattle.oat_ir.specs.declared.instr.Instr.TheVariants.{Const}
 use Rattle.oat_ir.specs.WellFormed.{IsProgram}
 use Rattle.oat_text.specs.Grammar.{IsProgramText, program_text}
+use Rattle.oat_text.specs.Bodies.{program_of}
 
 -- ---- what values of the Rust types have, and lists of numbers needn't: names are names, and numbers have 64 bits
 
@@ -38,7 +39,11 @@ pub record HasValues (program : Program) : Type 0 where
   pub globals : All HasGlobalValues program.globals
   pub funcs : All HasFuncValues program.funcs
 
--- ---- the law
+-- ---- the laws
 
 abbrev pub PrintedIsText : Type 0
 PrintedIsText = (program : Program) → IsProgram program → HasValues program → IsProgramText (program_text program) program
+
+-- a text of a program is read, and gives the program
+abbrev pub TextIsRead : Type 0
+TextIsRead = (text : List ℕ) (program : Program) → IsProgramText text program → program_of text ≡ Ok program

@@ -1,8 +1,13 @@
 //! Laws of the definitions.
 
-ghost use Rattle.oat_text.specs.Laws.{PrintedIsText};
+ghost use Rattle.oat_text.specs.Laws.{PrintedIsText, TextIsRead};
 
 /// What is printed for a program is a text of it.
 pub fn printed_is_text()
     ensures { PrintedIsText }
+{}
+
+/// A text of a program is read, and gives the program.
+pub fn text_is_read()
+    ensures { TextIsRead }
 {}
