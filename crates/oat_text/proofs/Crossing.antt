@@ -1,11 +1,11 @@
 -- What the two passes make of the lines that declare: globals, the head of a function, and its locals.
-use Rattle.std.proofs.Common.{◌≡◌, ℕ, suc, ◌+◌, ◌-◌, ◌<◌, ◌≤◌, Bool, true, false, eqb, ◌||◌, List, [], ◌∷◌, ◌++◌, length, map, take, drop, Ok, refl, sym, ap, ◌∙◌, subst, append_assoc, arith}
-use Rattle.std.specs.Prelude.{codes, Some, bytes_eq}
+use Rattle.std.proofs.Common.{◌≡◌, ℕ, suc, ◌≤◌, true, false, eqb, List, [], ◌∷◌, ◌++◌, length, map, take, drop, Ok, refl, sym, ap, ◌∙◌, subst, append_assoc, arith}
+use Rattle.std.specs.Prelude.{codes, bytes_eq}
 use Rattle.std.specs.List.{AllByRecursion, AllZip, IsDistinct, list_any}
 use Rattle.std.proofs.lemmas.Bool.{eqb-false, le-leb, ne_eqb}
 use Rattle.std.proofs.lemmas.List.{append-nil, length-map, length-take-le, map-append, take-append-drop}
+use Rattle.oat_lines.specs.Lines.{TextWord}
 use Rattle.oat_lines.specs.Reading.{between}
-use Rattle.oat_map.specs.Name.{IsName}
 use Rattle.oat_ir.specs.declared.program.GlobalItem.{GlobalItem}
 use Rattle.oat_ir.specs.declared.program.GlobalItem.TheVariants.{Scalar, FnScalar, Array, CriticalArray}
 use Rattle.oat_ir.specs.declared.func.Func.{Func}
@@ -16,7 +16,6 @@ use Rattle.oat_ir.specs.declared.func.Local.{Local}
 use Rattle.oat_ir.specs.declared.func.BlockIr.{BlockIr}
 use Rattle.oat_ir.specs.Distinct.{global_name, are_one_global, have_one_name, are_one_operation, have_one_operation, are_one_local}
 use Rattle.oat_ir.specs.WellFormed.{IsGlobal, IsLocal, IsRole}
-use Rattle.oat_text.specs.declared.form.LineForm.{LineForm}
 use Rattle.oat_text.specs.declared.form.LineForm.TheVariants as line
 use Rattle.oat_text.specs.declared.form.GlobalForm.{GlobalForm}
 use Rattle.oat_text.specs.declared.form.GlobalForm.TheVariants as globals
@@ -25,15 +24,15 @@ use Rattle.oat_text.specs.declared.form.WordKind.{WordKind}
 use Rattle.oat_text.specs.declared.form.WordKind.TheVariants as kind
 use Rattle.oat_text.specs.declared.head.Head.{Head}
 use Rattle.oat_text.specs.declared.head.Stage.{Stage}
-use Rattle.oat_text.specs.declared.head.Stage.TheVariants.{Outside, Locals, Inside, Behind}
-use Rattle.oat_text.specs.Words.{Word, Said, Keyword, Named, Typed, Parameter, Number, Integer, Says}
+use Rattle.oat_text.specs.declared.head.Stage.TheVariants.{Outside, Locals}
+use Rattle.oat_text.specs.Words.{Said, Named, Typed, Number, Integer, Says}
 use Rattle.oat_text.specs.Grammar.{Line, parameter, head_line}
 use Rattle.oat_text.specs.Grammar as grammar
 use Rattle.oat_text.specs.Passes.{each}
-use Rattle.oat_text.specs.Outline.{Outline, no_head, global_in, global_of, scalar_of, add_parameter, add_parameters, itself, local_name, begin_func, begin_operation, plain_line, operation_line, func_line, global_line, local_line, declare}
+use Rattle.oat_text.specs.Outline.{Outline, no_head, global_in, global_of, scalar_of, add_parameter, add_parameters, local_name, begin_func, begin_operation, plain_line, operation_line, func_line, global_line, local_line, declare}
 use Rattle.oat_text.specs.Bodies.{Bodies, fill}
 use Rattle.oat_text.proofs.Finding.{alike, fresh}
-use Rattle.oat_text.proofs.Lines.{Numbered, Say, Fits, Crosses, line_crossed, no_words, more_words, two_words}
+use Rattle.oat_text.proofs.Lines.{Numbered, Say, Crosses, line_crossed, more_words, two_words}
 use Rattle.oat_text.proofs.Spoken.{Suits, AllSuit, name_read, params_read, ty_read, parameter_read, integer_read, count_read}
 use Rattle.oat_text.proofs.Tables.{any_mapped}
 
@@ -52,7 +51,7 @@ four_suit k (a ∷ b ∷ c ∷ d ∷ []) all few = (all.0, (all.1.0, (all.1.1.0,
 four_suit k (a ∷ b ∷ c ∷ d ∷ e ∷ rest) all few = absurd (omega arith)
 
 -- a name that none of those before has
-pub name_fresh : {X : Type 0} (called : X → Word) (done : List X) (item : X) (rest : List X) → IsDistinct (alike called) (done ++ item ∷ rest)
+pub name_fresh : {X : Type 0} (called : X → TextWord) (done : List X) (item : X) (rest : List X) → IsDistinct (alike called) (done ++ item ∷ rest)
     → list_any (bytes_eq (called item)) (map called done) ≡ false
 name_fresh called done item rest d = sym (any_mapped (bytes_eq (called item)) called done) ∙ fresh called done item rest d
 
@@ -67,10 +66,10 @@ abbrev pub operations_of : List Func → List ℕ
 operations_of [] = []
 operations_of (f ∷ fs) = role_operations f.role ++ operations_of fs
 
-abbrev pub name_of : Func → Word
+abbrev pub name_of : Func → TextWord
 name_of f = f.name
 
-abbrev pub label_of : BlockIr → Word
+abbrev pub label_of : BlockIr → TextWord
 label_of b = b.label
 
 abbrev pub head_of : Func → Head
@@ -81,7 +80,7 @@ abbrev pub with_funcs : List GlobalItem → List Func → Outline
 with_funcs globals done = record { globals = globals; operations = operations_of done; funcs = map name_of done; heads = map head_of done; present = no_head; stage = Outside }
 
 -- a function has begun behind these
-abbrev pub in_func : List GlobalItem → List Func → Func → List Local → List Word → Stage → Outline
+abbrev pub in_func : List GlobalItem → List Func → Func → List Local → List TextWord → Stage → Outline
 in_func globals done f locals labels stage = record {
   globals = globals;
   operations = operations_of (done ++ f ∷ []);
@@ -93,19 +92,19 @@ in_func globals done f locals labels stage = record {
 
 -- ---- globals
 
-global_read : (form : GlobalForm) (g : GlobalItem) (name w x : Word) → Says w (Named name) → global_of form name x ≡ Ok g
+global_read : (form : GlobalForm) (g : GlobalItem) (name w x : TextWord) → Says w (Named name) → global_of form name x ≡ Ok g
     → global_in form (w ∷ x ∷ []) ≡ Ok g
 unfolding global_in
 global_read form g name w x says is = rw (says.0, name_read name says.1, is) refl
 
 module _ (done rest : List GlobalItem) (g : GlobalItem) (b : Bodies) (d : IsDistinct are_one_global (done ++ g ∷ rest)) where
-  global_steps : (form : GlobalForm) (n : ℕ) (words : List Word) → global_in form words ≡ Ok g
+  global_steps : (form : GlobalForm) (n : ℕ) (words : List TextWord) → global_in form words ≡ Ok g
       → (declare n (with_funcs done []) (line.Global form) words ≡ Ok (with_funcs (done ++ g ∷ []) [])) × (fill n b (line.Global form) words ≡ Ok b)
   unfolding declare global_line fill
   global_steps form n words is = (rw (is, fresh global_name done g rest d) refl, refl)
 
-  global_by : (form : GlobalForm) (name : Word) (s : Said) → ((x : Word) → Says x s → global_of form name x ≡ Ok g)
-      → (n : ℕ) (words : List Word) → AllZip Says words (Named name ∷ s ∷ [])
+  global_by : (form : GlobalForm) (name : TextWord) (s : Said) → ((x : TextWord) → Says x s → global_of form name x ≡ Ok g)
+      → (n : ℕ) (words : List TextWord) → AllZip Says words (Named name ∷ s ∷ [])
       → (declare n (with_funcs done []) (line.Global form) words ≡ Ok (with_funcs (done ++ g ∷ []) [])) × (fill n b (line.Global form) words ≡ Ok b)
   global_by form name s of n words said =
       let t = two_words (Named name) s words said in
@@ -138,7 +137,7 @@ global_crossed done rest (CriticalArray name len) b d fits lines more says =
 
 -- ---- parameters
 
-params_added : (n : ℕ) (done params rest : List Local) (words : List Word) → AllZip Says words (map parameter params)
+params_added : (n : ℕ) (done params rest : List Local) (words : List TextWord) → AllZip Says words (map parameter params)
     → AllByRecursion IsLocal params → IsDistinct are_one_local (done ++ (params ++ rest)) → add_parameters n done words ≡ Ok (done ++ params)
 unfolding each add_parameter
 params_added n done [] rest [] says fits d = rw append-nil refl
@@ -194,7 +193,7 @@ module _ (globals : List GlobalItem) (done rest : List Func) (f : Func) (names :
   abbrev begun : Outline
   begun = in_func globals done f params [] Locals
 
-  func_begun : (n : ℕ) (role : Role) (operations : List ℕ) (words : List Word) → f.role ≡ role → operations ≡ operations_of (done ++ f ∷ [])
+  func_begun : (n : ℕ) (role : Role) (operations : List ℕ) (words : List TextWord) → f.role ≡ role → operations ≡ operations_of (done ++ f ∷ [])
       → AllZip Says words (map parameter params) → begin_func n (opened operations) role f.name words ≡ Ok begun
   unfolding begin_func
   func_begun n role operations words is numbers says =
@@ -204,14 +203,14 @@ module _ (globals : List GlobalItem) (done rest : List Func) (f : Func) (names :
   no_operation : (role : Role) → f.role ≡ role → role_operations role ≡ [] → operations_of done ≡ operations_of (done ++ f ∷ [])
   no_operation role is none = sym (operations_last done f ∙ rw (is, none, append-nil) refl)
 
-  plain_declared : (n : ℕ) (words : List Word) → f.role ≡ Plain → AllZip Says words (Named f.name ∷ map parameter params)
+  plain_declared : (n : ℕ) (words : List TextWord) → f.role ≡ Plain → AllZip Says words (Named f.name ∷ map parameter params)
       → declare n (with_funcs globals done) (line.Func funcs.Plain) words ≡ Ok begun
   unfolding declare func_line plain_line
   plain_declared n words is said =
       let t = more_words (Named f.name) (map parameter params) words said in
       rw (t.2, t.3.0, name_read f.name t.3.1) (func_begun n Plain (operations_of done) t.1 is (no_operation Plain is refl) t.4)
 
-  main_declared : (n : ℕ) (words : List Word) → f.role ≡ Main → f.name ≡ codes "main" → f.params ≡ 0 → AllZip Says words []
+  main_declared : (n : ℕ) (words : List TextWord) → f.role ≡ Main → f.name ≡ codes "main" → f.params ≡ 0 → AllZip Says words []
       → declare n (with_funcs globals done) (line.Func funcs.Main) words ≡ Ok begun
   unfolding declare func_line
   main_declared n words is main none said =
@@ -219,7 +218,7 @@ module _ (globals : List GlobalItem) (done rest : List Func) (f : Func) (names :
       let says : AllZip Says words (map parameter params) = rw nothing said in
       rw (← main) (func_begun n Main (operations_of done) words is (no_operation Main is refl) says)
 
-  operation_declared : (n id : ℕ) (words : List Word) → f.role ≡ Operation id → 1 ≤ id → id ≤ 65535 → IsDistinct have_one_operation (done ++ f ∷ rest)
+  operation_declared : (n id : ℕ) (words : List TextWord) → f.role ≡ Operation id → 1 ≤ id → id ≤ 65535 → IsDistinct have_one_operation (done ++ f ∷ rest)
       → AllZip Says words (Number id ∷ Named f.name ∷ map parameter params)
       → declare n (with_funcs globals done) (line.Func funcs.Operation) words ≡ Ok begun
   unfolding declare func_line operation_line begin_operation

@@ -1,14 +1,13 @@
 -- What the two passes make of the lines of a function's blocks.
-use Rattle.std.proofs.Common.{◌≡◌, ℕ, zero, suc, ◌+◌, ◌<◌, ◌≤◌, Bool, true, false, List, [], ◌∷◌, ◌++◌, length, map, get_or, Ok, refl, sym, ap, ◌∙◌, subst, append_assoc, arith}
+use Rattle.std.proofs.Common.{◌≡◌, ℕ, zero, suc, ◌<◌, ◌≤◌, Bool, true, List, [], ◌∷◌, ◌++◌, length, map, get_or, Ok, refl, sym, ◌∙◌, subst, append_assoc, arith}
 use Rattle.std.specs.Prelude.{codes, Option, Some, None, slice_get, bytes_eq}
-use Rattle.std.specs.List.{All, AllByRecursion, AllZip, IsDistinct, flat_map, list_any}
+use Rattle.std.specs.List.{AllByRecursion, AllZip, IsDistinct, flat_map}
 use Rattle.std.proofs.lemmas.List.{append-nil, length-map, map-append}
 use Rattle.std.proofs.lemmas.List.Elements.{recursion_from_All}
+use Rattle.oat_lines.specs.Lines.{TextWord}
 use Rattle.oat_lines.specs.Reading.{between}
 use Rattle.oat_ir.specs.declared.program.Program.{Program}
-use Rattle.oat_ir.specs.declared.program.GlobalItem.{GlobalItem}
 use Rattle.oat_ir.specs.declared.func.Func.{Func}
-use Rattle.oat_ir.specs.declared.func.Local.{Local}
 use Rattle.oat_ir.specs.declared.func.BlockIr.{BlockIr}
 use Rattle.oat_ir.specs.declared.instr.Instr.{Instr}
 use Rattle.oat_ir.specs.declared.instr.Instr.TheVariants.{Const, Copy, Binary, Load, Store, LoadX, StoreX, RefTo, Call, ICall, Input, Output}
@@ -22,53 +21,52 @@ use Rattle.oat_text.specs.declared.form.InstrForm.{InstrForm}
 use Rattle.oat_text.specs.declared.form.InstrForm.TheVariants as instrs
 use Rattle.oat_text.specs.declared.form.TermForm.{TermForm}
 use Rattle.oat_text.specs.declared.form.TermForm.TheVariants as terms
-use Rattle.oat_text.specs.declared.form.WordKind.{WordKind}
 use Rattle.oat_text.specs.declared.form.WordKind.TheVariants as kind
 use Rattle.oat_text.specs.declared.head.Stage.{Stage}
-use Rattle.oat_text.specs.declared.head.Stage.TheVariants.{Outside, Locals, Inside, Behind}
-use Rattle.oat_text.specs.Words.{Word, Said, Keyword, Named, Typed, Parameter, Number, Integer, Says}
+use Rattle.oat_text.specs.declared.head.Stage.TheVariants.{Locals, Inside, Behind}
+use Rattle.oat_text.specs.Words.{Said, Keyword, Named, Integer, Says}
 use Rattle.oat_text.specs.Grammar.{Line, local_at, block_at, global_at, func_at}
 use Rattle.oat_text.specs.Grammar as grammar
 use Rattle.oat_text.specs.Forms.{instr_word, term_word}
 use Rattle.oat_text.specs.Outline.{Outline, itself, local_name, stands, block_line, declare}
-use Rattle.oat_text.specs.Bodies.{Scope, Bodies, number_of, arguments, copy_of, load_of, store_of, ref_of, binary_of, const_of, loadx_of, storex_of, call_of, icall_of, instr_of, branch_of, term_of, scope_of, scope_in, instr_in, term_in, instr_line, term_line, fill}
+use Rattle.oat_text.specs.Bodies.{Scope, Bodies, index_of, arguments, copy_of, load_of, store_of, ref_of, binary_of, const_of, loadx_of, storex_of, call_of, icall_of, instr_of, branch_of, term_of, scope_of, instr_in, term_in, instr_line, term_line, fill}
 use Rattle.oat_text.proofs.Crossing.{is_between, four_suit, name_fresh, name_of, label_of, head_of, with_funcs, in_func}
 use Rattle.oat_text.proofs.Finding.{alike, found_at}
-use Rattle.oat_text.proofs.Lines.{Numbered, Say, Fits, Crosses, here, onward, line_crossed, no_words, one_word, more_words, two_words, three_words}
+use Rattle.oat_text.proofs.Lines.{Numbered, Say, Fits, Crosses, here, onward, line_crossed, one_word, more_words, two_words, three_words}
 use Rattle.oat_text.proofs.Spoken.{Suits, AllSuit, name_read, integer_read}
 use Rattle.oat_text.proofs.Tables.{place_mapped}
 
 -- ---- names
 
-name_found : {X : Type 0} (called : X → Word) (xs : List X) (i : ℕ) (word : Word) → IsDistinct (alike called) xs → i < length xs
-    → word ≡ get_or (map called xs) i [] → number_of itself (map called xs) word ≡ Some i
+name_found : {X : Type 0} (called : X → TextWord) (xs : List X) (i : ℕ) (word : TextWord) → IsDistinct (alike called) xs → i < length xs
+    → word ≡ get_or (map called xs) i [] → index_of itself (map called xs) word ≡ Some i
 name_found called xs i word apart within is = sym (place_mapped (bytes_eq word) called xs) ∙ found_at called xs i word apart within is
 
 -- ---- bodies
 
 -- the blocks of the functions that have ended, those of the present one, and what has come of the next block
-abbrev pub filled : Program → List Func → List BlockIr → Option Word → List Instr → Bodies
+abbrev pub filled : Program → List Func → List BlockIr → Option TextWord → List Instr → Bodies
 filled p done blocks label instrs = record { outline = with_funcs p.globals p.funcs; ended = map (λ f. f.blocks) done; blocks = blocks; label = label; instrs = instrs }
 
 module _ (p : Program) (f : Func) (program : IsProgram p) (func : IsFunc p f) where
   abbrev scope : Scope
   scope = scope_of (with_funcs p.globals p.funcs) (head_of f)
 
-  local_found : (x : ℕ) (word : Word) → HasLocal f x → Says word (local_at f x) → number_of local_name f.locals word ≡ Some x
+  local_found : (x : ℕ) (word : TextWord) → HasLocal f x → Says word (local_at f x) → index_of local_name f.locals word ≡ Some x
   local_found x word has says = found_at local_name f.locals x word func.local_names has says.0
 
-  global_found : (g : ℕ) (word : Word) → HasGlobal p g → Says word (global_at p g) → number_of global_name p.globals word ≡ Some g
+  global_found : (g : ℕ) (word : TextWord) → HasGlobal p g → Says word (global_at p g) → index_of global_name p.globals word ≡ Some g
   global_found g word has says = found_at global_name p.globals g word program.global_names has says.0
 
-  func_found : (g : ℕ) (word : Word) → HasFunc p g → Says word (func_at p g) → number_of itself (map name_of p.funcs) word ≡ Some g
+  func_found : (g : ℕ) (word : TextWord) → HasFunc p g → Says word (func_at p g) → index_of itself (map name_of p.funcs) word ≡ Some g
   func_found g word has says = name_found name_of p.funcs g word program.func_names has says.0
 
-  block_found : (c : ℕ) (word : Word) → HasBlock f c → Says word (block_at f c) → number_of itself (map label_of f.blocks) word ≡ Some c
+  block_found : (c : ℕ) (word : TextWord) → HasBlock f c → Says word (block_at f c) → index_of itself (map label_of f.blocks) word ≡ Some c
   block_found c word has says = name_found label_of f.blocks c word func.labels has says.0
 
   -- ---- words
 
-  args_read : (most : ℕ) (args : List ℕ) (words : List Word) → length args ≤ most → AllByRecursion (HasLocal f) args
+  args_read : (most : ℕ) (args : List ℕ) (words : List TextWord) → length args ≤ most → AllByRecursion (HasLocal f) args
       → AllZip Says words (map (local_at f) args) → arguments scope most words ≡ Ok args
   unfolding arguments
   args_read most [] [] few has says = refl
@@ -88,7 +86,7 @@ module _ (p : Program) (f : Func) (program : IsProgram p) (func : IsFunc p f) wh
     args_number : between 2 6 (suc (suc (length (map (local_at f) args)))) ≡ true
     args_number = is_between 2 6 (suc (suc (length (map (local_at f) args)))) (omega arith) (let few = are.0 in omega (arith, length-map args (local_at f)))
 
-    call_read : (x g : ℕ) (words : List Word) → HasLocal f x → HasFunc p g → AllZip Says words (local_at f x ∷ func_at p g ∷ map (local_at f) args)
+    call_read : (x g : ℕ) (words : List TextWord) → HasLocal f x → HasFunc p g → AllZip Says words (local_at f x ∷ func_at p g ∷ map (local_at f) args)
         → instr_of scope instrs.Call words ≡ Ok (Call x g args)
     unfolding instr_of call_of
     call_read x g words has names said =
@@ -96,7 +94,7 @@ module _ (p : Program) (f : Func) (program : IsProgram p) (func : IsFunc p f) wh
         let u = more_words (func_at p g) (map (local_at f) args) t.1 t.4 in
         rw (t.2, u.2, local_found x t.0 has t.3, func_found g u.0 names u.3, args_read 4 args u.1 are.0 (recursion_from_All (HasLocal f) args are.1) u.4) refl
 
-    icall_read : (x y : ℕ) (words : List Word) → HasLocal f x → HasLocal f y → AllZip Says words (local_at f x ∷ local_at f y ∷ map (local_at f) args)
+    icall_read : (x y : ℕ) (words : List TextWord) → HasLocal f x → HasLocal f y → AllZip Says words (local_at f x ∷ local_at f y ∷ map (local_at f) args)
         → instr_of scope instrs.ICall words ≡ Ok (ICall x y args)
     unfolding instr_of icall_of
     icall_read x y words has also said =
@@ -107,16 +105,16 @@ module _ (p : Program) (f : Func) (program : IsProgram p) (func : IsFunc p f) wh
   -- ---- lines
 
   -- so far, both passes stand within a block of this function
-  module _ (done : List Func) (at : slice_get (map head_of p.funcs) (length (map (λ (g : Func). g.blocks) done)) ≡ Some (head_of f)) (labels : List Word) where
+  module _ (done : List Func) (at : slice_get (map head_of p.funcs) (length (map (λ (g : Func). g.blocks) done)) ≡ Some (head_of f)) (labels : List TextWord) where
     abbrev inside : Stage → Outline
     inside stage = in_func p.globals done f f.locals labels stage
 
-    module _ (blocks : List BlockIr) (label : Word) where
+    module _ (blocks : List BlockIr) (label : TextWord) where
       abbrev within : List Instr → Bodies
       within instrs = filled p done blocks (Some label) instrs
 
       instr_by : (i : Instr) (so_far : List Instr) (form : InstrForm) (saids : List Said) → Fits (line.Instr form) saids
-          → ((words : List Word) → AllZip Says words saids → instr_of scope form words ≡ Ok i)
+          → ((words : List TextWord) → AllZip Says words saids → instr_of scope form words ≡ Ok i)
           → (lines : Numbered) (more : List Line) → Say lines ((Keyword (instr_word form) ∷ saids) ∷ more)
           → Crosses (inside Inside) (inside Inside) (within so_far) (within (so_far ++ i ∷ [])) lines more
       unfolding declare fill instr_line instr_in
@@ -187,7 +185,7 @@ module _ (p : Program) (f : Func) (program : IsProgram p) (func : IsFunc p f) wh
       behind so_far term = filled p done (blocks ++ record { label = label; instrs = so_far; term = term } ∷ []) None []
 
       term_by : (t : Term) (so_far : List Instr) (form : TermForm) (saids : List Said) → Fits (line.Term form) saids
-          → ((words : List Word) → AllZip Says words saids → term_of scope form words ≡ Ok t)
+          → ((words : List TextWord) → AllZip Says words saids → term_of scope form words ≡ Ok t)
           → (lines : Numbered) (more : List Line) → Say lines ((Keyword (term_word form) ∷ saids) ∷ more)
           → Crosses (inside Inside) (inside Behind) (within so_far) (behind so_far t) lines more
       unfolding declare fill term_line term_in
@@ -249,7 +247,7 @@ module _ (p : Program) (f : Func) (program : IsProgram p) (func : IsFunc p f) wh
         let tail : List Line = grammar.term_line f c.term ∷ more in
         let said : Say lines ((Keyword (codes "block") ∷ Named c.label ∷ []) ∷ (map (grammar.instr_line p f) c.instrs ++ tail)) =
             rw (← append_assoc (map (grammar.instr_line p f) c.instrs) (grammar.term_line f c.term ∷ []) more) says in
-        let labels : List Word = map label_of (before ++ c ∷ []) in
+        let labels : List TextWord = map label_of (before ++ c ∷ []) in
         onward (begun_crossed before rest c stage place apart lines (map (grammar.instr_line p f) c.instrs ++ tail) said)
         (λ left first. onward (instrs_crossed done at labels before c.label [] c.instrs (recursion_from_All (IsInstr p f) c.instrs has.0) left tail first)
             (λ last second. term_crossed done at labels before c.label c.term c.instrs has.1 last more second))

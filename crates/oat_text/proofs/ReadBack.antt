@@ -1,29 +1,29 @@
 -- A text of a program is read, and gives the program.
-use Rattle.std.proofs.Common.{◌≡◌, ℕ, ◌+◌, ◌<◌, ◌≤◌, List, [], ◌∷◌, ◌++◌, length, map, take, drop, Ok, refl, sym, ap, ◌∙◌, subst, append_assoc, arith}
+use Rattle.std.proofs.Common.{◌≡◌, ◌<◌, List, [], ◌∷◌, ◌++◌, length, map, take, drop, Ok, refl, sym, ap, ◌∙◌, subst, append_assoc, arith}
 use Rattle.std.specs.Prelude.{codes, Some, None, slice_get, zip}
-use Rattle.std.specs.List.{All, AllByRecursion, IsDistinct, flat_map}
+use Rattle.std.specs.List.{AllByRecursion, IsDistinct, flat_map}
 use Rattle.std.proofs.lemmas.List.{append-nil, length-append, length-map, map-append, take-append-drop}
 use Rattle.std.proofs.lemmas.Option.{slice_get_read}
 use Rattle.std.proofs.Math.Seq.{get_or-append_seam}
 use Rattle.std.proofs.lemmas.List.Elements.{recursion_from_All}
+use Rattle.oat_lines.specs.Faults.{Gives}
 use Rattle.oat_lines.specs.Lines.{lines_of}
 use Rattle.oat_ir.specs.declared.program.Program.{Program}
 use Rattle.oat_ir.specs.declared.program.GlobalItem.{GlobalItem}
 use Rattle.oat_ir.specs.declared.func.Func.{Func}
 use Rattle.oat_ir.specs.declared.func.Local.{Local}
-use Rattle.oat_ir.specs.declared.func.BlockIr.{BlockIr}
 use Rattle.oat_ir.specs.Distinct.{are_one_global, have_one_name, have_one_operation, are_one_local}
 use Rattle.oat_ir.specs.WellFormed.{IsGlobal, IsLocal, IsBlockIr, IsFunc, IsProgram}
-use Rattle.oat_text.specs.declared.head.Head.{Head}
 use Rattle.oat_text.specs.declared.head.Stage.TheVariants.{Locals}
 use Rattle.oat_text.specs.Words.{Keyword}
-use Rattle.oat_text.specs.Grammar.{Line, IsProgramText, head_line, local_line, block_lines, func_lines, global_line, program_lines}
-use Rattle.oat_text.specs.Laws.{TextIsRead}
-use Rattle.oat_text.specs.Passes.{numbered, each, over}
-use Rattle.oat_text.specs.Outline.{nothing, outline_line, outline_of}
-use Rattle.oat_text.specs.Bodies.{Bodies, no_bodies, body_line, bodies_of, func_from, program_from, program_of}
+use Rattle.oat_text.specs.Grammar.{Line, local_line, block_lines, func_lines, global_line, program_lines, program_text}
+use Rattle.oat_text.specs.Laws.{TextIsRead, PrintedIsRead}
+use Rattle.oat_text.specs.Passes.{OrFault, numbered, each}
+use Rattle.oat_text.specs.Outline.{nothing, outline_of}
+use Rattle.oat_text.specs.Bodies.{Bodies, bodies_of, func_from}
 use Rattle.oat_text.proofs.Crossing.{name_of, head_of, with_funcs, in_func, global_crossed, head_crossed, local_crossed}
 use Rattle.oat_text.proofs.Filling.{filled, body_crossed, end_crossed}
+use Rattle.oat_text.proofs.Programs.{printed}
 use Rattle.oat_text.proofs.Lines.{Numbered, Say, Crosses, here, onward, numbered_words, say_from_zip}
 
 -- ---- globals
@@ -126,3 +126,9 @@ text_read text p is =
     let outline : outline_of text ≡ Ok (with_funcs p.globals p.funcs) = rw (all.outline, none) refl in
     let bodies : bodies_of (with_funcs p.globals p.funcs) text ≡ Ok (filled p p.funcs [] None []) = rw (all.bodies, none) refl in
     rw (outline, bodies, funcs_back p.funcs) refl
+
+pub is_only : (text : List ℕ) (answer : OrFault Program) → Gives (λ p. p) answer (program_of text) → (p : Program) → IsProgramText text p → Gives (λ p. p) answer (Ok p)
+is_only text answer gives p is = subst (λ (read : OrFault Program). Gives (λ (q : Program). q) answer read) (text_read text p is) gives
+
+pub printed_back : PrintedIsRead
+printed_back p fits values = text_read (program_text p) p (printed p fits values)

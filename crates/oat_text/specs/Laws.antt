@@ -47,3 +47,7 @@ PrintedIsText = (program : Program) → IsProgram program → HasValues program 
 -- a text of a program is read, and gives the program
 abbrev pub TextIsRead : Type 0
 TextIsRead = (text : List ℕ) (program : Program) → IsProgramText text program → program_of text ≡ Ok program
+
+-- what is printed for a program is read, and gives the program back
+abbrev pub PrintedIsRead : Type 0
+PrintedIsRead = (program : Program) → IsProgram program → HasValues program → program_of (program_text program) ≡ Ok program
