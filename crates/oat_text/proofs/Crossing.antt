@@ -121,7 +121,7 @@ global_crossed done rest (Scalar name start false) b d fits lines more says =
     line_crossed (with_funcs done []) (with_funcs (done ++ Scalar name start false ∷ []) []) b b (line.Global globals.Plain) (Named name ∷ Integer start ∷ [])
     (record { suits = (tt, (tt, tt)); number = refl }) refl
     (global_by done rest (Scalar name start false) b d globals.Plain name (Integer start)
-        (λ x s. rw ((integer_read x start s.0 s.1).2, (integer_read x start s.0 s.1).0) refl)) lines more says
+    (λ x s. rw ((integer_read x start s.0 s.1).2, (integer_read x start s.0 s.1).0) refl)) lines more says
 global_crossed done rest (FnScalar name params) b d fits lines more says =
     line_crossed (with_funcs done []) (with_funcs (done ++ FnScalar name params ∷ []) []) b b (line.Global globals.Plain) (Named name ∷ Typed (ty.Fn params) ∷ [])
     (record { suits = (tt, (fits, tt)); number = refl }) refl
@@ -145,7 +145,7 @@ params_added n done [] rest (w ∷ ws) says fits d = absurd says
 params_added n done (p ∷ ps) rest [] says fits d = absurd says
 params_added n done (p ∷ ps) rest (w ∷ ws) says fits d =
     let one : add_parameter n done w ≡ Ok (done ++ p ∷ []) =
-        rw (says.0.0, (parameter_read p.name p.ty says.0.1 fits.0).0, fresh local_name done p (ps ++ rest) d) refl in
+    rw (says.0.0, (parameter_read p.name p.ty says.0.1 fits.0).0, fresh local_name done p (ps ++ rest) d) refl in
     let again : IsDistinct are_one_local ((done ++ p ∷ []) ++ (ps ++ rest)) = rw (append_assoc done (p ∷ []) (ps ++ rest)) d in
     rw one (params_added n (done ++ p ∷ []) ps rest ws says.1 fits.1 again ∙ ap Ok (append_assoc done (p ∷ []) ps))
 
@@ -259,5 +259,5 @@ local_crossed globals done f so_far rest l b apart fits lines more says =
     line_crossed (in_func globals done f so_far [] Locals) (in_func globals done f (so_far ++ l ∷ []) [] Locals) b b line.Local (Named l.name ∷ Typed l.ty ∷ [])
     (record { suits = (tt, (fits, tt)); number = refl }) refl
     (λ n words said.
-        let t = two_words (Named l.name) (Typed l.ty) words said in
-        (rw (t.2, t.3.0, name_read l.name t.3.1, t.4, (ty_read l.ty fits).0, fresh local_name so_far l rest apart) refl, refl)) lines more says
+    let t = two_words (Named l.name) (Typed l.ty) words said in
+    (rw (t.2, t.3.0, name_read l.name t.3.1, t.4, (ty_read l.ty fits).0, fresh local_name so_far l rest apart) refl, refl)) lines more says

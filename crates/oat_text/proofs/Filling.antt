@@ -129,43 +129,43 @@ module _ (p : Program) (f : Func) (program : IsProgram p) (func : IsFunc p f) wh
       instr_crossed (Const x value) so_far has =
           instr_by (Const x value) so_far instrs.Const (local_at f x ∷ Integer value ∷ []) (record { suits = (tt, (tt, tt)); number = refl })
           (λ words said.
-              let t = two_words (local_at f x) (Integer value) words said in
-              rw (t.2, local_found x t.0 has t.3, (integer_read t.1 value t.4.0 t.4.1).0) refl)
+          let t = two_words (local_at f x) (Integer value) words said in
+          rw (t.2, local_found x t.0 has t.3, (integer_read t.1 value t.4.0 t.4.1).0) refl)
       instr_crossed (Copy x y) so_far has =
           instr_by (Copy x y) so_far instrs.Copy (local_at f x ∷ local_at f y ∷ []) (record { suits = (tt, (tt, tt)); number = refl })
           (λ words said.
-              let t = two_words (local_at f x) (local_at f y) words said in
-              rw (t.2, local_found x t.0 has.0 t.3, local_found y t.1 has.1 t.4) refl)
+          let t = two_words (local_at f x) (local_at f y) words said in
+          rw (t.2, local_found x t.0 has.0 t.3, local_found y t.1 has.1 t.4) refl)
       instr_crossed (Binary op x y z) so_far has =
           instr_by (Binary op x y z) so_far (instrs.Binary op) (local_at f x ∷ local_at f y ∷ local_at f z ∷ []) (record { suits = (tt, (tt, (tt, tt))); number = refl })
           (λ words said.
-              let t = three_words (local_at f x) (local_at f y) (local_at f z) words said in
-              rw (t.3, local_found x t.0 has.0 t.4, local_found y t.1 has.1 t.5, local_found z t.2 has.2 t.6) refl)
+          let t = three_words (local_at f x) (local_at f y) (local_at f z) words said in
+          rw (t.3, local_found x t.0 has.0 t.4, local_found y t.1 has.1 t.5, local_found z t.2 has.2 t.6) refl)
       instr_crossed (Load x global) so_far has =
           instr_by (Load x global) so_far instrs.Load (local_at f x ∷ global_at p global ∷ []) (record { suits = (tt, (tt, tt)); number = refl })
           (λ words said.
-              let t = two_words (local_at f x) (global_at p global) words said in
-              rw (t.2, local_found x t.0 has.0 t.3, global_found global t.1 has.1 t.4) refl)
+          let t = two_words (local_at f x) (global_at p global) words said in
+          rw (t.2, local_found x t.0 has.0 t.3, global_found global t.1 has.1 t.4) refl)
       instr_crossed (Store global x) so_far has =
           instr_by (Store global x) so_far instrs.Store (global_at p global ∷ local_at f x ∷ []) (record { suits = (tt, (tt, tt)); number = refl })
           (λ words said.
-              let t = two_words (global_at p global) (local_at f x) words said in
-              rw (t.2, global_found global t.0 has.0 t.3, local_found x t.1 has.1 t.4) refl)
+          let t = two_words (global_at p global) (local_at f x) words said in
+          rw (t.2, global_found global t.0 has.0 t.3, local_found x t.1 has.1 t.4) refl)
       instr_crossed (LoadX x array i) so_far has =
           instr_by (LoadX x array i) so_far instrs.LoadX (local_at f x ∷ global_at p array ∷ local_at f i ∷ []) (record { suits = (tt, (tt, (tt, tt))); number = refl })
           (λ words said.
-              let t = three_words (local_at f x) (global_at p array) (local_at f i) words said in
-              rw (t.3, local_found x t.0 has.0 t.4, global_found array t.1 has.1 t.5, local_found i t.2 has.2 t.6) refl)
+          let t = three_words (local_at f x) (global_at p array) (local_at f i) words said in
+          rw (t.3, local_found x t.0 has.0 t.4, global_found array t.1 has.1 t.5, local_found i t.2 has.2 t.6) refl)
       instr_crossed (StoreX array i x) so_far has =
           instr_by (StoreX array i x) so_far instrs.StoreX (global_at p array ∷ local_at f i ∷ local_at f x ∷ []) (record { suits = (tt, (tt, (tt, tt))); number = refl })
           (λ words said.
-              let t = three_words (global_at p array) (local_at f i) (local_at f x) words said in
-              rw (t.3, global_found array t.0 has.0 t.4, local_found i t.1 has.1 t.5, local_found x t.2 has.2 t.6) refl)
+          let t = three_words (global_at p array) (local_at f i) (local_at f x) words said in
+          rw (t.3, global_found array t.0 has.0 t.4, local_found i t.1 has.1 t.5, local_found x t.2 has.2 t.6) refl)
       instr_crossed (RefTo x g) so_far has =
           instr_by (RefTo x g) so_far instrs.RefTo (local_at f x ∷ func_at p g ∷ []) (record { suits = (tt, (tt, tt)); number = refl })
           (λ words said.
-              let t = two_words (local_at f x) (func_at p g) words said in
-              rw (t.2, local_found x t.0 has.0 t.3, func_found g t.1 has.1 t.4) refl)
+          let t = two_words (local_at f x) (func_at p g) words said in
+          rw (t.2, local_found x t.0 has.0 t.3, func_found g t.1 has.1 t.4) refl)
       instr_crossed (Call x g args) so_far has =
           instr_by (Call x g args) so_far instrs.Call (local_at f x ∷ func_at p g ∷ map (local_at f) args)
           (record { suits = (tt, (tt, args_suit args has.2)); number = args_number args has.2 })
@@ -203,8 +203,8 @@ module _ (p : Program) (f : Func) (program : IsProgram p) (func : IsFunc p f) wh
       term_crossed (Branch x first second) so_far has =
           term_by (Branch x first second) so_far terms.Branch (local_at f x ∷ block_at f first ∷ block_at f second ∷ []) (record { suits = (tt, (tt, (tt, tt))); number = refl })
           (λ words said.
-              let t = three_words (local_at f x) (block_at f first) (block_at f second) words said in
-              rw (t.3, local_found x t.0 has.0 t.4, block_found first t.1 has.1 t.5, block_found second t.2 has.2 t.6) refl)
+          let t = three_words (local_at f x) (block_at f first) (block_at f second) words said in
+          rw (t.3, local_found x t.0 has.0 t.4, block_found first t.1 has.1 t.5, block_found second t.2 has.2 t.6) refl)
       term_crossed (Ret x) so_far has =
           term_by (Ret x) so_far terms.Ret (local_at f x ∷ []) (record { suits = (tt, tt); number = refl })
           (λ words said. let t = one_word (local_at f x) words said in rw (t.1, local_found x t.0 has t.2) refl)
@@ -219,7 +219,7 @@ module _ (p : Program) (f : Func) (program : IsProgram p) (func : IsFunc p f) wh
       instrs_crossed so_far (i ∷ is) has lines more says =
           onward (instr_crossed i so_far has.0 lines (map (grammar.instr_line p f) is ++ more) says)
           (λ left said. subst (λ (all : List Instr). Crosses (inside Inside) (inside Inside) (within (so_far ++ i ∷ [])) (within all) left more) (append_assoc so_far (i ∷ []) is)
-              (instrs_crossed (so_far ++ i ∷ []) is has.1 left more said))
+          (instrs_crossed (so_far ++ i ∷ []) is has.1 left more said))
 
   -- a block, where one may begin
   module _ (done : List Func) (at : slice_get (map head_of p.funcs) (length (map (λ (g : Func). g.blocks) done)) ≡ Some (head_of f)) where
@@ -234,11 +234,10 @@ module _ (p : Program) (f : Func) (program : IsProgram p) (func : IsFunc p f) wh
         line_crossed (so_far_in before stage) (so_far_in (before ++ c ∷ []) Inside) (filled p done before None []) (filled p done before (Some c.label) [])
         line.Block (Named c.label ∷ []) (record { suits = (tt, tt); number = refl }) (place _)
         (λ n words said.
-            let t = one_word (Named c.label) words said in
-            (
-              rw (t.1, t.2.0, name_read c.label t.2.1, name_fresh label_of before c rest apart, map-append label_of before (c ∷ [])) refl,
-              rw (t.1, t.2.0, name_read c.label t.2.1) refl,
-            )) lines more says
+        let t = one_word (Named c.label) words said in (
+          rw (t.1, t.2.0, name_read c.label t.2.1, name_fresh label_of before c rest apart, map-append label_of before (c ∷ [])) refl,
+          rw (t.1, t.2.0, name_read c.label t.2.1) refl,
+        )) lines more says
 
     block_crossed : (before rest : List BlockIr) (c : BlockIr) (stage : Stage) → ((first : Bool) → stands stage first line.Block ≡ true)
         → IsDistinct have_one_label (before ++ c ∷ rest) → IsBlockIr p f c → (lines : Numbered) (more : List Line) → Say lines (grammar.block_lines p f c ++ more)
@@ -246,11 +245,11 @@ module _ (p : Program) (f : Func) (program : IsProgram p) (func : IsFunc p f) wh
     block_crossed before rest c stage place apart has lines more says =
         let tail : List Line = grammar.term_line f c.term ∷ more in
         let said : Say lines ((Keyword (codes "block") ∷ Named c.label ∷ []) ∷ (map (grammar.instr_line p f) c.instrs ++ tail)) =
-            rw (← append_assoc (map (grammar.instr_line p f) c.instrs) (grammar.term_line f c.term ∷ []) more) says in
+        rw (← append_assoc (map (grammar.instr_line p f) c.instrs) (grammar.term_line f c.term ∷ []) more) says in
         let labels : List TextWord = map label_of (before ++ c ∷ []) in
         onward (begun_crossed before rest c stage place apart lines (map (grammar.instr_line p f) c.instrs ++ tail) said)
         (λ left first. onward (instrs_crossed done at labels before c.label [] c.instrs (recursion_from_All (IsInstr p f) c.instrs has.0) left tail first)
-            (λ last second. term_crossed done at labels before c.label c.term c.instrs has.1 last more second))
+        (λ last second. term_crossed done at labels before c.label c.term c.instrs has.1 last more second))
 
     -- the blocks behind the first
     pub blocks_crossed : (before todo : List BlockIr) → IsDistinct have_one_label (before ++ todo) → AllByRecursion (IsBlockIr p f) todo
@@ -263,7 +262,7 @@ module _ (p : Program) (f : Func) (program : IsProgram p) (func : IsFunc p f) wh
         let again : IsDistinct have_one_label ((before ++ c ∷ []) ++ cs) = rw (append_assoc before (c ∷ []) cs) apart in
         onward (block_crossed before cs c Behind (λ first. refl) apart has.0 lines tail said)
         (λ left first. subst (λ (all : List BlockIr). Crosses (so_far_in (before ++ c ∷ []) Behind) (so_far_in all Behind) (filled p done (before ++ c ∷ []) None []) (filled p done all None []) left more)
-            (append_assoc before (c ∷ []) cs) (blocks_crossed (before ++ c ∷ []) cs again has.1 left more first))
+        (append_assoc before (c ∷ []) cs) (blocks_crossed (before ++ c ∷ []) cs again has.1 left more first))
 
     -- all blocks; there is one
     pub body_crossed : (blocks : List BlockIr) → 1 ≤ length blocks → IsDistinct have_one_label blocks → AllByRecursion (IsBlockIr p f) blocks

@@ -1,6 +1,6 @@
 -- Lines that say those of a program, and what the two passes make of one of them.
-use Rattle.std.proofs.Common.{◌≡◌, ℕ, suc, ◌+◌, ◌-◌, Bool, true, false, not, cond, eqb, List, [], ◌∷◌, length, map, Result, Ok, refl, sym, ap, ◌∙◌}
-use Rattle.std.specs.Prelude.{filter, Some, if◌then◌else◌}
+use Rattle.std.proofs.Common.{◌≡◌, ℕ, suc, ◌+◌, ◌-◌, Bool, true, false, not, cond, eqb, List, [], ◌∷◌, length, map, Ok, refl, ap, ◌∙◌}
+use Rattle.std.specs.Prelude.{Some, if◌then◌else◌}
 use Rattle.std.specs.List.{AllZip, list_all}
 use Rattle.oat_lines.specs.Lines.{TextWord, words_of, is_skipped, counting}
 use Rattle.oat_lines.specs.Reading.{between}
@@ -16,10 +16,10 @@ use Rattle.oat_text.specs.Words.{Said, Keyword, Says}
 use Rattle.oat_text.specs.Grammar.{Line}
 use Rattle.oat_text.specs.Forms.{spelled, line_form, kinds_of, optional}
 use Rattle.oat_text.specs.Readings.{is_printable, is_shaped, is_in_range, all_pass, has_number}
-use Rattle.oat_text.specs.Passes.{OrFault, numbered, each, over}
+use Rattle.oat_text.specs.Passes.{numbered, each, over}
 use Rattle.oat_text.specs.Outline.{Outline, stands, fitting, tested, declare, outline_line}
 use Rattle.oat_text.specs.Bodies.{Bodies, fill, body_line}
-use Rattle.oat_text.proofs.Spoken.{Suits, AllSuit, passes}
+use Rattle.oat_text.proofs.Spoken.{AllSuit, passes}
 
 -- ---- lines with their numbers
 

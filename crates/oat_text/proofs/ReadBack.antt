@@ -1,5 +1,5 @@
 -- A text of a program is read, and gives the program.
-use Rattle.std.proofs.Common.{◌≡◌, ◌<◌, List, [], ◌∷◌, ◌++◌, length, map, take, drop, Ok, refl, sym, ap, ◌∙◌, subst, append_assoc, arith}
+use Rattle.std.proofs.Common.{◌≡◌, ℕ, ◌<◌, List, [], ◌∷◌, ◌++◌, length, map, take, drop, Ok, refl, sym, ap, ◌∙◌, subst, append_assoc, arith}
 use Rattle.std.specs.Prelude.{codes, Some, None, slice_get, zip}
 use Rattle.std.specs.List.{AllByRecursion, IsDistinct, flat_map}
 use Rattle.std.proofs.lemmas.List.{append-nil, length-append, length-map, map-append, take-append-drop}
@@ -16,11 +16,11 @@ use Rattle.oat_ir.specs.Distinct.{are_one_global, have_one_name, have_one_operat
 use Rattle.oat_ir.specs.WellFormed.{IsGlobal, IsLocal, IsBlockIr, IsFunc, IsProgram}
 use Rattle.oat_text.specs.declared.head.Stage.TheVariants.{Locals}
 use Rattle.oat_text.specs.Words.{Keyword}
-use Rattle.oat_text.specs.Grammar.{Line, local_line, block_lines, func_lines, global_line, program_lines, program_text}
-use Rattle.oat_text.specs.Laws.{TextIsRead, PrintedIsRead}
+use Rattle.oat_text.specs.Grammar.{IsProgramText, program_text, Line, local_line, block_lines, func_lines, global_line, program_lines, program_text}
+use Rattle.oat_text.specs.Laws.{TextIsRead, PrintedIsRead, PrintedIsRead}
 use Rattle.oat_text.specs.Passes.{OrFault, numbered, each}
 use Rattle.oat_text.specs.Outline.{nothing, outline_of}
-use Rattle.oat_text.specs.Bodies.{Bodies, bodies_of, func_from}
+use Rattle.oat_text.specs.Bodies.{program_of, Bodies, bodies_of, func_from}
 use Rattle.oat_text.proofs.Crossing.{name_of, head_of, with_funcs, in_func, global_crossed, head_crossed, local_crossed}
 use Rattle.oat_text.proofs.Filling.{filled, body_crossed, end_crossed}
 use Rattle.oat_text.proofs.Programs.{printed}
@@ -35,7 +35,7 @@ globals_crossed done (g ∷ gs) b apart fits lines more says =
     let again : IsDistinct are_one_global ((done ++ g ∷ []) ++ gs) = rw (append_assoc done (g ∷ []) gs) apart in
     onward (global_crossed done gs g b apart fits.0 lines (map global_line gs ++ more) says)
     (λ left said. subst (λ (all : List GlobalItem). Crosses (with_funcs (done ++ g ∷ []) []) (with_funcs all []) b b left more) (append_assoc done (g ∷ []) gs)
-        (globals_crossed (done ++ g ∷ []) gs b again fits.1 left more said))
+    (globals_crossed (done ++ g ∷ []) gs b again fits.1 left more said))
 
 -- ---- functions
 
@@ -47,7 +47,7 @@ locals_crossed globals done f so_far (l ∷ ls) b apart fits lines more says =
     let again : IsDistinct are_one_local ((so_far ++ l ∷ []) ++ ls) = rw (append_assoc so_far (l ∷ []) ls) apart in
     onward (local_crossed globals done f so_far ls l b apart fits.0 lines (map local_line ls ++ more) says)
     (λ left said. subst (λ (all : List Local). Crosses (in_func globals done f (so_far ++ l ∷ []) [] Locals) (in_func globals done f all [] Locals) b b left more) (append_assoc so_far (l ∷ []) ls)
-        (locals_crossed globals done f (so_far ++ l ∷ []) ls b again fits.1 left more said))
+    (locals_crossed globals done f (so_far ++ l ∷ []) ls b again fits.1 left more said))
 
 all_first : {X : Type 0} (P : X → Type 0) (xs ys : List X) → AllByRecursion P (xs ++ ys) → AllByRecursion P xs × AllByRecursion P ys
 all_first P [] ys all = (tt, all)
@@ -57,7 +57,7 @@ all_first P (x ∷ xs) ys all = let more = all_first P xs ys all.1 in ((all.0, m
 head_next : (done rest : List Func) (f : Func) → slice_get (map head_of (done ++ f ∷ rest)) (length (map (λ (g : Func). g.blocks) done)) ≡ Some (head_of f)
 head_next done rest f =
     let same : length (map (λ (g : Func). g.blocks) done) ≡ length (map head_of done) =
-        length-map done (λ (g : Func). g.blocks) ∙ sym (length-map done head_of) in
+    length-map done (λ (g : Func). g.blocks) ∙ sym (length-map done head_of) in
     let heads = map head_of done ++ head_of f ∷ map head_of rest in
     let within : length (map head_of done) < length heads = rw length-append (omega arith) in
     rw (map-append head_of done (f ∷ rest), same)
@@ -85,11 +85,11 @@ module _ (p : Program) (program : IsProgram p) where
       let said = subst (λ (all : List Line). Say lines all) (lines_joined _ _ (map local_line others) body more) says in
       onward (head_crossed p.globals done rest f names locals.0 fits.local_names fits.few_params fits.params_first b f.role refl fits.role operations lines (map local_line others ++ ending) said)
       (λ after first. onward
-          (subst (λ (all : List Local). Crosses (in_func p.globals done f params [] Locals) (in_func p.globals done f all [] Locals) b b after ending) joined
-              (locals_crossed p.globals done f params others b apart locals.1 after ending first))
-          (λ behind second. onward
-              (body_crossed p f program fits done at f.blocks fits.begun fits.labels (recursion_from_All (IsBlockIr p f) f.blocks fits.blocks) behind ((Keyword (codes "end") ∷ []) ∷ more) second)
-              (λ last third. end_crossed p f program fits done at last more third)))
+      (subst (λ (all : List Local). Crosses (in_func p.globals done f params [] Locals) (in_func p.globals done f all [] Locals) b b after ending) joined
+      (locals_crossed p.globals done f params others b apart locals.1 after ending first))
+      (λ behind second. onward
+      (body_crossed p f program fits done at f.blocks fits.begun fits.labels (recursion_from_All (IsBlockIr p f) f.blocks fits.blocks) behind ((Keyword (codes "end") ∷ []) ∷ more) second)
+      (λ last third. end_crossed p f program fits done at last more third)))
 
   funcs_crossed : (done todo : List Func) → p.funcs ≡ done ++ todo → AllByRecursion (IsFunc p) todo → (lines : Numbered) → Say lines (flat_map (func_lines p) todo)
       → Crosses (with_funcs p.globals done) (with_funcs p.globals (done ++ todo)) (filled p done [] None []) (filled p (done ++ todo) [] None []) lines []
@@ -98,7 +98,7 @@ module _ (p : Program) (program : IsProgram p) where
       let again : p.funcs ≡ (done ++ f ∷ []) ++ fs = is ∙ sym (append_assoc done (f ∷ []) fs) in
       onward (func_crossed done fs f is fits.0 lines (flat_map (func_lines p) fs) says)
       (λ left said. subst (λ (all : List Func). Crosses (with_funcs p.globals (done ++ f ∷ [])) (with_funcs p.globals all) (filled p (done ++ f ∷ []) [] None []) (filled p all [] None []) left [])
-          (append_assoc done (f ∷ []) fs) (funcs_crossed (done ++ f ∷ []) fs again fits.1 left said))
+      (append_assoc done (f ∷ []) fs) (funcs_crossed (done ++ f ∷ []) fs again fits.1 left said))
 
   program_crossed : (lines : Numbered) → Say lines (program_lines p)
       → Crosses nothing (with_funcs p.globals p.funcs) (filled p [] [] None []) (filled p p.funcs [] None []) lines []

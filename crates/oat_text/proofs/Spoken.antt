@@ -1,16 +1,13 @@
 -- What the words that say something give where it is wanted, and which tests they pass.
-use Rattle.std.proofs.Common.{◌≡◌, ℕ, ℤ, zero, suc, ◌+◌, ◌<◌, ◌≤◌, Bool, true, false, eqb, leb, ltb, ◌&&◌, List, [], ◌∷◌, ◌++◌, length, take, drop, get_or, Option, Some, None, refl, sym, ap, ◌∙◌, subst, inl, inr, arith}
-use Rattle.std.specs.Prelude.{pos, neg_ℤ, if◌then◌else◌, codes, decimal, IsTrue, is_some, option_map, bytes_eq}
+use Rattle.std.proofs.Common.{◌≡◌, ℕ, ℤ, zero, suc, ◌+◌, ◌≤◌, Bool, true, false, eqb, leb, ltb, ◌&&◌, List, [], ◌∷◌, ◌++◌, length, Some, refl, sym, ap, subst, inl, inr, arith}
+use Rattle.std.specs.Prelude.{pos, neg_ℤ, if◌then◌else◌, codes, IsTrue, option_map, bytes_eq}
 use Rattle.std.specs.List.{AllByRecursion, list_all}
-use Rattle.std.specs.Str.Parse.{starts_with_minus}
-use Rattle.std.proofs.lemmas.Bool.{and_parts, eqb-true, ne_eqb, ltb-true, lt-ltb, le-leb, leb-true}
-use Rattle.std.proofs.lemmas.Bool.Decides.{nat_tests}
+use Rattle.std.proofs.lemmas.Bool.{and_parts, eqb-true, ne_eqb, lt-ltb, le-leb, leb-true}
 use Rattle.std.proofs.lemmas.Fmt.{decimal_digit}
 use Rattle.std.proofs.lemmas.List.Elements.{recursion_from_All}
 use Rattle.oat_lines.specs.Decimal.{is_decimal_digit, numeral_of}
 use Rattle.oat_lines.specs.Fields.{cut, is_visible}
 use Rattle.oat_lines.specs.Integer.{integer_of, is_i64}
-use Rattle.oat_lines.specs.Reading.{between}
 use Rattle.oat_lines.proofs.Steps.{chosen}
 use Rattle.oat_lines.proofs.Cutting.{map_some}
 use Rattle.oat_lines.specs.Lines.{TextWord}
@@ -21,8 +18,8 @@ use Rattle.oat_ir.specs.declared.func.Ty.TheVariants.{I64, Fn}
 use Rattle.oat_ir.specs.WellFormed.{IsTy}
 use Rattle.oat_text.specs.declared.form.WordKind.{WordKind}
 use Rattle.oat_text.specs.declared.form.WordKind.TheVariants as kind
-use Rattle.oat_text.specs.Words.{Said, Keyword, Named, Typed, Parameter, Number, Integer, Says, reference_text, ty_text, parameter_text}
-use Rattle.oat_text.specs.Readings.{params_of, ty_of, local_of, parameter_of, i64_of, count_of, begins_reference, is_printable, is_shaped, is_in_range, all_pass}
+use Rattle.oat_text.specs.Words.{Said, Named, Typed, Parameter, Number, Integer, Says, reference_text, ty_text, parameter_text}
+use Rattle.oat_text.specs.Readings.{params_of, ty_of, parameter_of, i64_of, count_of, begins_reference, is_printable, is_shaped, is_in_range}
 
 -- ---- names
 

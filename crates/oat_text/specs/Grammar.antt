@@ -1,6 +1,6 @@
 -- The program grammar: the lines of each program, and which texts have them (docs/FORMATS.md, "Program text"). A program has
 -- its lines in one order, so that a text of it differs from the printed one in blanks, skipped lines and zeros alone.
-use Rattle.std.specs.Prelude.{ℕ, Bool, true, false, not, List, [], ◌∷◌, ◌++◌, map, filter, take, drop, codes}
+use Rattle.std.specs.Prelude.{ℕ, Bool, true, false, List, [], ◌∷◌, ◌++◌, map, take, drop, codes}
 use Rattle.std.specs.List.{AllZip, flat_map, slice_index_or}
 use Rattle.oat_lines.specs.Lines.{TextWord, lines_of, counting}
 use Rattle.oat_lines.specs.Fields.{spaced, ended}

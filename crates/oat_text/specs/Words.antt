@@ -1,6 +1,6 @@
 -- What a word of a program text says, and which words say it (docs/FORMATS.md, "Program text"). Keywords, names and types
 -- have one spelling; numbers may have leading zeros, and -0 is 0.
-use Rattle.std.specs.Prelude.{ℕ, ℤ, ◌≡◌, IsTrue, List, ◌++◌, codes, decimal, Some}
+use Rattle.std.specs.Prelude.{ℕ, ℤ, ◌≡◌, IsTrue, ◌++◌, codes, decimal, Some}
 use Rattle.std.specs.Fmt.{signed_decimal}
 use Rattle.oat_lines.specs.Decimal.{numeral_of}
 use Rattle.oat_lines.specs.Integer.{integer_of, is_i64}

@@ -12,5 +12,7 @@ fn programs_are_read(rt: HostRuntime) -> Result<(), Fail> {
     let text = format!(in rt.alloc(); "{fault}")?;
     assert_eq!(rt; text.as_bytes(), b"12 Duplicate".as_slice());
     laws::printed_is_text();
+    laws::text_is_read();
+    laws::printed_is_read();
     Ok(())
 }

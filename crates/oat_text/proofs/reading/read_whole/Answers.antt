@@ -1,4 +1,3 @@
-use Rattle.std.proofs.Common.{refl}
 use Rattle.std.proofs.lemmas.Result.{err_from_is_err_and}
 use Rattle.oat_text.proofs.Joined.{bodies_fail}
 use Rattle.oat_text.proofs.reading.read_whole.Goals as goal
