@@ -12,3 +12,11 @@ mod Lines
 mod Crossing
 mod Filling
 mod ReadBack
+mod Accepted
+mod LinesSay
+mod Declared
+mod Apart
+mod Ahead
+mod Followed
+mod Sized
+pub mod ReadTexts

@@ -112,7 +112,7 @@ none_left : (left : Numbered) → Say left [] → left ≡ []
 none_left [] says = refl
 none_left (l ∷ ls) says = absurd says
 
-funcs_back : (funcs : List Func) → map func_from (zip (map name_of funcs) (zip (map head_of funcs) (map (λ (f : Func). f.blocks) funcs))) ≡ funcs
+pub funcs_back : (funcs : List Func) → map func_from (zip (map name_of funcs) (zip (map head_of funcs) (map (λ (f : Func). f.blocks) funcs))) ≡ funcs
 funcs_back [] = refl
 funcs_back (f ∷ fs) = ap (λ (rest : List Func). f ∷ rest) (funcs_back fs)
 

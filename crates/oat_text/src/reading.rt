@@ -92,6 +92,8 @@ fn read_whole(alloc: Global, text: &[u8]) -> Result<Program, TextFault>
 /// The program that a text stands for; the text has at most 1,048,576 bytes.
 pub fn read_program(alloc: Global, text: &[u8]) -> Result<Program, TextFault>
     requires { length text.now ≤ 1048576 }
+    // What is read is a program of the text.
+    ensures found { IfOk result (λ program. IsProgramText text.now program) }
     // The program of a text is read, unless memory runs out.
     ensures only { (program : Program) → IsProgramText text.now program → Gives (λ read. read) result (Ok program) }
     // Which fault it is, and of which line.
