@@ -20,3 +20,4 @@ mod Ahead
 mod Followed
 mod Sized
 pub mod ReadTexts
+mod Printed

@@ -131,9 +131,12 @@ pub record IsProgramText (text : List ℕ) (program : Program) : Type 0 where
   pub says : TextSays text (program_lines program)
   pub well_formed : IsProgram program
 
--- these lines as they are printed: one space between two words, and LF behind each line
+-- a line as it is printed: one space between two words, and LF at the end
+abbrev pub line_text : Line → List ℕ
+line_text line = ended (spaced (map printed_word line))
+
 abbrev pub lines_text : List Line → List ℕ
-lines_text lines = flat_map (λ line. ended (spaced (map printed_word line))) lines
+lines_text lines = flat_map line_text lines
 
 abbrev pub program_text : Program → List ℕ
 program_text program = lines_text (program_lines program)

@@ -1,4 +1,4 @@
-use crate::{TextFault, TextFaultKind, laws, read_program};
+use crate::{TextFault, TextFaultKind, laws, print_program, read_program};
 use std::test::Fail;
 
 const IDLE: &[u8] =
@@ -8,6 +8,7 @@ const IDLE: &[u8] =
 fn programs_are_read(rt: HostRuntime) -> Result<(), Fail> {
     let program = read_program(rt.alloc(), IDLE)?;
     assert!(rt; program.well_formed());
+    assert_eq!(rt; print_program(rt.alloc(), &program)?.as_slice(), IDLE);
     let fault = TextFault::At(12, TextFaultKind::Duplicate);
     let text = format!(in rt.alloc(); "{fault}")?;
     assert_eq!(rt; text.as_bytes(), b"12 Duplicate".as_slice());
