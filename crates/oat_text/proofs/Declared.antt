@@ -367,19 +367,28 @@ says_many [] f (x ∷ xs) all = absurd all
 says_many (w ∷ ws) f [] all = absurd all
 says_many (w ∷ ws) f (x ∷ xs) all = ap (λ n. suc n) (says_many ws f xs all.1)
 
+name_split : (w : TextWord) (ws : List TextWord) (q : TextWord × List TextWord) → name_first (w ∷ ws) ≡ Some q → (read_name w ≡ Some q.0) × (q.1 ≡ ws)
+name_split w ws q e =
+    let m = map_some (read_name w) (λ name. (name, ws)) q e in
+    subst (λ (r : TextWord × List TextWord). (read_name w ≡ Some r.0) × (r.1 ≡ ws)) m.2 (m.1, refl)
+
+id_split : (w : TextWord) (ws : List TextWord) (q : ℕ × List TextWord) → id_first (w ∷ ws) ≡ Some q → (count_of 65535 w ≡ Some q.0) × (q.1 ≡ ws)
+id_split w ws q e =
+    let m = map_some (count_of 65535 w) (λ id. (id, ws)) q e in
+    subst (λ (r : ℕ × List TextWord). (count_of 65535 w ≡ Some r.0) × (r.1 ≡ ws)) m.2 (m.1, refl)
+
 plain_taken : (n : ℕ) (o : Outline) (w : TextWord) (ws : List TextWord) (p : Outline) → length ws ≤ 4 → plain_line n o (w ∷ ws) ≡ Ok p → FuncTaken o funcs.Plain (w ∷ ws) p
 unfolding plain_line
 plain_taken n o w ws p few e =
     let a = bind_ok (ok_or (name_first (w ∷ ws)) (At n Token)) (λ named. begin_func n o Plain named.0 named.1) p e in
-    let m = map_some (read_name w) (λ name. (name, ws)) a.0 (or_ok (name_first (w ∷ ws)) (At n Token) a.0 a.1) in
-    let begins : begin_func n o Plain m.0 ws ≡ Ok p = subst (λ (q : TextWord × List TextWord). begin_func n o Plain q.0 q.1 ≡ Ok p) (sym m.2) a.2 in
-    let b = begun n o Plain m.0 ws p begins in
+    let split = name_split w ws a.0 (or_ok (name_first (w ∷ ws)) (At n Token) a.0 a.1) in
+    let b = begun n o Plain a.0.0 ws p (subst (λ (rest : List TextWord). begin_func n o Plain a.0.0 rest ≡ Ok p) split.1 a.2) in
     record {
       role = Plain;
-      name = m.0;
+      name = a.0.0;
       names = b.names;
       locals = b.locals;
-      says = (refl, (read_is w m.0 m.1, b.says));
+      says = (refl, (read_is w a.0.0 split.0, b.says));
       begins = tt;
       few = (let many = says_many ws parameter b.locals b.says in omega arith);
       fits = b.fits;
@@ -408,37 +417,41 @@ main_taken n o p e =
       after = rw append-nil b.after;
     }
 
-operation_taken : (n : ℕ) (o : Outline) (w x : TextWord) (ws : List TextWord) (p : Outline) → length ws ≤ 4 → operation_line n o (w ∷ x ∷ ws) ≡ Ok p
-    → FuncTaken o funcs.Operation (w ∷ x ∷ ws) p
-unfolding operation_line begin_operation
-operation_taken n o w x ws p few e =
-    let a = bind_ok (ok_or (id_first (w ∷ x ∷ ws)) (At n Number)) (λ numbered. ok_or (name_first numbered.1) (At n Token) >>= λ named. begin_operation n o numbered.0 named.0 named.1) p e in
-    let m = map_some (count_of 65535 w) (λ id. (id, x ∷ ws)) a.0 (or_ok (id_first (w ∷ x ∷ ws)) (At n Number) a.0 a.1) in
-    let second : (ok_or (name_first (x ∷ ws)) (At n Token) >>= λ named. begin_operation n o m.0 named.0 named.1) ≡ Ok p = subst (λ (q : ℕ × List TextWord). (ok_or (name_first q.1) (At n Token) >>= λ named. begin_operation n o q.0 named.0 named.1) ≡ Ok p) (sym m.2) a.2 in
-    let c = bind_ok (ok_or (name_first (x ∷ ws)) (At n Token)) (λ named. begin_operation n o m.0 named.0 named.1) p second in
-    let k = map_some (read_name x) (λ name. (name, ws)) c.0 (or_ok (name_first (x ∷ ws)) (At n Token) c.0 c.1) in
-    let third : begin_operation n o m.0 k.0 ws ≡ Ok p = subst (λ (q : TextWord × List TextWord). begin_operation n o m.0 q.0 q.1 ≡ Ok p) (sym k.2) c.2 in
-    let grown = record o { operations = o.operations ++ m.0 ∷ [] } in
-    let g = guarded_ok (not (list_any (λ other. eqb m.0 other) o.operations)) (At n Duplicate) (λ (u : Unit {0}). begin_func n grown (Operation m.0) k.0 ws) p third in
-    let b = begun n grown (Operation m.0) k.0 ws p g.1 in
-    let id = count_read_as 65535 m.0 w m.1 in
+eqb_turned : (x y : ℕ) → eqb x y ≡ eqb y x
+eqb_turned x y = grind (arith, nat_tests)
+
+numbered_taken : (n : ℕ) (o : Outline) (id : ℕ) (name w x : TextWord) (ws : List TextWord) (p : Outline) → length ws ≤ 4 → count_of 65535 w ≡ Some id
+    → read_name x ≡ Some name → begin_operation n o id name ws ≡ Ok p → FuncTaken o funcs.Operation (w ∷ x ∷ ws) p
+unfolding begin_operation
+numbered_taken n o id name w x ws p few counts names e =
+    let grown = record o { operations = o.operations ++ id ∷ [] } in
+    let g = guarded_ok (not (list_any (λ other. eqb id other) o.operations)) (At n Duplicate) (λ (u : Unit {0}). begin_func n grown (Operation id) name ws) p e in
+    let b = begun n grown (Operation id) name ws p g.1 in
+    let number = count_read_as 65535 id w counts in
     record {
-      role = Operation m.0;
-      name = k.0;
+      role = Operation id;
+      name = name;
       names = b.names;
       locals = b.locals;
-      says = (refl, (id.0, (read_is x k.0 k.1, b.says)));
-      begins = (id.1, id.2);
+      says = (refl, (number.0, (read_is x name names, b.says)));
+      begins = (number.1, number.2);
       few = (let many = says_many ws parameter b.locals b.says in omega arith);
       fits = b.fits;
       distinct = b.distinct;
       new = b.new;
-      ids_new = λ d. pushed eqb eqb_turned o.operations m.0 d (not_true _ g.0);
+      ids_new = λ d. pushed eqb eqb_turned o.operations id d (not_true _ g.0);
       after = b.after;
     }
-  where
-    eqb_turned : (x y : ℕ) → eqb x y ≡ eqb y x
-    eqb_turned x y = grind (arith, nat_tests)
+
+operation_taken : (n : ℕ) (o : Outline) (w x : TextWord) (ws : List TextWord) (p : Outline) → length ws ≤ 4 → operation_line n o (w ∷ x ∷ ws) ≡ Ok p
+    → FuncTaken o funcs.Operation (w ∷ x ∷ ws) p
+unfolding operation_line
+operation_taken n o w x ws p few e =
+    let a = bind_ok (ok_or (id_first (w ∷ x ∷ ws)) (At n Number)) (λ numbered. ok_or (name_first numbered.1) (At n Token) >>= λ named. begin_operation n o numbered.0 named.0 named.1) p e in
+    let id = id_split w (x ∷ ws) a.0 (or_ok (id_first (w ∷ x ∷ ws)) (At n Number) a.0 a.1) in
+    let c = bind_ok (ok_or (name_first a.0.1) (At n Token)) (λ named. begin_operation n o a.0.0 named.0 named.1) p a.2 in
+    let name = name_split x ws c.0 (subst (λ (rest : List TextWord). name_first rest ≡ Some c.0) id.1 (or_ok (name_first a.0.1) (At n Token) c.0 c.1)) in
+    numbered_taken n o a.0.0 c.0.0 w x ws p few id.0 name.0 (subst (λ (rest : List TextWord). begin_operation n o a.0.0 c.0.0 rest ≡ Ok p) name.1 c.2)
 
 pub func_taken : (n : ℕ) (o : Outline) (form : FuncForm) (words : List TextWord) (p : Outline) → has_number (line.Func form) words ≡ true
     → func_line n o form words ≡ Ok p → FuncTaken o form words p
