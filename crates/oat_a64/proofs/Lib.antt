@@ -3,4 +3,4 @@ mod Candidates
 mod Same
 pub mod FetchLemmas
 pub mod StepBounds
-pub mod Steps
+mod Steps

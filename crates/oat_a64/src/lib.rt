@@ -13,6 +13,3 @@ pub use code::{CODE_BASE, branch_target, instruction_at, word_at};
 pub use event::{Event, FaultKind};
 pub use inst::Inst;
 pub use words::{decode, encode};
-
-#[cfg(test)]
-mod tests;

@@ -9,8 +9,6 @@ mod fields;
 mod laws;
 mod reader;
 mod records;
-#[cfg(test)]
-mod tests;
 
 pub use body::{BodyHead, Violation};
 pub use decoding::{BlobRef, decode};

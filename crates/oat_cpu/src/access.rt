@@ -1,8 +1,8 @@
 // Loads and stores.
 ghost use Rattle.std.specs.Prelude.{◌≡◌, ◌+◌, ◌*◌};
 ghost use Rattle.oat_bits.specs.Words.{wrap};
-ghost use Rattle.oat_a64.specs.Step.{loads, stores};
-ghost use Rattle.oat_cpu.specs.Processor.{machine_of, effect_of};
+ghost use Rattle.oat_a64.specs.Step.{loads, reg_or_sp, stores};
+ghost use Rattle.oat_cpu.specs.Processor.{machine_of, effect_of, regs_of};
 
 use crate::cpu::Cpu;
 use oat_a64::{Event, FaultKind};
@@ -21,17 +21,17 @@ impl Cpu {
     pub(crate) fn store(&mut self, register: u8, address: u64, memory: &mut Memory) -> Event
         ensures { effect_of self.new memory.new result ≡ stores (machine_of self.old memory.old) register address }
     {
-        if memory.write8(address, self.read(register)) {
+        if memory.write8(address, self.reg(register)) {
             self.go_on()
         } else {
             Event::Fault(FaultKind::Access(address))
         }
     }
-}
 
-// The imm counts words of memory.
-pub(crate) fn address_of(base: u64, imm: u16) -> u64
-    ensures { result ≡ wrap (base + 8 * imm) }
-{
-    base.wrapping_add(8 * u64::from(imm))
+    // The imm counts words of memory.
+    pub(crate) fn address(&self, base: u8, imm: u16) -> u64
+        ensures { result ≡ wrap (reg_or_sp (regs_of self.now) base + 8 * imm) }
+    {
+        self.reg_or_sp(base).wrapping_add(8 * u64::from(imm))
+    }
 }

@@ -1,11 +1,11 @@
 // Where an instruction leads.
 ghost use Rattle.std.specs.Prelude.{◌≡◌, if◌then◌else◌};
 ghost use Rattle.oat_mem.specs.DataMemory.{Regions};
-ghost use Rattle.oat_a64.specs.Step.{calls_monitor, next_pc, traps, with_reg};
+ghost use Rattle.oat_a64.specs.Step.{branch_target, calls_monitor, next_pc, traps, with_reg};
 ghost use Rattle.oat_cpu.specs.Processor.{machine_of, effect_of, regs_of};
 
 use crate::cpu::Cpu;
-use oat_a64::{Event, FaultKind};
+use oat_a64::{Event, FaultKind, branch_target};
 
 impl Cpu {
     pub(crate) fn go_on(&mut self) -> Event
@@ -24,12 +24,12 @@ impl Cpu {
         Event::Next
     }
 
-    pub(crate) fn jump_if(&mut self, test: bool, address: u64) -> Event
+    pub(crate) fn branch_if(&mut self, test: bool, offset: i32) -> Event
         ensures told { result ≡ Event.Next }
-        ensures regs { let r = regs_of self.old in regs_of self.new ≡ record r { pc = if test then address else next_pc r.pc } }
+        ensures regs { let r = regs_of self.old in regs_of self.new ≡ record r { pc = if test then branch_target r.pc offset else next_pc r.pc } }
     {
         if test {
-            self.jump(address)
+            self.jump(branch_target(self.pc, offset))
         } else {
             self.go_on()
         }

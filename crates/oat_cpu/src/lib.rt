@@ -6,6 +6,7 @@ mod act;
 mod control;
 mod cpu;
 mod registers;
+mod sums;
 #[cfg(test)]
 mod tests;
 mod value;

@@ -9,7 +9,7 @@ use oat_a64::Event;
 
 impl Cpu {
     // Register 31 reads as zero.
-    pub(crate) fn read(&self, register: u8) -> u64
+    pub(crate) fn reg(&self, register: u8) -> u64
         ensures { result ≡ reg (regs_of self.now) register }
     {
         if register < 31 {
@@ -20,13 +20,13 @@ impl Cpu {
     }
 
     // Register 31 is SP.
-    pub(crate) fn read_or_sp(&self, register: u8) -> u64
+    pub(crate) fn reg_or_sp(&self, register: u8) -> u64
         ensures { result ≡ reg_or_sp (regs_of self.now) register }
     {
         if register == 31 {
             self.sp
         } else {
-            self.read(register)
+            self.reg(register)
         }
     }
 

@@ -1,5 +1,5 @@
 // The numbers that instructions compute.
-ghost use Rattle.std.specs.Prelude.{◌≡◌, ◌*◌, ◌<◌};
+ghost use Rattle.std.specs.Prelude.{◌≡◌, ◌*◌, ◌%◌};
 ghost use Rattle.oat_bits.specs.Words.{unsigned_quotient, signed_quotient, shifted_left, shifted_right_signed};
 ghost use Rattle.oat_a64.specs.Step.{with_bits};
 
@@ -27,16 +27,23 @@ pub(crate) fn shift_left(value: u64, amount: u32) -> u64
     if amount < 64 { value << amount } else { 0 }
 }
 
-pub(crate) fn shift_right_signed(value: u64, amount: u32) -> u64
-    requires { amount < 64 }
-    ensures { result ≡ shifted_right_signed value amount }
+// The amount counts modulo 64.
+pub(crate) fn shift_signed(value: u64, amount: u64) -> u64
+    ensures { result ≡ shifted_right_signed value (amount % 64) }
 {
-    (value.cast_signed() >> amount).cast_unsigned()
+    (value.cast_signed() >> (amount % 64)).cast_unsigned()
 }
 
 const QUARTER: u64 = 0x1_0000;
 
 const HALF: u64 = QUARTER * QUARTER;
+
+// The bits as a quarter, counted from the lowest.
+pub(crate) fn quarter(number: u8, bits: u16) -> u64
+    ensures { result ≡ shifted_left bits (16 * number) }
+{
+    shift_left(u64::from(bits), 16 * u32::from(number))
+}
 
 // The value with another quarter, counted from the lowest.
 pub(crate) fn put_quarter(value: u64, quarter: u8, bits: u16) -> u64

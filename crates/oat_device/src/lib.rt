@@ -8,8 +8,6 @@ mod device;
 pub mod laws;
 mod monitor;
 mod start;
-#[cfg(test)]
-mod tests;
 mod writes;
 
 pub use call::call_numbered;

@@ -10,11 +10,9 @@ ghost use Rattle.oat_journal.specs.Measured.{opening_of, start_cells};
 use oat_case::Session;
 use oat_image::Image;
 use oat_measure::Opening;
-use oat_mem::Memory;
+use oat_mem::{GLOBAL_BASE, Memory};
 use oat_shape::Shaped;
 use std::alloc::{AllocError, Global};
-
-const GLOBAL_BASE: u64 = 0x4000_0000;
 
 /// Zeros, but for the words that the image gives.
 pub fn start_memory(alloc: Global, image: &Image) -> Result<Memory, AllocError>

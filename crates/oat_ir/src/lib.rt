@@ -17,6 +17,3 @@ pub use func::{BlockIr, Func, Local, Role, Ty};
 pub use instr::{BinOp, Instr, Term};
 pub use program::{GlobalItem, Program};
 pub use source::{CriticalLoad, SourceEdge, SourceEnd, SourceSite};
-
-#[cfg(test)]
-mod tests;

@@ -8,4 +8,4 @@ mod region;
 mod tests;
 
 pub use memory::Memory;
-pub use region::fits;
+pub use region::{GLOBAL_BASE, fits};

@@ -1,7 +1,8 @@
 ghost use Rattle.std.specs.Prelude.{◌≡◌, ◌-◌, ◌+◌, IsTrue, SomeIff};
 ghost use Rattle.oat_mem.specs.DataMemory.{can_access, fits, lies_in};
 
-pub(crate) const GLOBAL_BASE: u64 = 0x4000_0000;
+/// Where global data begins.
+pub const GLOBAL_BASE: u64 = 0x4000_0000;
 
 pub(crate) const GLOBAL_SIZE: usize = 524_288;
 

@@ -1,1 +1,5 @@
 mod Places
+mod Splitting
+mod Listing
+mod Sites
+mod SameLines

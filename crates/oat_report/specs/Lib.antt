@@ -1,4 +1,5 @@
 pub mod PathLine
 pub mod Counting
+pub mod SameLines
 pub mod VerdictLine
 pub mod WorkedLines

@@ -6,9 +6,7 @@ ghost use Rattle.oat_shape.specs.Parts.{AreIndices};
 
 use crate::code::stands;
 use oat_a64::Inst;
-
-/// Where global data begins.
-const GLOBAL_BASE: u64 = 0x4000_0000;
+use oat_mem::GLOBAL_BASE;
 
 /// Whether the group of a use of a cell stands at `at`.
 pub(crate) fn use_stands(code: &[u32], cells: &[u32], at: u64, cell: u16) -> bool

@@ -18,8 +18,6 @@ mod places;
 mod rises;
 mod rules;
 mod shaped;
-#[cfg(test)]
-mod tests;
 mod transfers;
 
 pub use fault::{ShapeFault, ShapeRefusal};

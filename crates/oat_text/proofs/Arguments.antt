@@ -1,10 +1,10 @@
 -- Reading the arguments of a call one after the other.
-use Rattle.std.proofs.Common.{◌≡◌, ℕ, zero, suc, ◌+◌, ◌-◌, ◌<◌, ◌≤◌, List, [], ◌∷◌, ◌++◌, length, take, set, Result, Ok, Err, refl, sym, ap, ◌∙◌, append_assoc, arith}
+use Rattle.std.proofs.Common.{◌≡◌, ℕ, suc, ◌+◌, ◌-◌, ◌<◌, ◌≤◌, List, [], ◌∷◌, ◌++◌, length, take, set, Result, Ok, Err, refl, sym, ap, ◌∙◌, append_assoc, arith}
 use Rattle.std.proofs.lemmas.List.{take_more_set, append-nil, length-set, length-take}
 use Rattle.oat_lines.specs.Reading.{◌>>=◌}
+use Rattle.oat_lines.specs.Lines.{TextWord}
 use Rattle.oat_text.specs.declared.fault.TextFaultKind.{TextFaultKind}
 use Rattle.oat_text.specs.declared.fault.TextFaultKind.TheVariants.{Unknown}
-use Rattle.oat_text.specs.Words.{Word}
 use Rattle.oat_text.specs.Bodies.{Scope, argument, arguments}
 
 abbrev Read : Type 0
@@ -15,7 +15,7 @@ abbrev pub behind : List ℕ → Read → Read
 behind front read = read >>= λ xs. Ok (front ++ xs)
 
 -- what is left to read gives what the words give
-pub record Reads (s : Scope) (locals : List ℕ) (len : ℕ) (rest words : List Word) : Type 0 where
+pub record Reads (s : Scope) (locals : List ℕ) (len : ℕ) (rest words : List TextWord) : Type 0 where
   pub so_far : behind (take len locals) (arguments s (4 - len) rest) ≡ arguments s 4 words
   pub few : len ≤ 4
   pub room : length locals ≡ 4
@@ -24,8 +24,8 @@ behind_one : (front : List ℕ) (x : ℕ) (r : Read) → behind front (r >>= λ 
 behind_one front x (Ok xs) = ap Ok (sym (append_assoc front (x ∷ []) xs))
 behind_one front x (Err e) = refl
 
-module _ (s : Scope) (locals : List ℕ) (len : ℕ) (rest words : List Word) (reads : Reads s locals len rest words) where
-  pub next_argument : (word : Word) (after : List Word) (x : ℕ) → rest ≡ word ∷ after → argument s word ≡ Ok x → len < 4
+module _ (s : Scope) (locals : List ℕ) (len : ℕ) (rest words : List TextWord) (reads : Reads s locals len rest words) where
+  pub next_argument : (word : TextWord) (after : List TextWord) (x : ℕ) → rest ≡ word ∷ after → argument s word ≡ Ok x → len < 4
       → Reads s (set locals len x) (len + 1) after words
   unfolding arguments
   next_argument word after x cut is room =
@@ -40,11 +40,11 @@ module _ (s : Scope) (locals : List ℕ) (len : ℕ) (rest words : List Word) (r
         room = length-set locals len x ∙ reads.room;
       }
 
-  pub too_many : (word : Word) (after : List Word) → rest ≡ word ∷ after → len ≡ 4 → Err Unknown ≡ arguments s 4 words
+  pub too_many : (word : TextWord) (after : List TextWord) → rest ≡ word ∷ after → len ≡ 4 → Err Unknown ≡ arguments s 4 words
   unfolding arguments
   too_many word after cut full = rw (cut, full) at reads.so_far
 
-  pub not_known : (word : Word) (after : List Word) (kind : TextFaultKind) → rest ≡ word ∷ after → argument s word ≡ Err kind → len < 4
+  pub not_known : (word : TextWord) (after : List TextWord) (kind : TextFaultKind) → rest ≡ word ∷ after → argument s word ≡ Err kind → len < 4
       → Err kind ≡ arguments s 4 words
   unfolding arguments
   not_known word after kind cut is room =

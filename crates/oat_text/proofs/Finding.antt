@@ -1,20 +1,20 @@
 -- What is found by its name, where names are told apart.
-use Rattle.std.proofs.Common.{◌≡◌, ℕ, zero, suc, ◌+◌, ◌<◌, ◌≤◌, Bool, true, false, not, cond, eqb, ltb, ◌||◌, List, [], ◌∷◌, ◌++◌, length, map, get_or, Option, Some, None, refl, sym, ap, ◌∙◌, arith}
-use Rattle.std.specs.Prelude.{bytes_eq, position}
+use Rattle.std.proofs.Common.{◌≡◌, ℕ, zero, suc, ◌+◌, ◌<◌, Bool, true, false, not, List, [], ◌∷◌, ◌++◌, length, map, get_or, Some, refl, ap, ◌∙◌, arith}
+use Rattle.std.specs.Prelude.{bytes_eq}
 use Rattle.std.specs.Cmp.Lexicographic.{nat_list_eq_equiv}
 use Rattle.std.specs.List.{AllByRecursion, IsDistinct, list_any, prefix_len}
 use Rattle.std.proofs.lemmas.Bool.{lt-ltb}
 use Rattle.std.proofs.lemmas.Slice.Eq.{bytes_eq-Decides}
-use Rattle.oat_text.specs.Words.{Word}
-use Rattle.oat_text.specs.Bodies.{number_of}
+use Rattle.oat_lines.specs.Lines.{TextWord}
+use Rattle.oat_text.specs.Bodies.{index_of}
 
-pub same_bytes : (word : Word) → bytes_eq word word ≡ true
+pub same_bytes : (word : TextWord) → bytes_eq word word ≡ true
 same_bytes word = (bytes_eq-Decides word word).1 refl
 
-pub bytes_turned : (a b : Word) → bytes_eq a b ≡ bytes_eq b a
+pub bytes_turned : (a b : TextWord) → bytes_eq a b ≡ bytes_eq b a
 bytes_turned a b = nat_list_eq_equiv.symm a b
 
-module _ {X : Type 0} (called : X → Word) where
+module _ {X : Type 0} (called : X → TextWord) where
   abbrev pub alike : X → X → Bool
   alike x y = bytes_eq (called x) (called y)
 
@@ -44,5 +44,5 @@ module _ {X : Type 0} (called : X → Word) where
       rw (later_apart x x xs i d.0 (omega arith)) (ap (λ n. 1 + n) (first_place xs i d.1 (omega arith)) ∙ omega arith)
 
   -- the name at a place has the number of the place
-  pub found_at : (xs : List X) (i : ℕ) (word : Word) → IsDistinct alike xs → i < length xs → word ≡ get_or (map called xs) i [] → number_of called xs word ≡ Some i
+  pub found_at : (xs : List X) (i : ℕ) (word : TextWord) → IsDistinct alike xs → i < length xs → word ≡ get_or (map called xs) i [] → index_of called xs word ≡ Some i
   found_at xs i word d lt is = rw (is, first_place xs i d lt, lt-ltb i (length xs) lt) refl

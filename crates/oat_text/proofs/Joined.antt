@@ -1,5 +1,5 @@
 -- Faults of the second pass are those of the text.
-use Rattle.std.proofs.Common.{◌≡◌, ℕ, List, Result, Ok, Err, refl}
+use Rattle.std.proofs.Common.{◌≡◌, ℕ, List, Ok, Err, refl}
 use Rattle.oat_lines.specs.declared.fault.Fault.{Fault}
 use Rattle.oat_lines.specs.Faults.{Fails}
 use Rattle.oat_lines.proofs.Steps.{fails_as}

@@ -1,8 +1,8 @@
 -- Lines that say those of a program, and what the two passes make of one of them.
-use Rattle.std.proofs.Common.{◌≡◌, ℕ, suc, ◌+◌, ◌-◌, Bool, true, false, not, cond, eqb, List, [], ◌∷◌, length, map, Result, Ok, refl, sym, ap, ◌∙◌}
-use Rattle.std.specs.Prelude.{filter, Some, if◌then◌else◌}
+use Rattle.std.proofs.Common.{◌≡◌, ℕ, suc, ◌+◌, ◌-◌, Bool, true, false, not, cond, eqb, List, [], ◌∷◌, length, map, Ok, refl, ap, ◌∙◌}
+use Rattle.std.specs.Prelude.{Some, if◌then◌else◌}
 use Rattle.std.specs.List.{AllZip, list_all}
-use Rattle.oat_lines.specs.Lines.{words_of, is_skipped}
+use Rattle.oat_lines.specs.Lines.{TextWord, words_of, is_skipped, counting}
 use Rattle.oat_lines.specs.Reading.{between}
 use Rattle.oat_ir.specs.declared.instr.BinOp.TheVariants.{Add, Sub, Mul, And, Or, Xor, Shl, Shr, Sar, Eq, Ne, Lt, Le, Ltu, Leu, Div, Rem, Divu, Remu}
 use Rattle.oat_text.specs.declared.form.LineForm.{LineForm}
@@ -12,19 +12,19 @@ use Rattle.oat_text.specs.declared.form.FuncForm.TheVariants as funcs
 use Rattle.oat_text.specs.declared.form.InstrForm.TheVariants as instrs
 use Rattle.oat_text.specs.declared.form.TermForm.TheVariants as terms
 use Rattle.oat_text.specs.declared.form.WordKind.{WordKind}
-use Rattle.oat_text.specs.Words.{Word, Said, Keyword, Says}
-use Rattle.oat_text.specs.Grammar.{Line, counting}
-use Rattle.oat_text.specs.Forms.{spelled, form_of, kinds_of, optional}
-use Rattle.oat_text.specs.Readings.{is_printable, is_shaped, is_numbered, all_pass, has_number}
-use Rattle.oat_text.specs.Passes.{OrFault, numbered, each, over}
+use Rattle.oat_text.specs.Words.{Said, Keyword, Says}
+use Rattle.oat_text.specs.Grammar.{Line}
+use Rattle.oat_text.specs.Forms.{spelled, line_form, kinds_of, optional}
+use Rattle.oat_text.specs.Readings.{is_printable, is_shaped, is_in_range, all_pass, has_number}
+use Rattle.oat_text.specs.Passes.{numbered, each, over}
 use Rattle.oat_text.specs.Outline.{Outline, stands, fitting, tested, declare, outline_line}
 use Rattle.oat_text.specs.Bodies.{Bodies, fill, body_line}
-use Rattle.oat_text.proofs.Spoken.{Suits, AllSuit, passes}
+use Rattle.oat_text.proofs.Spoken.{AllSuit, passes}
 
 -- ---- lines with their numbers
 
 abbrev pub Numbered : Type 0
-Numbered = List (ℕ × List Word)
+Numbered = List (ℕ × List TextWord)
 
 -- these lines say those
 abbrev pub Say : Numbered → List Line → Type 0
@@ -33,23 +33,23 @@ Say [] (line ∷ lines) = ⊥
 Say (l ∷ ls) [] = ⊥
 Say (l ∷ ls) (line ∷ lines) = AllZip Says l.1 line × Say ls lines
 
-counted : (skipped : Bool) (n : ℕ) (words : List Word) (more : Numbered) (rest : List (List Word)) → map (λ (l : ℕ × List Word). l.1) more ≡ rest
-    → map (λ (l : ℕ × List Word). l.1) (if skipped then more else ((n, words) ∷ more)) ≡ cond (not skipped) (words ∷ rest) rest
+counted : (skipped : Bool) (n : ℕ) (words : List TextWord) (more : Numbered) (rest : List (List TextWord)) → map (λ (l : ℕ × List TextWord). l.1) more ≡ rest
+    → map (λ (l : ℕ × List TextWord). l.1) (if skipped then more else ((n, words) ∷ more)) ≡ cond (not skipped) (words ∷ rest) rest
 counted true n words more rest e = e
-counted false n words more rest e = ap (λ (r : List (List Word)). words ∷ r) e
+counted false n words more rest e = ap (λ (r : List (List TextWord)). words ∷ r) e
 
-pub numbered_words : (n : ℕ) (raw : List (List ℕ)) → map (λ (l : ℕ × List Word). l.1) (numbered n raw) ≡ counting raw
+pub numbered_words : (n : ℕ) (raw : List (List ℕ)) → map (λ (l : ℕ × List TextWord). l.1) (numbered n raw) ≡ counting raw
 unfolding numbered
 numbered_words n [] = refl
 numbered_words n (line ∷ lines) = counted (is_skipped (words_of line)) n (words_of line) (numbered (n + 1) lines) (counting lines) (numbered_words (n + 1) lines)
 
-pub say_from_zip : (lines : Numbered) (said : List Line) → AllZip (AllZip Says) (map (λ (l : ℕ × List Word). l.1) lines) said → Say lines said
+pub say_from_zip : (lines : Numbered) (said : List Line) → AllZip (AllZip Says) (map (λ (l : ℕ × List TextWord). l.1) lines) said → Say lines said
 say_from_zip [] [] all = tt
 say_from_zip [] (s ∷ ss) all = absurd all
 say_from_zip (l ∷ ls) [] all = absurd all
 say_from_zip (l ∷ ls) (s ∷ ss) all = (all.0, say_from_zip ls ss all.1)
 
-pub zip_from_say : (lines : Numbered) (said : List Line) → Say lines said → AllZip (AllZip Says) (map (λ (l : ℕ × List Word). l.1) lines) said
+pub zip_from_say : (lines : Numbered) (said : List Line) → Say lines said → AllZip (AllZip Says) (map (λ (l : ℕ × List TextWord). l.1) lines) said
 zip_from_say [] [] all = tt
 zip_from_say [] (s ∷ ss) all = absurd all
 zip_from_say (l ∷ ls) [] all = absurd all
@@ -57,7 +57,7 @@ zip_from_say (l ∷ ls) (s ∷ ss) all = (all.0, zip_from_say ls ss all.1)
 
 -- ---- first words
 
-pub formed : (form : LineForm) → (form_of (spelled form) ≡ Some form) × (is_printable (spelled form) ≡ true)
+pub formed : (form : LineForm) → (line_form (spelled form) ≡ Some form) × (is_printable (spelled form) ≡ true)
 formed (line.Global globals.Plain) = (refl, refl)
 formed (line.Global globals.Critical) = (refl, refl)
 formed (line.Global globals.Array) = (refl, refl)
@@ -105,14 +105,14 @@ formed (line.Term terms.Halt) = (refl, refl)
 
 -- ---- the words of a line
 
-pub lengths : (words : List Word) (saids : List Said) → AllZip Says words saids → length words ≡ length saids
+pub lengths : (words : List TextWord) (saids : List Said) → AllZip Says words saids → length words ≡ length saids
 lengths [] [] says = refl
 lengths [] (s ∷ ss) says = absurd says
 lengths (w ∷ ws) [] says = absurd says
 lengths (w ∷ ws) (s ∷ ss) says = ap (λ n. suc n) (lengths ws ss says.1)
 
-tests : (kinds : List WordKind) (saids : List Said) (words : List Word) → AllSuit kinds saids → AllZip Says words saids
-    → (all_pass is_shaped kinds words ≡ true) × (all_pass is_numbered kinds words ≡ true) × (list_all is_printable words ≡ true)
+tests : (kinds : List WordKind) (saids : List Said) (words : List TextWord) → AllSuit kinds saids → AllZip Says words saids
+    → (all_pass is_shaped kinds words ≡ true) × (all_pass is_in_range kinds words ≡ true) × (list_all is_printable words ≡ true)
 tests [] [] [] suit says = (refl, refl, refl)
 tests (k ∷ ks) [] [] suit says = (refl, refl, refl)
 tests kinds [] (w ∷ ws) suit says = absurd says
@@ -128,7 +128,7 @@ pub record Fits (form : LineForm) (saids : List Said) : Type 0 where
   pub suits : AllSuit (kinds_of form) saids
   pub number : between (length (kinds_of form) - optional form) (length (kinds_of form)) (length saids) ≡ true
 
-takes : (n : ℕ) (o : Outline) (form : LineForm) (saids : List Said) (first : Word) (words : List Word) → Fits form saids
+takes : (n : ℕ) (o : Outline) (form : LineForm) (saids : List Said) (first : TextWord) (words : List TextWord) → Fits form saids
     → stands o.stage (eqb (length o.funcs) 0) form ≡ true → AllZip Says (first ∷ words) (Keyword (spelled form) ∷ saids)
     → outline_line n o (first ∷ words) ≡ declare n o form words
 unfolding outline_line tested fitting
@@ -137,7 +137,7 @@ takes n o form saids first words fits place says =
     let long : has_number form words ≡ true = rw (lengths words saids says.1) fits.number in
     rw (says.0, (formed form).1, t.2, (formed form).0, t.0, place, long, t.1) refl
 
-fills : (n : ℕ) (b : Bodies) (form : LineForm) (saids : List Said) (first : Word) (words : List Word)
+fills : (n : ℕ) (b : Bodies) (form : LineForm) (saids : List Said) (first : TextWord) (words : List TextWord)
     → AllZip Says (first ∷ words) (Keyword (spelled form) ∷ saids) → body_line n b (first ∷ words) ≡ fill n b form words
 unfolding body_line
 fills n b form saids first words says = rw (says.0, (formed form).0) refl
@@ -162,8 +162,8 @@ onward first next =
 
 module _ (o p : Outline) (b c : Bodies) (form : LineForm) (saids : List Said) (fits : Fits form saids)
     (place : stands o.stage (eqb (length o.funcs) 0) form ≡ true)
-    (steps : (n : ℕ) (words : List Word) → AllZip Says words saids → (declare n o form words ≡ Ok p) × (fill n b form words ≡ Ok c)) where
-  step : (n : ℕ) (words : List Word) (left : Numbered) (rest : List Line) → AllZip Says words (Keyword (spelled form) ∷ saids) → Say left rest
+    (steps : (n : ℕ) (words : List TextWord) → AllZip Says words saids → (declare n o form words ≡ Ok p) × (fill n b form words ≡ Ok c)) where
+  step : (n : ℕ) (words : List TextWord) (left : Numbered) (rest : List Line) → AllZip Says words (Keyword (spelled form) ∷ saids) → Say left rest
       → Crosses o p b c ((n, words) ∷ left) rest
   unfolding each
   step n [] left rest says more = absurd says
@@ -180,27 +180,27 @@ module _ (o p : Outline) (b c : Bodies) (form : LineForm) (saids : List Said) (f
 
 -- ---- so many words
 
-pub no_words : (words : List Word) → AllZip Says words [] → words ≡ []
+pub no_words : (words : List TextWord) → AllZip Says words [] → words ≡ []
 no_words [] says = refl
 no_words (w ∷ ws) says = absurd says
 
-pub one_word : (s : Said) (words : List Word) → AllZip Says words (s ∷ []) → (w : Word) × (words ≡ w ∷ []) × Says w s
+pub one_word : (s : Said) (words : List TextWord) → AllZip Says words (s ∷ []) → (w : TextWord) × (words ≡ w ∷ []) × Says w s
 one_word s [] says = absurd says
 one_word s (w ∷ []) says = (w, refl, says.0)
 one_word s (w ∷ x ∷ ws) says = absurd says.1
 
-pub more_words : (s : Said) (ss : List Said) (words : List Word) → AllZip Says words (s ∷ ss) → (w : Word) × (ws : List Word) × (words ≡ w ∷ ws) × Says w s × AllZip Says ws ss
+pub more_words : (s : Said) (ss : List Said) (words : List TextWord) → AllZip Says words (s ∷ ss) → (w : TextWord) × (ws : List TextWord) × (words ≡ w ∷ ws) × Says w s × AllZip Says ws ss
 more_words s ss [] says = absurd says
 more_words s ss (w ∷ ws) says = (w, ws, refl, says.0, says.1)
 
-pub two_words : (s t : Said) (words : List Word) → AllZip Says words (s ∷ t ∷ []) → (w x : Word) × (words ≡ w ∷ x ∷ []) × Says w s × Says x t
+pub two_words : (s t : Said) (words : List TextWord) → AllZip Says words (s ∷ t ∷ []) → (w x : TextWord) × (words ≡ w ∷ x ∷ []) × Says w s × Says x t
 two_words s t [] says = absurd says
 two_words s t (w ∷ []) says = absurd says.1
 two_words s t (w ∷ x ∷ []) says = (w, x, refl, says.0, says.1.0)
 two_words s t (w ∷ x ∷ y ∷ ws) says = absurd says.1.1
 
-pub three_words : (s t u : Said) (words : List Word) → AllZip Says words (s ∷ t ∷ u ∷ [])
-    → (w x y : Word) × (words ≡ w ∷ x ∷ y ∷ []) × Says w s × Says x t × Says y u
+pub three_words : (s t u : Said) (words : List TextWord) → AllZip Says words (s ∷ t ∷ u ∷ [])
+    → (w x y : TextWord) × (words ≡ w ∷ x ∷ y ∷ []) × Says w s × Says x t × Says y u
 three_words s t u [] says = absurd says
 three_words s t u (w ∷ []) says = absurd says.1
 three_words s t u (w ∷ x ∷ []) says = absurd says.1.1

@@ -1,12 +1,11 @@
 -- Going over the lines of a text, as a loop does.
-use Rattle.std.proofs.Common.{◌≡◌, ℕ, ◌+◌, ◌<◌, ◌≤◌, Bool, true, false, List, [], ◌∷◌, length, Result, Ok, Err, refl, sym, ap, ◌∙◌, arith}
+use Rattle.std.proofs.Common.{◌≡◌, ℕ, ◌+◌, ◌<◌, ◌≤◌, Bool, true, false, List, [], ◌∷◌, length, Ok, Err, refl, sym, ap, ◌∙◌, arith}
 use Rattle.std.specs.Prelude.{if◌then◌else◌}
 use Rattle.oat_lines.specs.declared.fault.Fault.{Fault}
 use Rattle.oat_lines.specs.Faults.{Fails}
-use Rattle.oat_lines.specs.Lines.{lines_of, words_of, is_skipped}
+use Rattle.oat_lines.specs.Lines.{TextWord, lines_of, words_of, is_skipped}
 use Rattle.oat_lines.proofs.Steps.{ok_is, fails_as}
 use Rattle.oat_text.specs.declared.fault.TextFaultKind.{TextFaultKind}
-use Rattle.oat_text.specs.Words.{Word}
 use Rattle.oat_text.specs.Passes.{OrFault, numbered, each, over}
 
 module _ {S X : Type 0} (takes : S → X → OrFault S) where
@@ -27,7 +26,7 @@ module _ {S X : Type 0} (takes : S → X → OrFault S) where
   unfolding each
   each_done s rest total none so_far = let one : each takes s rest ≡ Ok s = rw none refl in sym so_far ∙ one
 
-module _ {S : Type 0} (takes : ℕ → S → List Word → OrFault S) where
+module _ {S : Type 0} (takes : ℕ → S → List TextWord → OrFault S) where
   -- what a line gives, counted or not
   abbrev pub taken : ℕ → S → List ℕ → OrFault S
   taken n s line = if is_skipped (words_of line) then Ok s else takes n s (words_of line)

@@ -4,7 +4,7 @@ use Rattle.std.specs.Prelude.{codes}
 use Rattle.std.specs.List.{All, AllByRecursion, AllZip, flat_map}
 use Rattle.std.proofs.lemmas.List.{length-map}
 use Rattle.std.proofs.lemmas.List.Elements.{All-from_recursion, recursion_from_All}
-use Rattle.oat_lines.specs.Lines.{lines_of, is_skipped}
+use Rattle.oat_lines.specs.Lines.{TextWord, lines_of, is_skipped, counting}
 use Rattle.oat_lines.specs.Fields.{spaced, ended}
 use Rattle.oat_map.specs.Name.{IsName}
 use Rattle.oat_ir.specs.declared.program.Program.{Program}
@@ -25,8 +25,8 @@ use Rattle.oat_ir.specs.declared.instr.Term.TheVariants.{Jump, Branch, Ret, Halt
 use Rattle.oat_ir.specs.Distinct.{global_name}
 use Rattle.oat_ir.specs.Indices.{HasLocal, HasBlock, HasGlobal, HasFunc, IsInstr, IsTerm}
 use Rattle.oat_ir.specs.WellFormed.{IsGlobal, IsLocal, IsRole, IsBlockIr, IsFunc, IsProgram}
-use Rattle.oat_text.specs.Words.{Word, Keyword, Named, Says, word_of}
-use Rattle.oat_text.specs.Grammar.{Line, local_at, block_at, global_at, func_at, scalar_keyword, global_line, op_keyword, instr_line, term_line, parameter, head_line, local_line, block_lines, func_lines, program_lines, counting, TextSays, lines_text}
+use Rattle.oat_text.specs.Words.{Keyword, Named, Says, printed_word}
+use Rattle.oat_text.specs.Grammar.{Line, local_at, block_at, global_at, func_at, scalar_keyword, global_line, op_keyword, instr_line, term_line, parameter, head_line, local_line, block_lines, func_lines, program_lines, TextSays, lines_text}
 use Rattle.oat_text.specs.Laws.{HasGlobalValues, HasConstant, HasBlockValues, HasFuncValues, HasValues, PrintedIsText}
 use Rattle.oat_text.proofs.Spelled.{IsPlain, words_spaced, spaced_within, lines_ended}
 use Rattle.oat_text.proofs.Said as said
@@ -69,22 +69,22 @@ pub record IsLine (line : Line) : Type 0 where
   pub words : AllByRecursion said.IsSayable line
   pub some : 0 < length line
 
-says_words : (line : Line) → AllByRecursion said.IsSayable line → AllZip Says (map word_of line) line
+says_words : (line : Line) → AllByRecursion said.IsSayable line → AllZip Says (map printed_word line) line
 says_words [] all = tt
 says_words (s ∷ ss) all = (all.0.says, says_words ss all.1)
 
-plain_words : (line : Line) → AllByRecursion said.IsSayable line → AllByRecursion IsPlain (map word_of line)
-plain_words line all = all_map IsPlain word_of line (all_same said.IsSayable (λ s. IsPlain (word_of s)) line (λ s is. is.plain) all)
+plain_words : (line : Line) → AllByRecursion said.IsSayable line → AllByRecursion IsPlain (map printed_word line)
+plain_words line all = all_map IsPlain printed_word line (all_same said.IsSayable (λ s. IsPlain (printed_word s)) line (λ s is. is.plain) all)
 
-counts : (line : Line) → IsLine line → is_skipped (map word_of line) ≡ false
+counts : (line : Line) → IsLine line → is_skipped (map printed_word line) ≡ false
 counts [] is = absurd (let some = is.some in omega arith)
 counts (s ∷ ss) is = is.words.0.plain.counts
 
 counted : (line : Line) (rest : List ℕ) → IsLine line
-    → counting (lines_of (ended (spaced (map word_of line)) ++ rest)) ≡ map word_of line ∷ counting (lines_of rest)
+    → counting (lines_of (ended (spaced (map printed_word line)) ++ rest)) ≡ map printed_word line ∷ counting (lines_of rest)
 counted line rest is =
     let plain = plain_words line is.words in
-    rw (lines_ended (spaced (map word_of line)) rest (spaced_within (map word_of line) plain), words_spaced (map word_of line) plain, counts line is) refl
+    rw (lines_ended (spaced (map printed_word line)) rest (spaced_within (map printed_word line) plain), words_spaced (map printed_word line) plain, counts line is) refl
 
 pub text_says : (lines : List Line) → AllByRecursion IsLine lines → TextSays (lines_text lines) lines
 unfolding lines_of
@@ -94,7 +94,7 @@ text_says (line ∷ lines) all =
 
 -- ---- names
 
-name_at : {X : Type 0} (f : X → Word) (xs : List X) (k : ℕ) → All (λ x. IsName (f x)) xs → k < length xs
+name_at : {X : Type 0} (f : X → TextWord) (xs : List X) (k : ℕ) → All (λ x. IsName (f x)) xs → k < length xs
     → said.IsSayable (Named (get_or (map f xs) k []))
 name_at f xs k all within =
     let names = All-from_recursion IsName (map f xs) (all_map IsName f xs (recursion_from_All (λ x. IsName (f x)) xs all)) in
@@ -127,7 +127,7 @@ args_said p f args names has =
 -- ---- lines
 
 -- a line of a keyword and what stands behind it
-led : (word : Word) (line : Line) → said.IsSayable (Keyword word) → AllByRecursion said.IsSayable line → IsLine (Keyword word ∷ line)
+led : (word : TextWord) (line : Line) → said.IsSayable (Keyword word) → AllByRecursion said.IsSayable line → IsLine (Keyword word ∷ line)
 led word line key all = record { words = (key, all); some = omega arith }
 
 op_said : (op : BinOp) → said.IsSayable (Keyword (op_keyword op))

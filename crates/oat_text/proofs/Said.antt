@@ -11,21 +11,21 @@ use Rattle.std.proofs.lemmas.List.Folds.{list_all-append}
 use Rattle.oat_lines.specs.Decimal.{is_decimal_digit, numeral_of, leads_with_zero}
 use Rattle.oat_lines.specs.Integer.{is_i64}
 use Rattle.oat_lines.specs.Fields.{is_visible}
-use Rattle.oat_lines.specs.Lines.{is_comment}
+use Rattle.oat_lines.specs.Lines.{TextWord, is_comment}
 use Rattle.oat_lines.proofs.Decimals.{decimal_digits, decimal_again}
 use Rattle.std.proofs.lemmas.Bool.{and_parts}
 use Rattle.oat_map.specs.Name.{IsName, IsNameByte}
 use Rattle.oat_ir.specs.declared.func.Ty.{Ty}
 use Rattle.oat_ir.specs.declared.func.Ty.TheVariants.{I64, Fn}
 use Rattle.oat_ir.specs.WellFormed.{IsTy}
-use Rattle.oat_text.specs.Words.{Word, Said, Keyword, Named, Typed, Parameter, Number, Integer, Says, word_of, ty_text, reference_text}
+use Rattle.oat_text.specs.Words.{Said, Keyword, Named, Typed, Parameter, Number, Integer, Says, printed_word, ty_text, reference_text}
 use Rattle.oat_text.proofs.Spelled.{IsPlain}
 
 pub record IsSayable (said : Said) : Type 0 where
-  pub plain : IsPlain (word_of said)
-  pub says : Says (word_of said) said
+  pub plain : IsPlain (printed_word said)
+  pub says : Says (printed_word said) said
 
-pub keyword : (word : Word) → list_all is_visible word ≡ true → 0 < length word → is_comment word ≡ false → IsSayable (Keyword word)
+pub keyword : (word : TextWord) → list_all is_visible word ≡ true → 0 < length word → is_comment word ≡ false → IsSayable (Keyword word)
 keyword word visible nonempty counts = record { plain = record { visible = visible; nonempty = nonempty; counts = counts }; says = refl }
 
 -- ---- names
@@ -36,18 +36,18 @@ name_byte c (inl (inl (inr r))) = (lt-ltb 32 c (omega arith), ne_eqb c 59 (λ e.
 name_byte c (inl (inr r)) = (lt-ltb 32 c (omega arith), ne_eqb c 59 (λ e. omega arith))
 name_byte c (inr e) = (lt-ltb 32 c (omega arith), ne_eqb c 59 (λ f. omega arith))
 
-name_visible : (word : Word) → AllByRecursion IsNameByte word → list_all is_visible word ≡ true
+name_visible : (word : TextWord) → AllByRecursion IsNameByte word → list_all is_visible word ≡ true
 name_visible [] all = refl
 name_visible (c ∷ cs) all = rw ((name_byte c all.0).0, name_visible cs all.1) refl
 
-name_plain : (word : Word) → IsName word → IsPlain word
+name_plain : (word : TextWord) → IsName word → IsPlain word
 name_plain word name = record {
   visible = name_visible word (recursion_from_All IsNameByte word name.word);
   nonempty = name.begun;
   counts = (name_byte (get_or word 0 0) (name.word 0 0 name.begun)).1;
 }
 
-pub named : (name : Word) → IsName name → IsSayable (Named name)
+pub named : (name : TextWord) → IsName name → IsSayable (Named name)
 named name is = record { plain = name_plain name is; says = (refl, is) }
 
 -- ---- types
@@ -65,7 +65,7 @@ pub typed : (ty : Ty) → IsTy ty → IsSayable (Typed ty)
 typed ty fits = record { plain = ty_plain ty fits; says = refl }
 
 -- a plain word with visible bytes behind it
-longer : (word more : Word) → IsPlain word → list_all is_visible more ≡ true → IsPlain (word ++ more)
+longer : (word more : TextWord) → IsPlain word → list_all is_visible more ≡ true → IsPlain (word ++ more)
 longer [] more plain visible = absurd (let some = plain.nonempty in omega arith)
 longer (c ∷ cs) more plain visible = record {
   visible = list_all-append is_visible (c ∷ cs) more ∙ rw (plain.visible, visible) refl;
@@ -73,7 +73,7 @@ longer (c ∷ cs) more plain visible = record {
   counts = plain.counts;
 }
 
-pub parameter : (name : Word) (ty : Ty) → IsName name → IsTy ty → IsSayable (Parameter name ty)
+pub parameter : (name : TextWord) (ty : Ty) → IsName name → IsTy ty → IsSayable (Parameter name ty)
 parameter name ty is fits = record {
   plain = longer name (codes ":" ++ ty_text ty) (name_plain name is) (list_all-append is_visible (codes ":") (ty_text ty) ∙ rw (ty_plain ty fits).visible refl);
   says = (refl, is);
@@ -84,13 +84,13 @@ parameter name ty is fits = record {
 digit_seen : (c : ℕ) → is_decimal_digit c ≡ true → (is_visible c ≡ true) × (eqb c 59 ≡ false) × (eqb c 45 ≡ false)
 digit_seen c e = (grind (arith, nat_tests), grind (arith, nat_tests), grind (arith, nat_tests))
 
-digits_visible : (word : Word) → list_all is_decimal_digit word ≡ true → list_all is_visible word ≡ true
+digits_visible : (word : TextWord) → list_all is_decimal_digit word ≡ true → list_all is_visible word ≡ true
 digits_visible [] e = refl
 digits_visible (c ∷ cs) e =
     let p = and_parts (is_decimal_digit c) (list_all is_decimal_digit cs) e in
     rw ((digit_seen c p.0).0, digits_visible cs p.1) refl
 
-digits_plain : (word : Word) → list_all is_decimal_digit word ≡ true → 0 < length word → IsPlain word × (starts_with_minus word ≡ false)
+digits_plain : (word : TextWord) → list_all is_decimal_digit word ≡ true → 0 < length word → IsPlain word × (starts_with_minus word ≡ false)
 digits_plain [] e some = absurd (omega arith)
 digits_plain (c ∷ cs) e some =
     let p = and_parts (is_decimal_digit c) (list_all is_decimal_digit cs) e in

@@ -1,18 +1,16 @@
 -- What the words that say something give where it is wanted, and which tests they pass.
-use Rattle.std.proofs.Common.{◌≡◌, ℕ, ℤ, zero, suc, ◌+◌, ◌<◌, ◌≤◌, Bool, true, false, eqb, leb, ltb, ◌&&◌, List, [], ◌∷◌, ◌++◌, length, take, drop, get_or, Option, Some, None, refl, sym, ap, ◌∙◌, subst, inl, inr, arith}
-use Rattle.std.specs.Prelude.{pos, neg_ℤ, if◌then◌else◌, codes, decimal, IsTrue, is_some, option_map, bytes_eq}
+use Rattle.std.proofs.Common.{◌≡◌, ℕ, ℤ, zero, suc, ◌+◌, ◌≤◌, Bool, true, false, eqb, leb, ltb, ◌&&◌, List, [], ◌∷◌, ◌++◌, length, Some, refl, sym, ap, subst, inl, inr, arith}
+use Rattle.std.specs.Prelude.{pos, neg_ℤ, if◌then◌else◌, codes, IsTrue, option_map, bytes_eq}
 use Rattle.std.specs.List.{AllByRecursion, list_all}
-use Rattle.std.specs.Str.Parse.{starts_with_minus}
-use Rattle.std.proofs.lemmas.Bool.{and_parts, eqb-true, ne_eqb, ltb-true, lt-ltb, le-leb, leb-true}
-use Rattle.std.proofs.lemmas.Bool.Decides.{nat_tests}
+use Rattle.std.proofs.lemmas.Bool.{and_parts, eqb-true, ne_eqb, lt-ltb, le-leb, leb-true}
 use Rattle.std.proofs.lemmas.Fmt.{decimal_digit}
 use Rattle.std.proofs.lemmas.List.Elements.{recursion_from_All}
 use Rattle.oat_lines.specs.Decimal.{is_decimal_digit, numeral_of}
 use Rattle.oat_lines.specs.Fields.{cut, is_visible}
 use Rattle.oat_lines.specs.Integer.{integer_of, is_i64}
-use Rattle.oat_lines.specs.Reading.{between}
 use Rattle.oat_lines.proofs.Steps.{chosen}
 use Rattle.oat_lines.proofs.Cutting.{map_some}
+use Rattle.oat_lines.specs.Lines.{TextWord}
 use Rattle.oat_map.specs.Name.{IsName, IsNameByte, read_name}
 use Rattle.oat_map.proofs.NameTests.{test_from_name}
 use Rattle.oat_ir.specs.declared.func.Ty.{Ty}
@@ -20,12 +18,12 @@ use Rattle.oat_ir.specs.declared.func.Ty.TheVariants.{I64, Fn}
 use Rattle.oat_ir.specs.WellFormed.{IsTy}
 use Rattle.oat_text.specs.declared.form.WordKind.{WordKind}
 use Rattle.oat_text.specs.declared.form.WordKind.TheVariants as kind
-use Rattle.oat_text.specs.Words.{Word, Said, Keyword, Named, Typed, Parameter, Number, Integer, Says, reference_text, ty_text, parameter_text}
-use Rattle.oat_text.specs.Readings.{params_of, ty_of, local_of, parameter_of, i64_of, count_of, begins_reference, is_printable, is_shaped, is_numbered, all_pass}
+use Rattle.oat_text.specs.Words.{Said, Named, Typed, Parameter, Number, Integer, Says, reference_text, ty_text, parameter_text}
+use Rattle.oat_text.specs.Readings.{params_of, ty_of, parameter_of, i64_of, count_of, begins_reference, is_printable, is_shaped, is_in_range}
 
 -- ---- names
 
-pub name_read : (word : Word) → IsName word → read_name word ≡ Some word
+pub name_read : (word : TextWord) → IsName word → read_name word ≡ Some word
 name_read word is = rw (test_from_name word is) refl
 
 abbrev is_print : ℕ → Bool
@@ -37,16 +35,16 @@ name_byte c (inl (inl (inr r))) = (rw (lt-ltb 32 c (omega arith), lt-ltb c 127 (
 name_byte c (inl (inr r)) = (rw (lt-ltb 32 c (omega arith), lt-ltb c 127 (omega arith)) refl, ne_eqb c 58 (λ e. omega arith))
 name_byte c (inr e) = (rw (lt-ltb 32 c (omega arith), lt-ltb c 127 (omega arith)) refl, ne_eqb c 58 (λ f. omega arith))
 
-bytes_print : (word : Word) → AllByRecursion IsNameByte word → is_printable word ≡ true
+bytes_print : (word : TextWord) → AllByRecursion IsNameByte word → is_printable word ≡ true
 bytes_print [] all = refl
 bytes_print (c ∷ cs) all = rw ((name_byte c all.0).0, bytes_print cs all.1) refl
 
-pub name_prints : (word : Word) → IsName word → is_printable word ≡ true
+pub name_prints : (word : TextWord) → IsName word → is_printable word ≡ true
 name_prints word is = bytes_print word (recursion_from_All IsNameByte word is.word)
 
 -- ---- types
 
-few_params : (params : ℕ) → params ≤ 4 → (word : Word) → word ≡ codes "fn/" ++ ((48 + params) ∷ [])
+few_params : (params : ℕ) → params ≤ 4 → (word : TextWord) → word ≡ codes "fn/" ++ ((48 + params) ∷ [])
     → (params_of word ≡ Some params) × (is_printable word ≡ true) × (bytes_eq word (codes "i64") ≡ false)
 few_params zero le word is = rw is (refl, refl, refl)
 few_params (suc zero) le word is = rw is (refl, refl, refl)
@@ -57,7 +55,7 @@ few_params (suc (suc (suc (suc (suc n))))) le word is = absurd (omega arith)
 
 reference : (params : ℕ) → params ≤ 4
     → (params_of (reference_text params) ≡ Some params) × (is_printable (reference_text params) ≡ true) × (bytes_eq (reference_text params) (codes "i64") ≡ false)
-reference params le = few_params params le (reference_text params) (ap (λ (digits : Word). codes "fn/" ++ digits) (decimal_digit params (omega arith)))
+reference params le = few_params params le (reference_text params) (ap (λ (digits : TextWord). codes "fn/" ++ digits) (decimal_digit params (omega arith)))
 
 pub params_read : (params : ℕ) → params ≤ 4 → params_of (reference_text params) ≡ Some params
 params_read params le = (reference params le).0
@@ -68,20 +66,20 @@ ty_read (Fn params) fits = let is = reference params fits in (rw (is.2, is.0) re
 
 -- ---- parameters
 
-cut_behind : (name rest : Word) → AllByRecursion (λ b. eqb b 58 ≡ false) name → cut 58 (name ++ 58 ∷ rest) ≡ Some (name, rest)
+cut_behind : (name rest : TextWord) → AllByRecursion (λ b. eqb b 58 ≡ false) name → cut 58 (name ++ 58 ∷ rest) ≡ Some (name, rest)
 unfolding cut
 cut_behind [] rest all = refl
 cut_behind (c ∷ cs) rest all = rw (all.0, cut_behind cs rest all.1) refl
 
-no_colon : (name : Word) → AllByRecursion IsNameByte name → AllByRecursion (λ b. eqb b 58 ≡ false) name
+no_colon : (name : TextWord) → AllByRecursion IsNameByte name → AllByRecursion (λ b. eqb b 58 ≡ false) name
 no_colon [] all = tt
 no_colon (c ∷ cs) all = ((name_byte c all.0).1, no_colon cs all.1)
 
-prints_joined : (front back : Word) → is_printable front ≡ true → is_printable back ≡ true → is_printable (front ++ back) ≡ true
+prints_joined : (front back : TextWord) → is_printable front ≡ true → is_printable back ≡ true → is_printable (front ++ back) ≡ true
 prints_joined [] back one other = other
 prints_joined (c ∷ cs) back one other = let p = and_parts (is_print c) (is_printable cs) one in rw (p.0, prints_joined cs back p.1 other) refl
 
-pub parameter_read : (name : Word) (ty : Ty) → IsName name → IsTy ty
+pub parameter_read : (name : TextWord) (ty : Ty) → IsName name → IsTy ty
     → (parameter_of (parameter_text name ty) ≡ Some (record { name = name; ty = ty })) × (is_printable (parameter_text name ty) ≡ true)
 parameter_read name ty is fits = (
   rw (cut_behind name (ty_text ty) (no_colon name (recursion_from_All IsNameByte name is.word)), name_read name is, (ty_read ty fits).0) refl,
@@ -90,7 +88,7 @@ parameter_read name ty is fits = (
 
 -- ---- numbers
 
-digits_print : (word : Word) → list_all is_decimal_digit word ≡ true → is_printable word ≡ true
+digits_print : (word : TextWord) → list_all is_decimal_digit word ≡ true → is_printable word ≡ true
 digits_print [] e = refl
 digits_print (c ∷ cs) e =
     let p = and_parts (is_decimal_digit c) (list_all is_decimal_digit cs) e in
@@ -99,20 +97,20 @@ digits_print (c ∷ cs) e =
     let high : c ≤ 57 = leb-true c 57 digit.1 in
     rw (lt-ltb 32 c (omega arith), lt-ltb c 127 (omega arith), digits_print cs p.1) refl
 
-numeral_digits : (word : Word) (n : ℕ) → numeral_of word ≡ Some n → list_all is_decimal_digit word ≡ true
+numeral_digits : (word : TextWord) (n : ℕ) → numeral_of word ≡ Some n → list_all is_decimal_digit word ≡ true
 numeral_digits word n e = (and_parts (ltb 0 (length word)) (list_all is_decimal_digit word) (chosen _ _ n e).0).1
 
-pub count_read : (most n : ℕ) (word : Word) → numeral_of word ≡ Some n → 1 ≤ n → n ≤ most → (count_of most word ≡ Some n) × (is_printable word ≡ true)
+pub count_read : (most n : ℕ) (word : TextWord) → numeral_of word ≡ Some n → 1 ≤ n → n ≤ most → (count_of most word ≡ Some n) × (is_printable word ≡ true)
 count_read most n word e low high = (rw (e, le-leb 1 n low, le-leb n most high) refl, digits_print word (numeral_digits word n e))
 
-digit_first : (c : ℕ) (cs : Word) → list_all is_decimal_digit (c ∷ cs) ≡ true → eqb c 102 ≡ false
+digit_first : (c : ℕ) (cs : TextWord) → list_all is_decimal_digit (c ∷ cs) ≡ true → eqb c 102 ≡ false
 digit_first c cs e =
     let digit = and_parts (leb 48 c) (leb c 57) (and_parts (is_decimal_digit c) (list_all is_decimal_digit cs) e).0 in
     let high : c ≤ 57 = leb-true c 57 digit.1 in
     ne_eqb c 102 (λ f. omega arith)
 
 -- an integer is digits, or digits behind a minus
-signed : (minus : Bool) (c : ℕ) (cs : Word) (z : ℤ) → eqb c 45 ≡ minus
+signed : (minus : Bool) (c : ℕ) (cs : TextWord) (z : ℤ) → eqb c 45 ≡ minus
     → (if minus then option_map (λ n. neg_ℤ (pos n)) (numeral_of cs) else option_map (λ n. pos n) (numeral_of (c ∷ cs))) ≡ Some z
     → (is_printable (c ∷ cs) ≡ true) × (eqb c 102 ≡ false)
 signed true c cs z is e =
@@ -124,7 +122,7 @@ signed false c cs z is e =
     let digits = numeral_digits (c ∷ cs) p.0 p.1 in
     (digits_print (c ∷ cs) digits, digit_first c cs digits)
 
-pub integer_read : (word : Word) (z : ℤ) → integer_of word ≡ Some z → IsTrue (is_i64 z)
+pub integer_read : (word : TextWord) (z : ℤ) → integer_of word ≡ Some z → IsTrue (is_i64 z)
     → (i64_of word ≡ Some z) × (is_printable word ≡ true) × (begins_reference word ≡ false)
 integer_read [] z e fits = absurd cc
 integer_read (c ∷ cs) z e fits =
@@ -144,12 +142,12 @@ Suits kind.Integer (Integer z) = Unit {0}
 Suits (kind.Count most) (Number n) = (1 ≤ n) × (n ≤ most)
 Suits _ _ = ⊥
 
-pub record Passes (k : WordKind) (word : Word) : Type 0 where
+pub record Passes (k : WordKind) (word : TextWord) : Type 0 where
   pub shaped : is_shaped k word ≡ true
-  pub numbered : is_numbered k word ≡ true
+  pub numbered : is_in_range k word ≡ true
   pub prints : is_printable word ≡ true
 
-pub passes : (k : WordKind) (s : Said) (word : Word) → Suits k s → Says word s → Passes k word
+pub passes : (k : WordKind) (s : Said) (word : TextWord) → Suits k s → Says word s → Passes k word
 passes kind.Named (Named name) word suits says =
     let is = subst IsName (sym says.0) says.1 in
     record { shaped = rw (name_read word is) refl; numbered = refl; prints = name_prints word is }

@@ -5,7 +5,7 @@ use Rattle.std.specs.Option.{ok_or}
 use Rattle.std.specs.Str.{bytes_eq}
 use Rattle.oat_lines.specs.declared.fault.Fault.TheVariants.{At}
 use Rattle.oat_lines.specs.Faults.{at}
-use Rattle.oat_lines.specs.Lines.{lines_of}
+use Rattle.oat_lines.specs.Lines.{TextWord, lines_of}
 use Rattle.oat_lines.specs.Reading.{◌>>=◌}
 use Rattle.oat_ir.specs.declared.program.Program.{Program}
 use Rattle.oat_ir.specs.declared.program.GlobalItem.{GlobalItem}
@@ -27,8 +27,7 @@ use Rattle.oat_text.specs.declared.form.TermForm.TheVariants as terms
 use Rattle.oat_text.specs.declared.fault.TextFaultKind.{TextFaultKind}
 use Rattle.oat_text.specs.declared.fault.TextFaultKind.TheVariants.{Number, Unknown}
 use Rattle.oat_text.specs.declared.head.Head.{Head}
-use Rattle.oat_text.specs.Words.{Word}
-use Rattle.oat_text.specs.Forms.{form_of}
+use Rattle.oat_text.specs.Forms.{line_form}
 use Rattle.oat_text.specs.Passes.{OrFault, numbered, over}
 use Rattle.oat_text.specs.Readings.{i64_of, name_at}
 use Rattle.oat_text.specs.Outline.{Outline, itself, local_name, outline_of}
@@ -38,33 +37,33 @@ use Rattle.oat_text.specs.Outline.{Outline, itself, local_name, outline_of}
 -- the names that an instruction may use
 pub record Scope : Type 0 where
   pub globals : List GlobalItem
-  pub funcs : List Word
+  pub funcs : List TextWord
   pub locals : List Local
-  pub labels : List Word
+  pub labels : List TextWord
 
 -- the index of the thing of this name
-abbrev pub number_of : {X : Type 0} → (X → Word) → List X → Word → Option ℕ
-number_of called items word = position (λ item. bytes_eq word (called item)) items
+abbrev pub index_of : {X : Type 0} → (X → TextWord) → List X → TextWord → Option ℕ
+index_of called items word = position (λ item. bytes_eq word (called item)) items
 
-abbrev pub global_number : Scope → List Word → ℕ → Result ℕ TextFaultKind
-global_number s words k = ok_or (option_and_then (number_of global_name s.globals) (slice_get words k)) Unknown
+abbrev pub global_index : Scope → List TextWord → ℕ → Result ℕ TextFaultKind
+global_index s words k = ok_or (option_and_then (index_of global_name s.globals) (slice_get words k)) Unknown
 
-abbrev pub func_number : Scope → List Word → ℕ → Result ℕ TextFaultKind
-func_number s words k = ok_or (option_and_then (number_of itself s.funcs) (slice_get words k)) Unknown
+abbrev pub func_index : Scope → List TextWord → ℕ → Result ℕ TextFaultKind
+func_index s words k = ok_or (option_and_then (index_of itself s.funcs) (slice_get words k)) Unknown
 
-abbrev pub argument : Scope → Word → Result ℕ TextFaultKind
-argument s word = ok_or (number_of local_name s.locals word) Unknown
+abbrev pub argument : Scope → TextWord → Result ℕ TextFaultKind
+argument s word = ok_or (index_of local_name s.locals word) Unknown
 
-abbrev pub local_number : Scope → List Word → ℕ → Result ℕ TextFaultKind
-local_number s words k = ok_or (option_and_then (number_of local_name s.locals) (slice_get words k)) Unknown
+abbrev pub local_index : Scope → List TextWord → ℕ → Result ℕ TextFaultKind
+local_index s words k = ok_or (option_and_then (index_of local_name s.locals) (slice_get words k)) Unknown
 
-abbrev pub label_number : Scope → List Word → ℕ → Result ℕ TextFaultKind
-label_number s words k = ok_or (option_and_then (number_of itself s.labels) (slice_get words k)) Unknown
+abbrev pub label_index : Scope → List TextWord → ℕ → Result ℕ TextFaultKind
+label_index s words k = ok_or (option_and_then (index_of itself s.labels) (slice_get words k)) Unknown
 
 -- ---- instructions and terminators
 
 -- so many at most
-unfoldable pub arguments : Scope → ℕ → List Word → Result (List ℕ) TextFaultKind
+unfoldable pub arguments : Scope → ℕ → List TextWord → Result (List ℕ) TextFaultKind
 arguments s most [] = Ok []
 arguments s zero (word ∷ words) = Err Unknown
 arguments s (suc most) (word ∷ words) = do
@@ -72,72 +71,72 @@ arguments s (suc most) (word ∷ words) = do
   xs ← arguments s most words
   Ok (x ∷ xs)
 
-unfoldable pub copy_of : Scope → List Word → Result Instr TextFaultKind
+unfoldable pub copy_of : Scope → List TextWord → Result Instr TextFaultKind
 copy_of s words = do
-  x ← local_number s words 0
-  y ← local_number s words 1
+  x ← local_index s words 0
+  y ← local_index s words 1
   Ok (Copy x y)
 
-unfoldable pub load_of : Scope → List Word → Result Instr TextFaultKind
+unfoldable pub load_of : Scope → List TextWord → Result Instr TextFaultKind
 load_of s words = do
-  x ← local_number s words 0
-  global ← global_number s words 1
+  x ← local_index s words 0
+  global ← global_index s words 1
   Ok (Load x global)
 
-unfoldable pub store_of : Scope → List Word → Result Instr TextFaultKind
+unfoldable pub store_of : Scope → List TextWord → Result Instr TextFaultKind
 store_of s words = do
-  global ← global_number s words 0
-  x ← local_number s words 1
+  global ← global_index s words 0
+  x ← local_index s words 1
   Ok (Store global x)
 
-unfoldable pub ref_of : Scope → List Word → Result Instr TextFaultKind
+unfoldable pub ref_of : Scope → List TextWord → Result Instr TextFaultKind
 ref_of s words = do
-  x ← local_number s words 0
-  func ← func_number s words 1
+  x ← local_index s words 0
+  func ← func_index s words 1
   Ok (RefTo x func)
 
-unfoldable pub binary_of : Scope → BinOp → List Word → Result Instr TextFaultKind
+unfoldable pub binary_of : Scope → BinOp → List TextWord → Result Instr TextFaultKind
 binary_of s op words = do
-  x ← local_number s words 0
-  y ← local_number s words 1
-  z ← local_number s words 2
+  x ← local_index s words 0
+  y ← local_index s words 1
+  z ← local_index s words 2
   Ok (Binary op x y z)
 
-unfoldable pub const_of : Scope → List Word → Result Instr TextFaultKind
+unfoldable pub const_of : Scope → List TextWord → Result Instr TextFaultKind
 const_of s words = do
-  x ← local_number s words 0
+  x ← local_index s words 0
   value ← ok_or (option_and_then i64_of (slice_get words 1)) Number
   Ok (Const x value)
 
-unfoldable pub loadx_of : Scope → List Word → Result Instr TextFaultKind
+unfoldable pub loadx_of : Scope → List TextWord → Result Instr TextFaultKind
 loadx_of s words = do
-  x ← local_number s words 0
-  array ← global_number s words 1
-  i ← local_number s words 2
+  x ← local_index s words 0
+  array ← global_index s words 1
+  i ← local_index s words 2
   Ok (LoadX x array i)
 
-unfoldable pub storex_of : Scope → List Word → Result Instr TextFaultKind
+unfoldable pub storex_of : Scope → List TextWord → Result Instr TextFaultKind
 storex_of s words = do
-  array ← global_number s words 0
-  i ← local_number s words 1
-  x ← local_number s words 2
+  array ← global_index s words 0
+  i ← local_index s words 1
+  x ← local_index s words 2
   Ok (StoreX array i x)
 
-unfoldable pub call_of : Scope → List Word → Result Instr TextFaultKind
+unfoldable pub call_of : Scope → List TextWord → Result Instr TextFaultKind
 call_of s words = do
-  x ← local_number s words 0
-  func ← func_number s words 1
+  x ← local_index s words 0
+  func ← func_index s words 1
   args ← arguments s 4 (drop 2 words)
   Ok (Call x func args)
 
-unfoldable pub icall_of : Scope → List Word → Result Instr TextFaultKind
+unfoldable pub icall_of : Scope → List TextWord → Result Instr TextFaultKind
 icall_of s words = do
-  x ← local_number s words 0
-  y ← local_number s words 1
+  x ← local_index s words 0
+  y ← local_index s words 1
   args ← arguments s 4 (drop 2 words)
   Ok (ICall x y args)
 
-unfoldable pub instr_of : Scope → InstrForm → List Word → Result Instr TextFaultKind
+unfoldable pub instr_of : Scope → InstrForm → List TextWord → Result Instr TextFaultKind
 instr_of s instrs.Const words = const_of s words
 instr_of s instrs.Copy words = copy_of s words
 instr_of s (instrs.Binary op) words = binary_of s op words
@@ -148,20 +147,20 @@ instr_of s instrs.StoreX words = storex_of s words
 instr_of s instrs.RefTo words = ref_of s words
 instr_of s instrs.Call words = call_of s words
 instr_of s instrs.ICall words = icall_of s words
-instr_of s instrs.Input words = local_number s words 0 >>= λ x. Ok (Input x)
-instr_of s instrs.Output words = local_number s words 0 >>= λ x. Ok (Output x)
+instr_of s instrs.Input words = local_index s words 0 >>= λ x. Ok (Input x)
+instr_of s instrs.Output words = local_index s words 0 >>= λ x. Ok (Output x)
 
-unfoldable pub branch_of : Scope → List Word → Result Term TextFaultKind
+unfoldable pub branch_of : Scope → List TextWord → Result Term TextFaultKind
 branch_of s words = do
-  x ← local_number s words 0
-  first ← label_number s words 1
-  second ← label_number s words 2
+  x ← local_index s words 0
+  first ← label_index s words 1
+  second ← label_index s words 2
   Ok (Branch x first second)
 
-unfoldable pub term_of : Scope → TermForm → List Word → Result Term TextFaultKind
-term_of s terms.Jump words = label_number s words 0 >>= λ to. Ok (Jump to)
+unfoldable pub term_of : Scope → TermForm → List TextWord → Result Term TextFaultKind
+term_of s terms.Jump words = label_index s words 0 >>= λ to. Ok (Jump to)
 term_of s terms.Branch words = branch_of s words
-term_of s terms.Ret words = local_number s words 0 >>= λ x. Ok (Ret x)
+term_of s terms.Ret words = local_index s words 0 >>= λ x. Ok (Ret x)
 term_of s terms.Halt words = Ok Halt
 
 -- ---- the text
@@ -172,7 +171,7 @@ pub record Bodies : Type 0 where
   pub ended : List (List BlockIr)
   pub blocks : List BlockIr
   -- the block that has begun
-  pub label : Option Word
+  pub label : Option TextWord
   pub instrs : List Instr
 
 abbrev pub no_bodies : Outline → Bodies
@@ -185,24 +184,24 @@ scope_of o head = record { globals = o.globals; funcs = o.funcs; locals = head.l
 abbrev pub scope_in : Bodies → Result Scope TextFaultKind
 scope_in b = ok_or (option_map (scope_of b.outline) (slice_get b.outline.heads (length b.ended))) Unknown
 
-unfoldable pub instr_in : Bodies → InstrForm → List Word → Result Instr TextFaultKind
+unfoldable pub instr_in : Bodies → InstrForm → List TextWord → Result Instr TextFaultKind
 instr_in b form words = scope_in b >>= λ scope. instr_of scope form words
 
-unfoldable pub term_in : Bodies → TermForm → List Word → Result Term TextFaultKind
+unfoldable pub term_in : Bodies → TermForm → List TextWord → Result Term TextFaultKind
 term_in b form words = scope_in b >>= λ scope. term_of scope form words
 
-unfoldable pub instr_line : ℕ → Bodies → InstrForm → List Word → OrFault Bodies
+unfoldable pub instr_line : ℕ → Bodies → InstrForm → List TextWord → OrFault Bodies
 instr_line n b form words = do
   instr ← at n (instr_in b form words)
   Ok (record b { instrs = b.instrs ++ instr ∷ [] })
 
-unfoldable pub term_line : ℕ → Bodies → TermForm → List Word → OrFault Bodies
+unfoldable pub term_line : ℕ → Bodies → TermForm → List TextWord → OrFault Bodies
 term_line n b form words = do
   term ← at n (term_in b form words)
   label ← ok_or b.label (At n Unknown)
   Ok (record b { blocks = b.blocks ++ (record { label = label; instrs = b.instrs; term = term }) ∷ []; label = None; instrs = [] })
 
-unfoldable pub fill : ℕ → Bodies → LineForm → List Word → OrFault Bodies
+unfoldable pub fill : ℕ → Bodies → LineForm → List TextWord → OrFault Bodies
 fill n b line.Block words = Ok (record b { label = name_at words 0 })
 fill n b (line.Instr form) words = instr_line n b form words
 fill n b (line.Term form) words = term_line n b form words
@@ -210,17 +209,17 @@ fill n b line.End words = Ok (record b { ended = b.ended ++ b.blocks ∷ []; blo
 fill n b _ words = Ok b
 
 -- a line that counts, by its words
-unfoldable pub body_line : ℕ → Bodies → List Word → OrFault Bodies
+unfoldable pub body_line : ℕ → Bodies → List TextWord → OrFault Bodies
 body_line n b [] = Ok b
 body_line n b (first ∷ words) = do
-  form ← ok_or (form_of first) (At n Unknown)
+  form ← ok_or (line_form first) (At n Unknown)
   fill n b form words
 
 abbrev pub bodies_of : Outline → List ℕ → OrFault Bodies
 bodies_of outline text = over body_line (no_bodies outline) (numbered 1 (lines_of text))
 
 -- a function, from its name, what it declares, and its blocks
-abbrev pub func_from : Word × (Head × List BlockIr) → Func
+abbrev pub func_from : TextWord × (Head × List BlockIr) → Func
 func_from f = record { name = f.0; role = f.1.0.role; params = f.1.0.params; locals = f.1.0.locals; blocks = f.1.1 }
 
 abbrev pub program_from : Outline → List (List BlockIr) → Program

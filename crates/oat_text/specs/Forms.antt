@@ -1,6 +1,7 @@
 -- The table of lines of a program text: what stands behind each first word (docs/FORMATS.md, "Program text").
 use Rattle.std.specs.Prelude.{ℕ, List, [], ◌∷◌, find, codes, Option}
 use Rattle.std.specs.Str.{bytes_eq}
+use Rattle.oat_lines.specs.Lines.{TextWord}
 use Rattle.oat_text.specs.declared.form.LineForm.{LineForm}
 use Rattle.oat_text.specs.declared.form.LineForm.TheVariants as line
 use Rattle.oat_text.specs.declared.form.GlobalForm.{GlobalForm}
@@ -14,23 +15,22 @@ use Rattle.oat_text.specs.declared.form.TermForm.TheVariants as terms
 use Rattle.oat_text.specs.declared.form.WordKind.{WordKind}
 use Rattle.oat_text.specs.declared.form.WordKind.TheVariants.{Named, Typed, Parameter, Start, Integer, Count}
 use Rattle.oat_text.specs.declared.form.TheConstants.{FORMS}
-use Rattle.oat_text.specs.Words.{Word}
 use Rattle.oat_text.specs.Grammar.{op_keyword}
 
 -- ---- first words
 
-abbrev pub global_word : GlobalForm → Word
+abbrev pub global_word : GlobalForm → TextWord
 global_word globals.Plain = codes "global"
 global_word globals.Critical = codes "critical"
 global_word globals.Array = codes "array"
 global_word globals.Criticals = codes "criticals"
 
-abbrev pub func_word : FuncForm → Word
+abbrev pub func_word : FuncForm → TextWord
 func_word funcs.Plain = codes "func"
 func_word funcs.Operation = codes "operation"
 func_word funcs.Main = codes "main"
 
-abbrev pub instr_word : InstrForm → Word
+abbrev pub instr_word : InstrForm → TextWord
 instr_word instrs.Const = codes "const"
 instr_word instrs.Copy = codes "copy"
 instr_word (instrs.Binary op) = op_keyword op
@@ -44,13 +44,13 @@ instr_word instrs.ICall = codes "icall"
 instr_word instrs.Input = codes "in"
 instr_word instrs.Output = codes "out"
 
-abbrev pub term_word : TermForm → Word
+abbrev pub term_word : TermForm → TextWord
 term_word terms.Jump = codes "jump"
 term_word terms.Branch = codes "branch"
 term_word terms.Ret = codes "ret"
 term_word terms.Halt = codes "halt"
 
-abbrev pub spelled : LineForm → Word
+abbrev pub spelled : LineForm → TextWord
 spelled (line.Global form) = global_word form
 spelled (line.Func form) = func_word form
 spelled line.Local = codes "local"
@@ -60,8 +60,8 @@ spelled (line.Instr form) = instr_word form
 spelled (line.Term form) = term_word form
 
 -- the form that a first word begins
-abbrev pub form_of : Word → Option LineForm
-form_of word = find (λ form. bytes_eq word (spelled form)) FORMS
+abbrev pub line_form : TextWord → Option LineForm
+line_form word = find (λ form. bytes_eq word (spelled form)) FORMS
 
 -- ---- the words behind the first one
 

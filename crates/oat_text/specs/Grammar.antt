@@ -1,8 +1,8 @@
 -- The program grammar: the lines of each program, and which texts have them (docs/FORMATS.md, "Program text"). A program has
 -- its lines in one order, so that a text of it differs from the printed one in blanks, skipped lines and zeros alone.
-use Rattle.std.specs.Prelude.{ℕ, Bool, true, false, not, List, [], ◌∷◌, ◌++◌, map, filter, take, drop, codes}
+use Rattle.std.specs.Prelude.{ℕ, Bool, true, false, List, [], ◌∷◌, ◌++◌, map, take, drop, codes}
 use Rattle.std.specs.List.{AllZip, flat_map, slice_index_or}
-use Rattle.oat_lines.specs.Lines.{lines_of, words_of, is_skipped}
+use Rattle.oat_lines.specs.Lines.{TextWord, lines_of, counting}
 use Rattle.oat_lines.specs.Fields.{spaced, ended}
 use Rattle.oat_ir.specs.declared.program.Program.{Program}
 use Rattle.oat_ir.specs.declared.program.GlobalItem.{GlobalItem}
@@ -21,7 +21,7 @@ use Rattle.oat_ir.specs.declared.instr.Term.{Term}
 use Rattle.oat_ir.specs.declared.instr.Term.TheVariants.{Jump, Branch, Ret, Halt}
 use Rattle.oat_ir.specs.Distinct.{global_name}
 use Rattle.oat_ir.specs.WellFormed.{IsProgram}
-use Rattle.oat_text.specs.Words.{Word, Said, Keyword, Named, Typed, Parameter, Number, Integer, Says, word_of}
+use Rattle.oat_text.specs.Words.{Said, Keyword, Named, Typed, Parameter, Number, Integer, Says, printed_word}
 
 -- what a line says, word by word
 abbrev pub Line : Type 0
@@ -43,7 +43,7 @@ func_at program f = Named (slice_index_or (map (λ g. g.name) program.funcs) f [
 
 -- ---- globals
 
-abbrev pub scalar_keyword : Bool → Word
+abbrev pub scalar_keyword : Bool → TextWord
 scalar_keyword true = codes "critical"
 scalar_keyword false = codes "global"
 
@@ -55,7 +55,7 @@ global_line (CriticalArray name len) = Keyword (codes "criticals") ∷ Named nam
 
 -- ---- instructions and terminators
 
-abbrev pub op_keyword : BinOp → Word
+abbrev pub op_keyword : BinOp → TextWord
 op_keyword Add = codes "add"
 op_keyword Sub = codes "sub"
 op_keyword Mul = codes "mul"
@@ -101,7 +101,7 @@ term_line f Halt = Keyword (codes "halt") ∷ []
 abbrev pub parameter : Local → Said
 parameter l = Parameter l.name l.ty
 
-abbrev pub head_line : Role → Word → List Local → Line
+abbrev pub head_line : Role → TextWord → List Local → Line
 head_line Plain name params = Keyword (codes "func") ∷ Named name ∷ map parameter params
 head_line (Operation id) name params = Keyword (codes "operation") ∷ Number id ∷ Named name ∷ map parameter params
 head_line Main name params = Keyword (codes "main") ∷ []
@@ -122,10 +122,6 @@ func_lines p f =
 abbrev pub program_lines : Program → List Line
 program_lines p = map global_line p.globals ++ flat_map (func_lines p) p.funcs
 
--- the words of each of these lines, without the lines that are skipped
-abbrev pub counting : List Word → List (List Word)
-counting lines = filter (λ words. not (is_skipped words)) (map words_of lines)
-
 -- the lines of the text, less the skipped ones, say these
 abbrev pub TextSays : List ℕ → List Line → Type 0
 TextSays text lines = AllZip (AllZip Says) (counting (lines_of text)) lines
@@ -135,9 +131,12 @@ pub record IsProgramText (text : List ℕ) (program : Program) : Type 0 where
   pub says : TextSays text (program_lines program)
   pub well_formed : IsProgram program
 
--- these lines as they are printed: one space between two words, and LF behind each line
+-- a line as it is printed: one space between two words, and LF at the end
+abbrev pub line_text : Line → List ℕ
+line_text line = ended (spaced (map printed_word line))
+
 abbrev pub lines_text : List Line → List ℕ
-lines_text lines = flat_map (λ line. ended (spaced (map word_of line))) lines
+lines_text lines = flat_map line_text lines
 
 abbrev pub program_text : Program → List ℕ
 program_text program = lines_text (program_lines program)

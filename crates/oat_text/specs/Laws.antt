@@ -1,6 +1,7 @@
--- What is printed for a program is a text of it (docs/FORMATS.md, "Program text").
-use Rattle.std.specs.Prelude.{IsTrue}
+-- The texts of programs, what is printed for a program, and what is read (docs/FORMATS.md, "Program text").
+use Rattle.std.specs.Prelude.{ℕ, ◌≡◌, ◌≤◌, ◌⊎◌, List, length, Ok, Err, IsTrue}
 use Rattle.std.specs.List.{All}
+use Rattle.oat_lines.specs.declared.fault.Fault.{Fault}
 use Rattle.oat_lines.specs.Integer.{is_i64}
 use Rattle.oat_map.specs.Name.{IsName}
 use Rattle.oat_ir.specs.declared.program.Program.{Program}
@@ -11,7 +12,9 @@ use Rattle.oat_ir.specs.declared.func.BlockIr.{BlockIr}
 use Rattle.oat_ir.specs.declared.instr.Instr.{Instr}
 use Rattle.oat_ir.specs.declared.instr.Instr.TheVariants.{Const}
 use Rattle.oat_ir.specs.WellFormed.{IsProgram}
+use Rattle.oat_text.specs.declared.fault.TextFaultKind.{TextFaultKind}
 use Rattle.oat_text.specs.Grammar.{IsProgramText, program_text}
+use Rattle.oat_text.specs.Bodies.{program_of}
 
 -- ---- what values of the Rust types have, and lists of numbers needn't: names are names, and numbers have 64 bits
 
@@ -38,7 +41,30 @@ pub record HasValues (program : Program) : Type 0 where
   pub globals : All HasGlobalValues program.globals
   pub funcs : All HasFuncValues program.funcs
 
--- ---- the law
+-- ---- the laws
 
 abbrev pub PrintedIsText : Type 0
 PrintedIsText = (program : Program) → IsProgram program → HasValues program → IsProgramText (program_text program) program
+
+-- a text of a program is read, and gives the program
+abbrev pub TextIsRead : Type 0
+TextIsRead = (text : List ℕ) (program : Program) → IsProgramText text program → program_of text ≡ Ok program
+
+-- what is printed for a program is read, and gives the program back
+abbrev pub PrintedIsRead : Type 0
+PrintedIsRead = (program : Program) → IsProgram program → HasValues program → program_of (program_text program) ≡ Ok program
+
+-- the length keeps the program within its size
+abbrev pub ReadIsText : Type 0
+ReadIsText = (text : List ℕ) (program : Program) → length text ≤ 1048576 → program_of text ≡ Ok program → IsProgramText text program
+
+-- a text stands for one program
+abbrev pub OneProgram : Type 0
+OneProgram = (text : List ℕ) (p q : Program) → IsProgramText text p → IsProgramText text q → p ≡ q
+
+-- a text stands for a program, or it has a first fault and stands for none
+abbrev pub ProgramOrFault : Type 0
+ProgramOrFault =
+    (text : List ℕ) → length text ≤ 1048576
+    → ((program : Program) × IsProgramText text program)
+    ⊎ ((fault : Fault TextFaultKind) × (program_of text ≡ Err fault) × ((program : Program) → ¬ IsProgramText text program))

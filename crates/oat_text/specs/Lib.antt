@@ -5,6 +5,7 @@ pub mod Grammar
 pub mod Laws
 pub mod Outline
 pub mod Passes
+pub mod Printing
 pub mod Readings
 pub mod Scoped
 pub mod Words

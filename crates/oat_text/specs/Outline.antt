@@ -6,7 +6,7 @@ use Rattle.std.specs.Option.{ok_or}
 use Rattle.std.specs.Str.{bytes_eq}
 use Rattle.oat_lines.specs.declared.fault.Fault.TheVariants.{At}
 use Rattle.oat_lines.specs.Faults.{at}
-use Rattle.oat_lines.specs.Lines.{lines_of}
+use Rattle.oat_lines.specs.Lines.{TextWord, lines_of}
 use Rattle.oat_lines.specs.Reading.{◌>>=◌, guard}
 use Rattle.oat_map.specs.Name.{read_name}
 use Rattle.oat_ir.specs.declared.program.GlobalItem.{GlobalItem}
@@ -26,10 +26,9 @@ use Rattle.oat_text.specs.declared.fault.TextFaultKind.TheVariants.{Token, Expec
 use Rattle.oat_text.specs.declared.head.Head.{Head}
 use Rattle.oat_text.specs.declared.head.Stage.{Stage}
 use Rattle.oat_text.specs.declared.head.Stage.TheVariants.{Outside, Locals, Inside, Behind}
-use Rattle.oat_text.specs.Words.{Word}
-use Rattle.oat_text.specs.Forms.{form_of, kinds_of}
+use Rattle.oat_text.specs.Forms.{line_form, kinds_of}
 use Rattle.oat_text.specs.Passes.{OrFault, numbered, each, over}
-use Rattle.oat_text.specs.Readings.{params_of, parameter_of, i64_of, count_of, name_at, local_in, begins_reference, is_printable, is_shaped, is_numbered, all_pass, has_number}
+use Rattle.oat_text.specs.Readings.{params_of, parameter_of, i64_of, count_of, name_at, local_in, begins_reference, is_printable, is_shaped, is_in_range, all_pass, has_number}
 
 -- what the lines so far declare
 pub record Outline : Type 0 where
@@ -37,7 +36,7 @@ pub record Outline : Type 0 where
   -- the numbers of the operations
   pub operations : List ℕ
   -- the names of the functions that have begun
-  pub funcs : List Word
+  pub funcs : List TextWord
   -- the functions that have ended: role, parameters, locals and labels
   pub heads : List Head
   -- the function that hasn't
@@ -64,99 +63,99 @@ stands Behind first line.Block = true
 stands Behind first line.End = true
 stands _ first _ = false
 
-unfoldable pub fitting : Stage → Bool → LineForm → List Word → Result LineForm TextFaultKind
+unfoldable pub fitting : Stage → Bool → LineForm → List TextWord → Result LineForm TextFaultKind
 fitting stage first form words = do
   shaped ← guard (all_pass is_shaped (kinds_of form) words) Token
   placed ← guard (stands stage first form && has_number form words) Expected
-  numbered ← guard (all_pass is_numbered (kinds_of form) words) Number
+  numbered ← guard (all_pass is_in_range (kinds_of form) words) Number
   Ok form
 
 -- the form of a line that passes all tests
-unfoldable pub tested : Stage → Bool → Word → List Word → Result LineForm TextFaultKind
+unfoldable pub tested : Stage → Bool → TextWord → List TextWord → Result LineForm TextFaultKind
 tested stage first word words = do
   printed ← guard (list_all is_printable (word ∷ words)) Token
-  form ← ok_or (form_of word) Expected
+  form ← ok_or (line_form word) Expected
   fitting stage first form words
 
 -- ---- what a line declares
 
 -- with one more thing, whose name is new among them
-abbrev pub add : {X : Type 0} → ℕ → (X → Word) → List X → X → OrFault (List X)
+abbrev pub add : {X : Type 0} → ℕ → (X → TextWord) → List X → X → OrFault (List X)
 add n called items item = do
   new ← guard (not (list_any (λ other. bytes_eq (called item) (called other)) items)) (At n Duplicate)
   Ok (items ++ item ∷ [])
 
-abbrev pub itself : Word → Word
+abbrev pub itself : TextWord → TextWord
 itself name = name
 
-abbrev pub local_name : Local → Word
+abbrev pub local_name : Local → TextWord
 local_name local = local.name
 
 -- a scalar, or a scalar of references
-unfoldable pub scalar_of : Word → Word → Result GlobalItem TextFaultKind
+unfoldable pub scalar_of : TextWord → TextWord → Result GlobalItem TextFaultKind
 scalar_of name word =
     if begins_reference word
     then (ok_or (params_of word) Token >>= λ params. Ok (FnScalar name params))
     else (ok_or (i64_of word) Number >>= λ start. Ok (Scalar name start false))
 
-unfoldable pub global_of : GlobalForm → Word → Word → Result GlobalItem TextFaultKind
+unfoldable pub global_of : GlobalForm → TextWord → TextWord → Result GlobalItem TextFaultKind
 global_of globals.Plain name word = scalar_of name word
 global_of globals.Critical name word = ok_or (i64_of word) Number >>= λ start. Ok (Scalar name start true)
 global_of globals.Array name word = ok_or (count_of 65536 word) Number >>= λ len. Ok (Array name len)
 global_of globals.Criticals name word = ok_or (count_of 4096 word) Number >>= λ len. Ok (CriticalArray name len)
 
-unfoldable pub global_in : GlobalForm → List Word → Result GlobalItem TextFaultKind
+unfoldable pub global_in : GlobalForm → List TextWord → Result GlobalItem TextFaultKind
 global_in form words = do
   name ← ok_or (name_at words 0) Token
   word ← ok_or (slice_get words 1) Expected
   global_of form name word
 
-unfoldable pub add_parameter : ℕ → List Local → Word → OrFault (List Local)
+unfoldable pub add_parameter : ℕ → List Local → TextWord → OrFault (List Local)
 add_parameter n locals word = do
   parameter ← ok_or (parameter_of word) (At n Token)
   add n local_name locals parameter
 
-abbrev pub add_parameters : ℕ → List Local → List Word → OrFault (List Local)
+abbrev pub add_parameters : ℕ → List Local → List TextWord → OrFault (List Local)
 add_parameters n = each (add_parameter n)
 
 -- a function of this role and name, with these parameters
-unfoldable pub begin_func : ℕ → Outline → Role → Word → List Word → OrFault Outline
+unfoldable pub begin_func : ℕ → Outline → Role → TextWord → List TextWord → OrFault Outline
 begin_func n o role name words = do
   names ← add n itself o.funcs name
   locals ← add_parameters n [] words
   Ok (record o { funcs = names; present = record { role = role; params = length locals; locals = locals; labels = [] }; stage = Locals })
 
-unfoldable pub begin_operation : ℕ → Outline → ℕ → Word → List Word → OrFault Outline
+unfoldable pub begin_operation : ℕ → Outline → ℕ → TextWord → List TextWord → OrFault Outline
 begin_operation n o id name words = do
   new ← guard (not (list_any (λ other. id == other) o.operations)) (At n Duplicate)
   begin_func n (record o { operations = o.operations ++ id ∷ [] }) (Operation id) name words
 
 -- the name or the number of an operation that stands first, and the words behind it
-abbrev pub name_first : List Word → Option (Word × List Word)
+abbrev pub name_first : List TextWord → Option (TextWord × List TextWord)
 name_first [] = None
 name_first (word ∷ words) = option_map (λ name. (name, words)) (read_name word)
 
-abbrev pub id_first : List Word → Option (ℕ × List Word)
+abbrev pub id_first : List TextWord → Option (ℕ × List TextWord)
 id_first [] = None
 id_first (word ∷ words) = option_map (λ id. (id, words)) (count_of 65535 word)
 
-unfoldable pub plain_line : ℕ → Outline → List Word → OrFault Outline
+unfoldable pub plain_line : ℕ → Outline → List TextWord → OrFault Outline
 plain_line n o words = do
   named ← ok_or (name_first words) (At n Token)
   begin_func n o Plain named.0 named.1
 
-unfoldable pub operation_line : ℕ → Outline → List Word → OrFault Outline
+unfoldable pub operation_line : ℕ → Outline → List TextWord → OrFault Outline
 operation_line n o words = do
   numbered ← ok_or (id_first words) (At n Number)
   named ← ok_or (name_first numbered.1) (At n Token)
   begin_operation n o numbered.0 named.0 named.1
 
-unfoldable pub func_line : ℕ → Outline → FuncForm → List Word → OrFault Outline
+unfoldable pub func_line : ℕ → Outline → FuncForm → List TextWord → OrFault Outline
 func_line n o funcs.Plain words = plain_line n o words
 func_line n o funcs.Operation words = operation_line n o words
 func_line n o funcs.Main words = begin_func n o Main (codes "main") words
 
-unfoldable pub global_line : ℕ → Outline → GlobalForm → List Word → OrFault Outline
+unfoldable pub global_line : ℕ → Outline → GlobalForm → List TextWord → OrFault Outline
 global_line n o form words = do
   item ← at n (global_in form words)
   globals ← add n global_name o.globals item
@@ -165,22 +164,22 @@ global_line n o form words = do
 abbrev pub with_locals : Head → List Local → Head
 with_locals head locals = record head { locals = locals }
 
-abbrev pub with_labels : Head → List Word → Head
+abbrev pub with_labels : Head → List TextWord → Head
 with_labels head labels = record head { labels = labels }
 
-unfoldable pub local_line : ℕ → Outline → List Word → OrFault Outline
+unfoldable pub local_line : ℕ → Outline → List TextWord → OrFault Outline
 local_line n o words = do
   local ← ok_or (local_in words) (At n Token)
   locals ← add n local_name o.present.locals local
   Ok (record o { present = with_locals o.present locals })
 
-unfoldable pub block_line : ℕ → Outline → List Word → OrFault Outline
+unfoldable pub block_line : ℕ → Outline → List TextWord → OrFault Outline
 block_line n o words = do
   label ← ok_or (name_at words 0) (At n Token)
   labels ← add n itself o.present.labels label
   Ok (record o { present = with_labels o.present labels; stage = Inside })
 
-unfoldable pub declare : ℕ → Outline → LineForm → List Word → OrFault Outline
+unfoldable pub declare : ℕ → Outline → LineForm → List TextWord → OrFault Outline
 declare n o (line.Global form) words = global_line n o form words
 declare n o (line.Func form) words = func_line n o form words
 declare n o line.Local words = local_line n o words
@@ -190,7 +189,7 @@ declare n o (line.Instr form) words = Ok o
 declare n o (line.Term form) words = Ok (record o { stage = Behind })
 
 -- a line that counts, by its words
-unfoldable pub outline_line : ℕ → Outline → List Word → OrFault Outline
+unfoldable pub outline_line : ℕ → Outline → List TextWord → OrFault Outline
 outline_line n o [] = Ok o
 outline_line n o (first ∷ words) = do
   form ← at n (tested o.stage (length o.funcs == 0) first words)

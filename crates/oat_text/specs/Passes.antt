@@ -1,17 +1,16 @@
 -- Going over the lines of a program text (docs/FORMATS.md, "Program text").
 use Rattle.std.specs.Prelude.{ℕ, ◌+◌, List, [], ◌∷◌, Result, Ok, if◌then◌else◌}
 use Rattle.oat_lines.specs.declared.fault.Fault.{Fault}
-use Rattle.oat_lines.specs.Lines.{words_of, is_skipped}
+use Rattle.oat_lines.specs.Lines.{TextWord, words_of, is_skipped}
 use Rattle.oat_lines.specs.Reading.{◌>>=◌}
 use Rattle.oat_text.specs.declared.fault.TextFaultKind.{TextFaultKind}
-use Rattle.oat_text.specs.Words.{Word}
 
 -- a value, or why there is none
 abbrev pub OrFault : Type 0 → Type 0
 OrFault X = Result X (Fault TextFaultKind)
 
 -- the words of the lines that count, each with the number of its line; the first line has number n
-unfoldable pub numbered : ℕ → List (List ℕ) → List (ℕ × List Word)
+unfoldable pub numbered : ℕ → List (List ℕ) → List (ℕ × List TextWord)
 numbered n [] = []
 numbered n (line ∷ lines) =
     if is_skipped (words_of line) then numbered (n + 1) lines else (n, words_of line) ∷ numbered (n + 1) lines
@@ -24,5 +23,5 @@ each takes s (x ∷ xs) = do
   each takes next xs
 
 -- the same for lines and their numbers
-abbrev pub over : {S : Type 0} → (ℕ → S → List Word → OrFault S) → S → List (ℕ × List Word) → OrFault S
+abbrev pub over : {S : Type 0} → (ℕ → S → List TextWord → OrFault S) → S → List (ℕ × List TextWord) → OrFault S
 over takes s lines = each (λ t line. takes line.0 t line.1) s lines

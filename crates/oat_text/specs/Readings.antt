@@ -7,6 +7,7 @@ use Rattle.oat_lines.specs.Decimal.{numeral_of}
 use Rattle.oat_lines.specs.Fields.{cut, is_visible}
 use Rattle.oat_lines.specs.Integer.{integer_of, is_i64}
 use Rattle.oat_lines.specs.Reading.{between}
+use Rattle.oat_lines.specs.Lines.{TextWord}
 use Rattle.oat_map.specs.Name.{read_name}
 use Rattle.oat_ir.specs.declared.func.Ty.{Ty}
 use Rattle.oat_ir.specs.declared.func.Ty.TheVariants.{I64, Fn}
@@ -14,13 +15,12 @@ use Rattle.oat_ir.specs.declared.func.Local.{Local}
 use Rattle.oat_text.specs.declared.form.LineForm.{LineForm}
 use Rattle.oat_text.specs.declared.form.WordKind.{WordKind}
 use Rattle.oat_text.specs.declared.form.WordKind.TheVariants as kind
-use Rattle.oat_text.specs.Words.{Word}
 use Rattle.oat_text.specs.Forms.{kinds_of, optional}
 
 -- ---- values
 
 -- the number of parameters of a reference's type
-abbrev pub params_of : Word → Option ℕ
+abbrev pub params_of : TextWord → Option ℕ
 params_of word =
     if bytes_eq word (codes "fn/0") then Some 0
     else if bytes_eq word (codes "fn/1") then Some 1
@@ -29,43 +29,43 @@ params_of word =
     else if bytes_eq word (codes "fn/4") then Some 4
     else None
 
-abbrev pub ty_of : Word → Option Ty
+abbrev pub ty_of : TextWord → Option Ty
 ty_of word = if bytes_eq word (codes "i64") then Some I64 else option_map (λ params. Fn params) (params_of word)
 
-abbrev pub local_of : Word → Word → Option Local
+abbrev pub local_of : TextWord → TextWord → Option Local
 local_of name ty = option_and_then (λ n. option_map (λ t. record { name = n; ty = t }) (ty_of ty)) (read_name name)
 
 -- a name and a type, on both sides of the first colon
-abbrev pub parameter_of : Word → Option Local
+abbrev pub parameter_of : TextWord → Option Local
 parameter_of word = option_and_then (λ p. local_of p.0 p.1) (cut 58 word)
 
 -- a number of 64 bits with a sign
-abbrev pub i64_of : Word → Option ℤ
+abbrev pub i64_of : TextWord → Option ℤ
 i64_of word = option_and_then (λ z. if is_i64 z then Some z else None) (integer_of word)
 
 -- a number from 1 to this one
-abbrev pub count_of : ℕ → Word → Option ℕ
+abbrev pub count_of : ℕ → TextWord → Option ℕ
 count_of most word = option_and_then (λ n. if between 1 most n then Some n else None) (numeral_of word)
 
 -- the name at a place of a line
-abbrev pub name_at : List Word → ℕ → Option Word
+abbrev pub name_at : List TextWord → ℕ → Option TextWord
 name_at words k = option_and_then read_name (slice_get words k)
 
 -- the local that the first two words of a line give
-abbrev pub local_in : List Word → Option Local
+abbrev pub local_in : List TextWord → Option Local
 local_in words = option_and_then (λ name. option_and_then (local_of name) (slice_get words 1)) (slice_get words 0)
 
-abbrev pub begins_reference : Word → Bool
+abbrev pub begins_reference : TextWord → Bool
 begins_reference word = bytes_eq (take 3 word) (codes "fn/")
 
 -- ---- tests
 
 -- ASCII that is printed
-abbrev pub is_printable : Word → Bool
+abbrev pub is_printable : TextWord → Bool
 is_printable word = list_all (λ b. is_visible b && nat_lt b 127) word
 
 -- well formed, where a name, a type or a parameter is wanted
-abbrev pub is_shaped : WordKind → Word → Bool
+abbrev pub is_shaped : WordKind → TextWord → Bool
 is_shaped kind.Named word = is_some (read_name word)
 is_shaped kind.Typed word = is_some (ty_of word)
 is_shaped kind.Parameter word = is_some (parameter_of word)
@@ -73,17 +73,17 @@ is_shaped kind.Start word = if begins_reference word then is_some (ty_of word) e
 is_shaped _ word = true
 
 -- a number in its range, where one is wanted
-abbrev pub is_numbered : WordKind → Word → Bool
-is_numbered kind.Start word = begins_reference word || is_some (i64_of word)
-is_numbered kind.Integer word = is_some (i64_of word)
-is_numbered (kind.Count most) word = is_some (count_of most word)
-is_numbered _ word = true
+abbrev pub is_in_range : WordKind → TextWord → Bool
+is_in_range kind.Start word = begins_reference word || is_some (i64_of word)
+is_in_range kind.Integer word = is_some (i64_of word)
+is_in_range (kind.Count most) word = is_some (count_of most word)
+is_in_range _ word = true
 
 -- each word passes the test of its kind, as far as there are both
-abbrev pub all_pass : (WordKind → Word → Bool) → List WordKind → List Word → Bool
+abbrev pub all_pass : (WordKind → TextWord → Bool) → List WordKind → List TextWord → Bool
 all_pass test (kind ∷ kinds) (word ∷ words) = test kind word && all_pass test kinds words
 all_pass test _ _ = true
 
 -- there are as many words as there may be
-abbrev pub has_number : LineForm → List Word → Bool
+abbrev pub has_number : LineForm → List TextWord → Bool
 has_number form words = between (length (kinds_of form) - optional form) (length (kinds_of form)) (length words)

@@ -5,7 +5,7 @@ ghost use Rattle.oat_lines.specs.Faults.{Gives};
 ghost use Rattle.oat_lines.specs.Lines.{words_of};
 
 use crate::fault::{TextFault, TextFaultKind};
-use crate::form::{InstrForm, LineForm, TermForm, form_of};
+use crate::form::{InstrForm, LineForm, TermForm, line_form};
 use crate::outline::Outline;
 use crate::pass::Pass;
 use crate::scope::Scope;
@@ -151,7 +151,7 @@ impl Pass for Bodies<'_> {
 
     #[tactic(auto, unfolding(crate::specs::Bodies::body_line))]
     fn take(&mut self, line: u32, first: &[u8], words: &[u8]) -> Result<(), TextFault> {
-        let form = form_of(first).ok_or(Fault::At(line, TextFaultKind::Unknown))?;
+        let form = line_form(first).ok_or(Fault::At(line, TextFaultKind::Unknown))?;
         self.fill(line, form, words)
     }
 }

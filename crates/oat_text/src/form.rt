@@ -2,7 +2,7 @@
 
 ghost use Rattle.std.specs.Prelude.{◌≡◌};
 ghost use Rattle.oat_text.specs.Grammar.{op_keyword};
-ghost use Rattle.oat_text.specs.Forms.{global_word, func_word, instr_word, term_word, spelled, form_of, global_kinds, func_kinds, instr_kinds, term_kinds, kinds_of, optional};
+ghost use Rattle.oat_text.specs.Forms.{global_word, func_word, instr_word, term_word, spelled, line_form, global_kinds, func_kinds, instr_kinds, term_kinds, kinds_of, optional};
 
 use oat_ir::BinOp;
 
@@ -168,7 +168,7 @@ impl LineForm {
 }
 
 impl GlobalForm {
-    fn spelled(self) -> &'static [u8]
+    pub fn spelled(self) -> &'static [u8]
         ensures { result.now ≡ global_word self }
     {
         match self {
@@ -192,7 +192,7 @@ impl GlobalForm {
 }
 
 impl FuncForm {
-    fn spelled(self) -> &'static [u8]
+    pub fn spelled(self) -> &'static [u8]
         ensures { result.now ≡ func_word self }
     {
         match self {
@@ -227,7 +227,7 @@ impl FuncForm {
 }
 
 impl InstrForm {
-    fn spelled(self) -> &'static [u8]
+    pub fn spelled(self) -> &'static [u8]
         ensures { result.now ≡ instr_word self }
     {
         match self {
@@ -297,7 +297,7 @@ fn op_spelled(op: BinOp) -> &'static [u8]
 }
 
 impl TermForm {
-    fn spelled(self) -> &'static [u8]
+    pub fn spelled(self) -> &'static [u8]
         ensures { result.now ≡ term_word self }
     {
         match self {
@@ -320,8 +320,8 @@ impl TermForm {
 }
 
 /// The form that a first word begins.
-pub fn form_of(word: &[u8]) -> Option<LineForm>
-    ensures { result ≡ form_of word.now }
+pub fn line_form(word: &[u8]) -> Option<LineForm>
+    ensures { result ≡ line_form word.now }
 {
     FORMS.iter().copied().find(|form| word == form.spelled())
 }

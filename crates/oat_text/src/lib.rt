@@ -9,6 +9,8 @@ mod head;
 pub mod laws;
 mod outline;
 mod pass;
+mod printing;
+mod put;
 mod reading;
 mod scope;
 mod table;
@@ -16,6 +18,7 @@ mod tested;
 mod word;
 
 pub use fault::{TextFault, TextFaultKind};
+pub use printing::print_program;
 pub use reading::read_program;
 
 #[cfg(test)]

@@ -1,5 +1,7 @@
-ghost use Rattle.std.specs.Prelude.{◌≡◌, ◌≤◌, length, map, zip, IfOk};
+ghost use Rattle.std.specs.Prelude.{◌≡◌, ◌≤◌, length, map, zip, IfOk, Ok};
 ghost use Rattle.oat_lines.specs.Faults.{Gives};
+ghost use Rattle.oat_ir.specs.declared.program.Program.{Program};
+ghost use Rattle.oat_text.specs.Grammar.{IsProgramText};
 ghost use Rattle.oat_text.specs.Outline.{outline_of};
 ghost use Rattle.oat_text.specs.Bodies.{bodies_of, func_from, program_from, program_of};
 
@@ -77,13 +79,25 @@ fn program_from(
     })
 }
 
-/// The program that a text stands for.
-pub fn read_program(alloc: Global, text: &[u8]) -> Result<Program, TextFault>
+fn read_whole(alloc: Global, text: &[u8]) -> Result<Program, TextFault>
     requires { length text.now ≤ 1048576 }
-    ensures exact { Gives (λ read. read) result (program_of text.now) }
+    ensures { Gives (λ read. read) result (program_of text.now) }
 {
     let outline = outline_in(alloc, text)?;
     let bodies = bodies_in(&outline, text)?.into_ended();
     let program = program_from(alloc, outline, bodies)?;
     Ok(program)
+}
+
+/// The program that a text stands for; the text has at most 1,048,576 bytes.
+pub fn read_program(alloc: Global, text: &[u8]) -> Result<Program, TextFault>
+    requires { length text.now ≤ 1048576 }
+    // What is read is a program of the text.
+    ensures found { IfOk result (λ program. IsProgramText text.now program) }
+    // The program of a text is read, unless memory runs out.
+    ensures only { (program : Program) → IsProgramText text.now program → Gives (λ read. read) result (Ok program) }
+    // Which fault it is, and of which line.
+    ensures exact { Gives (λ read. read) result (program_of text.now) }
+{
+    read_whole(alloc, text)
 }

@@ -3,7 +3,7 @@
 ghost use Rattle.std.specs.Prelude.{◌≡◌, ◌≤◌, drop, slice_get, length};
 ghost use Rattle.oat_lines.specs.Lines.{words_of};
 ghost use Rattle.oat_text.specs.Scoped.{scoped};
-ghost use Rattle.oat_text.specs.Bodies.{global_number, func_number, local_number, label_number, argument, arguments, const_of, copy_of, binary_of, load_of, store_of, loadx_of, storex_of, ref_of, call_of, icall_of, instr_of, branch_of, term_of};
+ghost use Rattle.oat_text.specs.Bodies.{global_index, func_index, local_index, label_index, argument, arguments, const_of, copy_of, binary_of, load_of, store_of, loadx_of, storex_of, ref_of, call_of, icall_of, instr_of, branch_of, term_of};
 
 use crate::fault::TextFaultKind;
 use crate::form::{InstrForm, TermForm};
@@ -24,28 +24,28 @@ pub struct Scope<'a> {
 
 impl Scope<'_> {
     fn global(&self, words: &[u8], place: usize) -> Result<u32, TextFaultKind>
-        ensures { result ≡ global_number (scoped self.now) (words_of words.now) place }
+        ensures { result ≡ global_index (scoped self.now) (words_of words.now) place }
     {
         let word = word_at(words, place).ok_or(TextFaultKind::Unknown)?;
         self.globals.number(word).ok_or(TextFaultKind::Unknown)
     }
 
     fn func(&self, words: &[u8], place: usize) -> Result<u32, TextFaultKind>
-        ensures { result ≡ func_number (scoped self.now) (words_of words.now) place }
+        ensures { result ≡ func_index (scoped self.now) (words_of words.now) place }
     {
         let word = word_at(words, place).ok_or(TextFaultKind::Unknown)?;
         self.funcs.number(word).ok_or(TextFaultKind::Unknown)
     }
 
     fn local(&self, words: &[u8], place: usize) -> Result<u32, TextFaultKind>
-        ensures { result ≡ local_number (scoped self.now) (words_of words.now) place }
+        ensures { result ≡ local_index (scoped self.now) (words_of words.now) place }
     {
         let word = word_at(words, place).ok_or(TextFaultKind::Unknown)?;
         self.argument(word)
     }
 
     fn label(&self, words: &[u8], place: usize) -> Result<u32, TextFaultKind>
-        ensures { result ≡ label_number (scoped self.now) (words_of words.now) place }
+        ensures { result ≡ label_index (scoped self.now) (words_of words.now) place }
     {
         let word = word_at(words, place).ok_or(TextFaultKind::Unknown)?;
         self.labels.number(word).ok_or(TextFaultKind::Unknown)

@@ -67,7 +67,7 @@ impl<T: Called + Drop> Table<T> {
     ghost use Rattle.oat_lines.specs.Faults.{Gives};
     ghost use Rattle.oat_lines.specs.declared.fault.Fault.TheVariants.{Memory};
     ghost use Rattle.oat_text.specs.Outline.{add};
-    ghost use Rattle.oat_text.specs.Bodies.{number_of};
+    ghost use Rattle.oat_text.specs.Bodies.{index_of};
 
     /// An empty table, for which no memory is taken.
     pub fn new(alloc: Global) -> Self
@@ -131,7 +131,7 @@ impl<T: Called + Drop> Table<T> {
 
     /// The index of the thing of this name.
     pub fn number(&self, name: &[u8]) -> Option<u32>
-        ensures { result ≡ number_of T.called self.now name.now }
+        ensures { result ≡ index_of T.called self.now name.now }
     {
         match self.names.get_index_of(name) {
             Some(index) => Some(index as u32),

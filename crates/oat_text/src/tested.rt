@@ -5,11 +5,11 @@ ghost use Rattle.std.specs.List.{list_all};
 ghost use Rattle.oat_lines.specs.Lines.{words_of};
 ghost use Rattle.oat_lines.specs.Reading.{between};
 ghost use Rattle.oat_text.specs.declared.form.WordKind.{WordKind};
-ghost use Rattle.oat_text.specs.Readings.{is_printable, is_shaped, is_numbered, all_pass, has_number};
+ghost use Rattle.oat_text.specs.Readings.{is_printable, is_shaped, is_in_range, all_pass, has_number};
 ghost use Rattle.oat_text.specs.Outline.{stands, fitting, tested};
 
 use crate::fault::TextFaultKind;
-use crate::form::{LineForm, WordKind, form_of};
+use crate::form::{LineForm, WordKind, line_form};
 use crate::head::Stage;
 use crate::word::{count_in, i64_in, is_reference, parameter_in, ty_in};
 use oat_lines::first_word;
@@ -44,7 +44,7 @@ impl WordTest for Shape {
 }
 
 impl WordTest for Range {
-    ghost test = { is_numbered };
+    ghost test = { is_in_range };
 
     fn passes(kind: WordKind, word: &[u8]) -> bool {
         match kind {
@@ -169,6 +169,6 @@ pub fn tested(
     if !is_printable(word) || !are_printable(words) {
         return Err(TextFaultKind::Token);
     }
-    let form = form_of(word).ok_or(TextFaultKind::Expected)?;
+    let form = line_form(word).ok_or(TextFaultKind::Expected)?;
     fitting(stage, first, form, words)
 }

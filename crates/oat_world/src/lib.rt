@@ -15,6 +15,3 @@ pub use memory_sink::MemorySink;
 pub use real_files::RealFiles;
 pub use real_sink::RealSink;
 pub use sink::{Sink, SinkFault};
-
-#[cfg(test)]
-mod tests;

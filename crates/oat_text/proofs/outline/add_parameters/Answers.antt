@@ -1,4 +1,4 @@
-use Rattle.std.proofs.Common.{length, arith}
+use Rattle.std.proofs.Common.{arith}
 use Rattle.std.proofs.lemmas.Result.{err_from_is_err_and}
 use Rattle.oat_lines.specs.Lines.{words_of}
 use Rattle.oat_text.specs.Outline.{add_parameter, add_parameters}

@@ -1,9 +1,9 @@
-use Rattle.std.proofs.Common.{refl}
-use Rattle.std.proofs.lemmas.Result.{err_from_is_err_and}
-use Rattle.oat_text.proofs.Joined.{bodies_fail}
+use Rattle.oat_text.proofs.ReadBack.{is_only}
+use Rattle.oat_text.proofs.ReadTexts.{is_found}
 use Rattle.oat_text.proofs.reading.read_program.Goals as goal
 
-pub returns-in_err-bodies_in : goal.returns-in_err-bodies_in
-returns-in_err-bodies_in c =
-    let p = err_from_is_err_and c.from_residual-in_err-bodies_in.result c.from_residual-in_err-bodies_in.ensures.1 in
-    record { exact = rw (p.1, p.2) (bodies_fail c.args.text.now c.in_ok-outline.outline c.in_err-bodies_in.field-0.0 c.in_ok-outline.ensures c.in_err-bodies_in.ensures) }
+pub returns-clause-found : goal.returns-clause-found
+returns-clause-found c = is_found c.args.text.now c.read_whole.result c.requires c.read_whole.ensures
+
+pub returns-clause-only : goal.returns-clause-only
+returns-clause-only c = λ program is. is_only c.args.text.now c.read_whole.result c.read_whole.ensures program is
