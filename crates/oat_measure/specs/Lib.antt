@@ -4,3 +4,4 @@ pub mod Shelving
 pub mod Monitored
 pub mod Running
 pub mod Transitions
+pub mod BodyShelf

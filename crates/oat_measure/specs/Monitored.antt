@@ -16,6 +16,8 @@ pub record Monitored : Type 0 where
   -- how many more bits and targets there is room for
   pub spare_bits : ℕ
   pub spare_targets : ℕ
+  -- how many of either kind there is room for in all
+  pub room : ℕ
 
 abbrev pub cells_of : List ℕ → Cells
 cells_of words = slice_get words
@@ -37,3 +39,4 @@ pub record Keeps (old new : Monitored) : Type 0 where
   pub opening : new.opening ≡ old.opening
   pub spare_bits : new.spare_bits ≡ old.spare_bits
   pub spare_targets : new.spare_targets ≡ old.spare_targets
+  pub room : new.room ≡ old.room

@@ -1,5 +1,5 @@
 -- The measurement of a session: its windows one behind the other, of which those that are done lie on a shelf (docs/FORMATS.md, "Monitor calls").
-use Rattle.std.specs.Prelude.{ℕ, ◌+◌, ◌≡◌, Bool, false, List, [], ◌∷◌, ◌++◌, Option, None, Some, option_map, nat_lt, Result, Ok, Err, slice_get, if◌then◌else◌}
+use Rattle.std.specs.Prelude.{ℕ, ◌+◌, ◌≡◌, ◌≤◌, Bool, false, List, [], ◌∷◌, ◌++◌, Option, None, Some, option_map, MatchOption, nat_lt, Result, Ok, Err, slice_get, if◌then◌else◌}
 use Rattle.oat_blob.specs.declared.body.BodyHead.{BodyHead}
 use Rattle.oat_blob.specs.Body.{Body}
 use Rattle.oat_measure.specs.declared.call.MonitorCall.{MonitorCall}
@@ -25,6 +25,10 @@ pub record Measurements : Type 0 where
   -- the state of the present one
   pub state : State
 
+-- The first window of a session: windows are numbered from 0, and there is at least one, or there is one without a number.
+abbrev pub IsFirst : Opening → Type 0
+IsFirst o = MatchOption o.serial (o.calls ≡ 1) (λ serial. (serial ≡ 0) × (1 ≤ o.calls))
+
 -- a session that starts
 abbrev pub at_start : Opening → Cells → Measurements
 at_start o cells = record { shelved = []; state = booted o.serial cells }
@@ -33,6 +37,10 @@ at_start o cells = record { shelved = []; state = booted o.serial cells }
 abbrev pub is_due : Opening → Option ℕ → Bool
 is_due o None = false
 is_due o (Some serial) = nat_lt (serial + 1) o.calls
+
+-- the same session's next window
+abbrev pub next_opening : Opening → Opening
+next_opening o = record o { serial = option_map (λ serial. serial + 1) o.serial }
 
 -- the window that follows: the next number, the same cells, and nothing recorded
 abbrev pub reopened : State → State

@@ -1,3 +1,6 @@
+ghost use Rattle.std.specs.Prelude.{◌≡◌, IsTrue};
+ghost use Rattle.oat_measure.specs.Shelving.{is_due, next_opening};
+
 /// What the windows of a session are opened for, and the number of the present one.
 #[derive(Clone, Copy, Debug, PartialEq, Eq)]
 pub struct Opening {
@@ -11,4 +14,18 @@ pub struct Opening {
     pub serial: Option<u32>,
     /// How many windows the session has.
     pub calls: u32,
+}
+
+impl Opening {
+    /// The same session's next window.
+    pub fn next(&self) -> Opening
+        requires { IsTrue (is_due self.now self.now.serial) }
+        ensures { result ≡ next_opening self.now }
+    {
+        let mut next = *self;
+        if let Some(serial) = self.serial {
+            next.serial = Some(serial + 1);
+        }
+        next
+    }
 }

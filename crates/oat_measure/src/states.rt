@@ -1,14 +1,15 @@
 //! The three states of a measurement. Each transition takes the state that it leaves.
 
-ghost use Rattle.std.specs.Prelude.{◌≡◌, ◌+◌, ◌≤◌, ℕ, length, not, nat_eq, IfOk, Ok, Some};
+ghost use Rattle.std.specs.Prelude.{◌≡◌, ◌+◌, ◌≤◌, ℕ, [], ◌∷◌, ◌++◌, length, not, nat_eq, IsTrue, IfOk, Ok, Some};
 ghost use Rattle.oat_measure.specs.Measurement.{booted, measured, unmeasured, measuring, sealed};
 ghost use Rattle.oat_measure.specs.declared.call.MonitorCall.TheVariants as svc;
 ghost use Rattle.oat_measure.specs.Monitored.{Keeps, cells_of, state_at};
-ghost use Rattle.oat_measure.specs.Shelving.{body_head};
+ghost use Rattle.oat_measure.specs.Shelving.{IsFirst, body_head, body_of, is_due, next_opening, reopened};
 ghost use Rattle.oat_measure.specs.Transitions.{begun_shown, begun_state, BegunUnchanged, ended_shown, ended_state, EndedUnchanged};
 
 use crate::cells::{define, unsound};
 use crate::opening::Opening;
+use crate::shelf::Shelf;
 use oat_bits::PackedBits;
 use oat_blob::{BodyHead, Violation};
 use oat_chain::{Chain, window_head};
@@ -25,7 +26,7 @@ pub struct Unmeasured {
 }
 
 impl Model for Unmeasured {
-    ghost use Rattle.std.specs.Prelude.{◌≤◌, ◌-◌, [], length, None, vec_len, vec_capacity};
+    ghost use Rattle.std.specs.Prelude.{◌≤◌, ◌+◌, ◌-◌, [], length, min, None, vec_len, vec_capacity};
     ghost use Rattle.oat_measure.specs.Monitored.{Monitored};
 
     ghost Value = { Monitored };
@@ -39,6 +40,7 @@ impl Model for Unmeasured {
       violation = None;
       spare_bits = u.bits.spare;
       spare_targets = vec_capacity u.targets - vec_len u.targets;
+      room = min (length u.bits.bits + u.bits.spare) (vec_capacity u.targets);
     } };
 
     ghost invariant = { λ u. length u.cells.items ≤ 65536 };
@@ -56,7 +58,7 @@ pub struct Measuring {
 }
 
 impl Model for Measuring {
-    ghost use Rattle.std.specs.Prelude.{◌-◌, vec_len, vec_capacity};
+    ghost use Rattle.std.specs.Prelude.{◌+◌, ◌-◌, length, min, vec_len, vec_capacity};
     ghost use Rattle.oat_measure.specs.Monitored.{Monitored};
     ghost use Rattle.oat_measure.specs.Running.{IsMeasuring};
 
@@ -71,6 +73,7 @@ impl Model for Measuring {
       violation = m.violation;
       spare_bits = m.bits.spare;
       spare_targets = vec_capacity m.targets - vec_len m.targets;
+      room = min (length m.bits.bits + m.bits.spare) (vec_capacity m.targets);
     } };
 
     ghost invariant = { λ m. IsMeasuring m.opening m.chain m.cells.items };
@@ -88,7 +91,7 @@ pub struct Sealed {
 }
 
 impl Model for Sealed {
-    ghost use Rattle.std.specs.Prelude.{◌-◌, vec_len, vec_capacity};
+    ghost use Rattle.std.specs.Prelude.{◌≤◌, ◌+◌, ◌-◌, length, min, vec_len, vec_capacity};
     ghost use Rattle.oat_measure.specs.Monitored.{Monitored};
 
     ghost Value = { Monitored };
@@ -102,7 +105,10 @@ impl Model for Sealed {
       violation = s.violation;
       spare_bits = s.bits.spare;
       spare_targets = vec_capacity s.targets - vec_len s.targets;
+      room = min (length s.bits.bits + s.bits.spare) (vec_capacity s.targets);
     } };
+
+    ghost invariant = { λ s. length s.cells.items ≤ 65536 };
 }
 
 /// What a begin led to.
@@ -130,11 +136,13 @@ impl Unmeasured {
         cells: &[u64],
         room: usize,
     ) -> Result<Unmeasured, AllocError>
+        requires first { IsFirst opening }
         requires few { length cells.now ≤ 65536 }
         ensures state { IfOk result (λ made. state_at unmeasured made ≡ booted opening.serial (cells_of cells.now)) }
         ensures opening { IfOk result (λ made. made.opening ≡ opening) }
         ensures bits_fit { IfOk result (λ made. room ≤ made.spare_bits) }
         ensures targets_fit { IfOk result (λ made. room ≤ made.spare_targets) }
+        ensures room { IfOk result (λ made. room ≤ made.room) }
     {
         Ok(Unmeasured {
             opening,
@@ -182,6 +190,7 @@ impl Measuring {
         ensures opening { self.new.opening ≡ self.old.opening }
         ensures spare_bits { self.new.spare_bits + 1 ≡ self.old.spare_bits }
         ensures spare_targets { self.new.spare_targets ≡ self.old.spare_targets }
+        ensures room { self.new.room ≡ self.old.room }
     {
         self.bits.push(bit);
     }
@@ -193,6 +202,7 @@ impl Measuring {
         ensures opening { self.new.opening ≡ self.old.opening }
         ensures spare_bits { self.new.spare_bits ≡ self.old.spare_bits }
         ensures spare_targets { self.new.spare_targets + 1 ≡ self.old.spare_targets }
+        ensures room { self.new.room ≡ self.old.room }
     {
         self.targets.push_reserved(address);
     }
@@ -278,5 +288,33 @@ impl Sealed {
         ensures keeps { Keeps self.old self.new }
     {
         define(&mut self.cells, cell, value);
+    }
+
+    /// Puts the window's body on the shelf and stands before the session's next window, with the cells
+    /// as they are and all room free again. It takes no memory.
+    pub fn next(mut self, shelf: &mut Shelf) -> Unmeasured
+        requires due { IsTrue (is_due self.opening self.opening.serial) }
+        requires body_fits { 1 ≤ shelf.old.spare_bodies }
+        requires bits_fit { length self.bits ≤ shelf.old.spare_bits }
+        requires targets_fit { length self.targets ≤ shelf.old.spare_targets }
+        ensures state { state_at unmeasured result ≡ reopened (state_at sealed self) }
+        ensures opening { result.opening ≡ next_opening self.opening }
+        ensures room { result.room ≡ self.room }
+        ensures bits_free { self.room ≤ result.spare_bits }
+        ensures targets_free { self.room ≤ result.spare_targets }
+        ensures bodies { shelf.new.bodies ≡ shelf.old.bodies ++ body_of self.opening (state_at sealed self) ∷ [] }
+        ensures spare_bodies { shelf.new.spare_bodies + 1 ≡ shelf.old.spare_bodies }
+        ensures spare_bits { shelf.new.spare_bits + length self.bits ≡ shelf.old.spare_bits }
+        ensures spare_targets { shelf.new.spare_targets + length self.targets ≡ shelf.old.spare_targets }
+    {
+        shelf.put(self.head(), &self.bits, self.targets.as_slice());
+        self.bits.clear();
+        self.targets.clear();
+        Unmeasured {
+            opening: self.opening.next(),
+            cells: self.cells,
+            bits: self.bits,
+            targets: self.targets,
+        }
     }
 }
