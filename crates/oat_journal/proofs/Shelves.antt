@@ -6,7 +6,7 @@ use Rattle.oat_measure.specs.declared.call.MonitorCall.{MonitorCall}
 use Rattle.oat_measure.specs.declared.call.MonitorCall.TheVariants as svc
 use Rattle.oat_measure.specs.declared.stop.StopKind.{StopKind}
 use Rattle.oat_measure.specs.Measurement.{State, Stage, unmeasured, measuring, sealed, after_window, measured}
-use Rattle.oat_measure.specs.Shelving.{Measurements, bodies_of, body_of, is_due, measures, settled, shelving, with_rest, with_state}
+use Rattle.oat_measure.specs.Shelving.{Measurements, sealed_bodies, body_of, is_due, measures, settled, shelving, with_rest, with_state}
 use Rattle.oat_journal.proofs.Sealing.{Calls, state_behind, closed-stage, no-calls, staged, step-err, step-ok}
 
 abbrev pub on_shelf : List Body → State → Measurements
@@ -57,18 +57,18 @@ settled-sealed o m due is was =
     ap (λ (stage : Stage). elim stage as (λ _. Measurements) [ unmeasured ↦ m | measuring ↦ m | sealed ↦ cond (is_due o m.state.serial) (shelving o m) m ]) is
     ∙ ap (λ (t : Bool). cond t (shelving o m) m) was
 
-bodies-at : (o : Opening) (m : Measurements) (stage : Stage) → m.state.stage ≡ stage → bodies_of o m ≡ m.shelved ++ elim stage as (λ _. List Body) [ unmeasured ↦ [] | measuring ↦ [] | sealed ↦ body_of o m.state ∷ [] ]
+bodies-at : (o : Opening) (m : Measurements) (stage : Stage) → m.state.stage ≡ stage → sealed_bodies o m ≡ m.shelved ++ elim stage as (λ _. List Body) [ unmeasured ↦ [] | measuring ↦ [] | sealed ↦ body_of o m.state ∷ [] ]
 bodies-at o m stage is = ap (λ (g : Stage). m.shelved ++ elim g as (λ _. List Body) [ unmeasured ↦ [] | measuring ↦ [] | sealed ↦ body_of o m.state ∷ [] ]) is
 
-open-bodies : (o : Opening) (m : Measurements) (stage : Stage) → m.state.stage ≡ stage → (stage ≡ sealed → ⊥) → bodies_of o m ≡ m.shelved
+open-bodies : (o : Opening) (m : Measurements) (stage : Stage) → m.state.stage ≡ stage → (stage ≡ sealed → ⊥) → sealed_bodies o m ≡ m.shelved
 open-bodies o m unmeasured is unsealed = bodies-at o m unmeasured is ∙ append-nil m.shelved
 open-bodies o m measuring is unsealed = bodies-at o m measuring is ∙ append-nil m.shelved
 open-bodies o m sealed is unsealed = absurd (unsealed refl)
 
-pub bodies-open : (o : Opening) (m : Measurements) → (m.state.stage ≡ sealed → ⊥) → bodies_of o m ≡ m.shelved
+pub bodies-open : (o : Opening) (m : Measurements) → (m.state.stage ≡ sealed → ⊥) → sealed_bodies o m ≡ m.shelved
 bodies-open o m unsealed = open-bodies o m m.state.stage refl unsealed
 
-pub bodies-sealed : (o : Opening) (m : Measurements) → m.state.stage ≡ sealed → bodies_of o m ≡ m.shelved ++ body_of o m.state ∷ []
+pub bodies-sealed : (o : Opening) (m : Measurements) → m.state.stage ≡ sealed → sealed_bodies o m ≡ m.shelved ++ body_of o m.state ∷ []
 bodies-sealed o m is = bodies-at o m sealed is
 
 -- ---- places on the shelf
@@ -105,21 +105,21 @@ stays-settled o shelved next i low = elim (is-sealed next.stage) [
       let long = length-append shelved (body_of o next ∷ []) in
       subst (λ (n : Measurements). (i < length n.shelved) × (slice_get n.shelved i ≡ slice_get shelved i)) (sym m) (omega arith, get-before shelved (body_of o next ∷ []) i low)
 
-pub shelf-stays : (o : Opening) (calls : Calls) (shelved : List Body) (s : State) (i : ℕ) → i < length shelved → slice_get (bodies_of o (session o (on_shelf shelved s) calls)) i ≡ slice_get shelved i
+pub shelf-stays : (o : Opening) (calls : Calls) (shelved : List Body) (s : State) (i : ℕ) → i < length shelved → slice_get (sealed_bodies o (session o (on_shelf shelved s) calls)) i ≡ slice_get shelved i
 shelf-stays o [] shelved s i low =
-    ap (λ (m : Measurements). slice_get (bodies_of o m) i) (session-none o (on_shelf shelved s)) ∙ get-before shelved _ i low
+    ap (λ (m : Measurements). slice_get (sealed_bodies o m) i) (session-none o (on_shelf shelved s)) ∙ get-before shelved _ i low
 shelf-stays o (None ∷ calls) shelved s i low =
-    ap (λ (m : Measurements). slice_get (bodies_of o m) i) (session-skip o (on_shelf shelved s) calls) ∙ shelf-stays o calls shelved s i low
+    ap (λ (m : Measurements). slice_get (sealed_bodies o m) i) (session-skip o (on_shelf shelved s) calls) ∙ shelf-stays o calls shelved s i low
 shelf-stays o (Some call ∷ calls) shelved s i low = by (measured o s (Some call)) refl (λ later t k few. shelf-stays o calls later t k few) where
   by : (r : Result State StopKind) → measured o s (Some call) ≡ r
-      → ((later : List Body) (t : State) (k : ℕ) → k < length later → slice_get (bodies_of o (session o (on_shelf later t) calls)) k ≡ slice_get later k)
-      → slice_get (bodies_of o (session o (on_shelf shelved s) (Some call ∷ calls))) i ≡ slice_get shelved i
+      → ((later : List Body) (t : State) (k : ℕ) → k < length later → slice_get (sealed_bodies o (session o (on_shelf later t) calls)) k ≡ slice_get later k)
+      → slice_get (sealed_bodies o (session o (on_shelf shelved s) (Some call ∷ calls))) i ≡ slice_get shelved i
   by (Err stop) to rest =
-      ap (λ (m : Measurements). slice_get (bodies_of o m) i) (session-err o shelved s call stop calls to) ∙ get-before shelved _ i low
+      ap (λ (m : Measurements). slice_get (sealed_bodies o m) i) (session-err o shelved s call stop calls to) ∙ get-before shelved _ i low
   by (Ok next) to rest =
       let m : Measurements = settled o (on_shelf shelved next) in
       let one = stays-settled o shelved next i low in
-      ap (λ (n : Measurements). slice_get (bodies_of o n) i) (session-ok o shelved s next call calls to)
+      ap (λ (n : Measurements). slice_get (sealed_bodies o n) i) (session-ok o shelved s next call calls to)
       ∙ (rest m.shelved m.state i one.0 ∙ one.1)
 
 -- ---- where no window is sealed

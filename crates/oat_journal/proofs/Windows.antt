@@ -9,7 +9,7 @@ use Rattle.oat_measure.specs.Monitor.{opens, seals}
 use Rattle.oat_measure.specs.declared.call.MonitorCall.{MonitorCall}
 use Rattle.oat_measure.specs.declared.call.MonitorCall.TheVariants as svc
 use Rattle.oat_measure.specs.Measurement.{State, sealed}
-use Rattle.oat_measure.specs.Shelving.{IsBodyAt, Measurements, bodies_of, body_of, is_due, reopened, settled}
+use Rattle.oat_measure.specs.Shelving.{IsBodyAt, Measurements, sealed_bodies, body_of, is_due, reopened, settled}
 use Rattle.oat_events.specs.Cells.{Cells}
 use Rattle.oat_events.specs.Windows.{beyond, inside, through, up_to}
 use Rattle.oat_journal.specs.Window.{is_made, opens_window, seals_window, up_to_window, window, returned, recorded_bit, recorded_target}
@@ -126,7 +126,7 @@ first-body o shelved closing calls body is true due h =
     let more = shelved ++ body_of o closing ∷ [] in
     let long : length more ≡ length shelved + 1 = length-append shelved (body_of o closing ∷ []) in
     of-state o closing closing body refl refl refl refl refl
-    (sym (ap (λ (m : Measurements). slice_get (bodies_of o (session o m calls)) (length shelved)) to
+    (sym (ap (λ (m : Measurements). slice_get (sealed_bodies o (session o m calls)) (length shelved)) to
     ∙ (shelf-stays o calls more (reopened closing) (length shelved) (omega arith) ∙ get-last shelved (body_of o closing))) ∙ h)
 first-body o shelved closing calls body is false due h =
     let to = settled-sealed o (on_shelf shelved closing) false is due in
@@ -134,8 +134,8 @@ first-body o shelved closing calls body is false due h =
     of-state o closing t body
     (kept (λ (s : State). s.serial) closed-serial o closing calls is) (kept (λ (s : State). s.hash) closed-hash o closing calls is) (kept (λ (s : State). s.bits) closed-bits o closing calls is)
     (kept (λ (s : State). s.targets) closed-targets o closing calls is) (sealed-keeps o closing calls is)
-    (sym (ap (λ (m : Measurements). slice_get (bodies_of o (session o m calls)) (length shelved)) to
-    ∙ (ap (λ (m : Measurements). slice_get (bodies_of o m) (length shelved)) (stays-sealed o calls shelved closing is due)
+    (sym (ap (λ (m : Measurements). slice_get (sealed_bodies o (session o m calls)) (length shelved)) to
+    ∙ (ap (λ (m : Measurements). slice_get (sealed_bodies o m) (length shelved)) (stays-sealed o calls shelved closing is due)
     ∙ (ap (λ (bodies : List Body). slice_get bodies (length shelved)) (bodies-sealed o (on_shelf shelved t) (sealed-stays o calls closing is)) ∙ get-last shelved (body_of o t)))) ∙ h)
 
 -- there is none behind it where no further window is due
@@ -146,9 +146,9 @@ no-further o shelved closing calls body k is due h =
     let more = shelved ++ body_of o t ∷ [] in
     let long : length more ≡ length shelved + 1 = length-append shelved (body_of o t ∷ []) in
     let at : length shelved + suc k ≡ length more + k = omega arith in
-    let none : slice_get (bodies_of o (session o (settled o (on_shelf shelved closing)) calls)) (length shelved + suc k) ≡ None =
-    ap (λ (m : Measurements). slice_get (bodies_of o (session o m calls)) (length shelved + suc k)) (settled-sealed o (on_shelf shelved closing) false is due)
-    ∙ (ap (λ (m : Measurements). slice_get (bodies_of o m) (length shelved + suc k)) (stays-sealed o calls shelved closing is due)
+    let none : slice_get (sealed_bodies o (session o (settled o (on_shelf shelved closing)) calls)) (length shelved + suc k) ≡ None =
+    ap (λ (m : Measurements). slice_get (sealed_bodies o (session o m calls)) (length shelved + suc k)) (settled-sealed o (on_shelf shelved closing) false is due)
+    ∙ (ap (λ (m : Measurements). slice_get (sealed_bodies o m) (length shelved + suc k)) (stays-sealed o calls shelved closing is due)
     ∙ (ap (λ (bodies : List Body). slice_get bodies (length shelved + suc k)) (bodies-sealed o (on_shelf shelved t) (sealed-stays o calls closing is))
     ∙ (ap (slice_get more) at ∙ get-beyond more k))) in
     let q : None ≡ Some body = sym none ∙ h in absurd (cc)
@@ -156,8 +156,8 @@ no-further o shelved closing calls body k is due h =
 -- nor any where the window isn't sealed
 none-open : (o : Opening) (shelved : List Body) (s : State) (calls : Calls) (body : Body) (k : ℕ) → ((state_behind o s calls).stage ≡ sealed → ⊥) → IsBodyAt o (session o (on_shelf shelved s) calls) (length shelved + k) body → ⊥
 none-open o shelved s calls body k unsealed h =
-    let none : slice_get (bodies_of o (session o (on_shelf shelved s) calls)) (length shelved + k) ≡ None =
-    ap (λ (m : Measurements). slice_get (bodies_of o m) (length shelved + k)) (stays-open o calls shelved s unsealed)
+    let none : slice_get (sealed_bodies o (session o (on_shelf shelved s) calls)) (length shelved + k) ≡ None =
+    ap (λ (m : Measurements). slice_get (sealed_bodies o m) (length shelved + k)) (stays-open o calls shelved s unsealed)
     ∙ (ap (λ (bodies : List Body). slice_get bodies (length shelved + k)) (bodies-open o (on_shelf shelved (state_behind o s calls)) unsealed) ∙ get-beyond shelved k) in
     let q : None ≡ Some body = sym none ∙ h in absurd (cc)
 

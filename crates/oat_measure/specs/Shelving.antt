@@ -64,12 +64,12 @@ measured_on o m None = Ok m
 measured_on o m (Some call) = with_state o m.shelved (measured o m.state (Some call))
 
 -- the bodies of all windows that are sealed
-abbrev pub bodies_of : Opening → Measurements → List Body
-bodies_of o m = m.shelved ++ elim m.state.stage [ unmeasured ↦ [] | measuring ↦ [] | sealed ↦ body_of o m.state ∷ [] ]
+abbrev pub sealed_bodies : Opening → Measurements → List Body
+sealed_bodies o m = m.shelved ++ elim m.state.stage [ unmeasured ↦ [] | measuring ↦ [] | sealed ↦ body_of o m.state ∷ [] ]
 
 -- the body of window s, counted from 0
 abbrev pub IsBodyAt : Opening → Measurements → ℕ → Body → Type 0
-IsBodyAt o m s body = slice_get (bodies_of o m) s ≡ Some body
+IsBodyAt o m s body = slice_get (sealed_bodies o m) s ≡ Some body
 
 -- the number of window s, where windows are numbered
 abbrev pub serial_of : Opening → ℕ → Option ℕ
