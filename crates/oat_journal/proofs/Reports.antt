@@ -1,5 +1,7 @@
 -- What the bodies of a run report, and that their windows are traces.
 use Rattle.std.proofs.Common.{◌≡◌, ◌+◌, ◌≤◌, ℕ, zero, suc, ℤ, Bool, true, false, cond, not, eqb, IsTrue, List, [], ◌∷◌, ◌++◌, length, map, take, filter_map, slice_get, Option, Some, None, Result, Ok, Err, refl, sym, ap, subst, ◌∙◌, arith, add-one, eqb-true, eq-eqb}
+use Rattle.std.specs.Prelude.{nat_le}
+use Rattle.std.proofs.lemmas.Bool.{and_parts, leb-true}
 use Rattle.std.proofs.lemmas.List.{take-map}
 use Rattle.std.specs.List.{All, cons_option}
 use Rattle.oat_a64.specs.declared.inst.Inst.{Inst}
@@ -20,7 +22,7 @@ use Rattle.oat_journal.specs.Window.{made_call, recorded_bit, recorded_target, w
 use Rattle.oat_journal.specs.Uses.{CheckedUse, IsSound}
 use Rattle.oat_journal.specs.Measured.{BodiesAreCalledFor, BodiesTellWindows, HasBody, NoViolationMeansSound, Run, dev, first_unsound, run_until, start_cells, uses_of, window_of}
 use Rattle.oat_journal.specs.Trace.{IsTrace, WindowsAreTraces}
-use Rattle.oat_journal.specs.TurnLaws.{RecordsAreFew}
+use Rattle.oat_journal.specs.TurnLaws.{CountsOfCasesFit, RecordsAreFew}
 use Rattle.oat_journal.proofs.Bounds.{journal_is_bounded}
 use Rattle.oat_journal.proofs.Linkage.{journal_is_made, journal_is_linked}
 use Rattle.oat_journal.proofs.Lengths.{taken_few, windows_are_short}
@@ -234,3 +236,11 @@ records_are_few image o inputs writes n s body h =
     let bits_are : length body.bits ≡ length (filter_map (λ (e : Entry). recorded_bit (made_call e)) window) = ap length t.bits in
     let targets_are : length body.targets ≡ length (filter_map (λ (e : Entry). recorded_target (made_call e)) window) = ap length t.targets in
     record { bits = omega (arith, short, bits, bits_are); targets = omega (arith, short, targets, targets_are) }
+
+pub counts_of_cases_fit : CountsOfCasesFit
+counts_of_cases_fit image o case s body formed h =
+    let few = records_are_few image o case.inputs case.writes case.steps s body h in
+    let steps : case.steps ≤ 4194304 = leb-true case.steps 4194304 (and_parts (nat_le 1 case.steps) (nat_le case.steps 4194304) formed.steps).1 in
+    let bits = few.bits in
+    let targets = few.targets in
+    record { bits = omega (arith, bits, steps); targets = omega (arith, targets, steps) }

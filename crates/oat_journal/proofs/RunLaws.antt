@@ -9,4 +9,4 @@ pub use Rattle.oat_journal.proofs.Progress.{turns_are_the_run}
 -- Lengths of journals and windows.
 pub use Rattle.oat_journal.proofs.Lengths.{journals_are_short, windows_are_short}
 -- The windows of the bodies that a run reports, and what these tell.
-pub use Rattle.oat_journal.proofs.Reports.{bodies_are_called_for, bodies_tell_windows, no_violation_means_sound, records_are_few, windows_are_traces}
+pub use Rattle.oat_journal.proofs.Reports.{bodies_are_called_for, bodies_tell_windows, no_violation_means_sound, records_are_few, counts_of_cases_fit, windows_are_traces}

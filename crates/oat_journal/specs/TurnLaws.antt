@@ -1,9 +1,11 @@
 -- What a turn of a run does, and what so many of them come to, whatever is given and written (docs/DEFINITIONS.md, "Bare run").
-use Rattle.std.specs.Prelude.{◌≡◌, ◌+◌, ◌≤◌, ℕ, ℤ, List, [], ◌++◌, Some, None, length}
+use Rattle.std.specs.Prelude.{◌≡◌, ◌+◌, ◌≤◌, ◌<◌, ◌^◌, ℕ, ℤ, List, [], ◌++◌, Some, None, length}
 use Rattle.oat_a64.specs.declared.inst.Inst.{Inst}
 use Rattle.oat_a64.specs.Step.{act, instruction_at, step}
 use Rattle.oat_blob.specs.Body.{Body}
+use Rattle.oat_case.specs.declared.case.Case.{Case}
 use Rattle.oat_case.specs.declared.case.Write.{Write}
+use Rattle.oat_case.specs.Limits.{IsWellFormedCase}
 use Rattle.oat_image.specs.declared.image.Image.{Image}
 use Rattle.oat_measure.specs.declared.opening.Opening.{Opening}
 use Rattle.oat_journal.specs.declared.end.DeviceEnd.{DeviceEnd}
@@ -77,3 +79,14 @@ abbrev pub RecordsAreFew : Type 0
 RecordsAreFew =
     (image : Image) (o : Opening) (inputs : List ℤ) (writes : List Write) (n s : ℕ) (body : Body)
     → HasBody o (dev image o inputs writes n) s body → HasFewRecords body n
+
+-- The bits and targets of a body can be counted in 32 bits.
+pub record CountsFit (body : Body) : Type 0 where
+  pub bits : length body.bits < 2 ^ 32
+  pub targets : length body.targets < 2 ^ 32
+
+-- The run of a case records few enough of them for each of its blobs to be laid out.
+abbrev pub CountsOfCasesFit : Type 0
+CountsOfCasesFit =
+    (image : Image) (o : Opening) (case : Case) (s : ℕ) (body : Body) → IsWellFormedCase case
+    → HasBody o (dev image o case.inputs case.writes case.steps) s body → CountsFit body

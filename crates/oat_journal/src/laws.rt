@@ -5,6 +5,7 @@ ghost use Rattle.oat_journal.specs.Progress.{TurnsAreTheRun};
 ghost use Rattle.oat_journal.specs.Trace.{WindowsAreTraces};
 ghost use Rattle.oat_journal.specs.Worked.{OneJumpIsMeasured};
 ghost use Rattle.oat_journal.specs.TurnLaws.{
+  CountsOfCasesFit,
   EndedRunsRest,
   JournalsAreShort,
   MeasuredEndsStay,
@@ -89,6 +90,11 @@ pub fn windows_are_short()
 /// A body of a run of n instructions has at most n branch bits and n indirect targets.
 pub fn records_are_few()
     ensures { RecordsAreFew }
+{}
+
+/// The run of a case records few enough of them for each of its blobs to be laid out.
+pub fn counts_of_cases_fit()
+    ensures { CountsOfCasesFit }
 {}
 
 /// A body that a run reports has no violation exactly where each checked use of its window was sound.
