@@ -17,6 +17,16 @@ pub struct Opening {
 }
 
 impl Opening {
+    /// Whether a further window is due behind this one.
+    pub fn is_due(&self) -> bool
+        ensures { result ≡ is_due self.now self.now.serial }
+    {
+        match self.serial {
+            Some(serial) => u64::from(serial) + 1 < u64::from(self.calls),
+            None => false,
+        }
+    }
+
     /// The same session's next window.
     pub fn next(&self) -> Opening
         requires { IsTrue (is_due self.now self.now.serial) }

@@ -290,6 +290,13 @@ impl Sealed {
         define(&mut self.cells, cell, value);
     }
 
+    /// Whether a further window is due behind this one.
+    pub fn is_due(&self) -> bool
+        ensures { result ≡ is_due self.now.opening self.now.opening.serial }
+    {
+        self.opening.is_due()
+    }
+
     /// Puts the window's body on the shelf and stands before the session's next window, with the cells
     /// as they are and all room free again. It takes no memory.
     pub fn next(mut self, shelf: &mut Shelf) -> Unmeasured
