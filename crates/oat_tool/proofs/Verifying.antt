@@ -8,7 +8,7 @@ use Rattle.oat_verify.specs.declared.verdict.Cause.{Cause}
 use Rattle.oat_verify.specs.declared.verdict.Verdict.{Verdict}
 use Rattle.oat_verify.specs.declared.verdict.Verdict.TheVariants.{Accept, Refuse}
 use Rattle.oat_verify.specs.Verdict.{Subject, subject_of}
-use Rattle.oat_verify.proofs.OneVerdict.{one_verdict, acceptance_at_once}
+use Rattle.oat_verify.proofs.OneVerdict.{one_serial, one_verdict, acceptance_at_once}
 use Rattle.oat_attest.proofs.Headlines.{headline}
 use Rattle.oat_first.specs.First.{First, fails, passes, IsOne}
 use Rattle.oat_first.proofs.FirstLaws.{First-one}
@@ -63,7 +63,9 @@ verifies_concluded image case blob i c bytes a admitted spelled concludes =
 
 one_report : (s : Subject) (bytes : List ℕ) → IsOne Answer (Concludes s bytes)
 one_report s bytes a b one two =
-    one.reported ∙ (ap (report_of s.map) (one_verdict s bytes one.verdict two.verdict one.right two.right) ∙ sym two.reported)
+    let serials = one_serial bytes one.serial two.serial one.carried two.carried in
+    let verdicts = one_verdict s bytes one.verdict two.verdict one.right two.right in
+    one.reported ∙ (ap (λ serial. report_of s.map serial one.verdict) serials ∙ (ap (report_of s.map two.serial) verdicts ∙ sym two.reported))
 
 pub one_verification : OneVerification
 one_verification [] a b one two = absurd one
@@ -102,6 +104,8 @@ judging_reached words contents image case blob a held i c admitted (passes bytes
       blob_read = spelled;
       right = concludes.right;
     };
+    serial = concludes.serial;
+    carried = concludes.carried;
     is = ap as_outcome concludes.reported;
   };
 }
@@ -166,6 +170,8 @@ acceptance words contents o out err status just (path, reported) = record {
   shows = record {
     image = reported.image;
     judged = reported.judged;
+    serial = reported.serial;
+    carried = reported.carried;
     shown = subst (λ (p : Outcome). ShowsJust p out err status) reported.is just;
   };
   headline = judged_holds words contents reported.image path reported.judged;

@@ -1,5 +1,5 @@
 -- The theorem of `verify`: what status 0 says to its caller (docs/PROMISES.md).
-use Rattle.std.specs.Prelude.{◌≡◌, ℕ, List, Some, map}
+use Rattle.std.specs.Prelude.{◌≡◌, ℕ, Option, List, Some, map}
 use Rattle.std.specs.String.{string_bytes}
 use Rattle.std.specs.declared.string.String.{String}
 use Rattle.std.specs.declared.alloc.Global.{Global}
@@ -10,6 +10,7 @@ use Rattle.oat_case.specs.declared.case.Session.{Session}
 use Rattle.oat_map.specs.Rows.{BeginsAt}
 use Rattle.oat_verify.specs.declared.verdict.Verdict.{Verdict}
 use Rattle.oat_verify.specs.declared.verdict.Verdict.TheVariants.{Accept}
+use Rattle.oat_verify.specs.Verdict.{CarriesSerial}
 use Rattle.oat_attest.specs.Headline.{OfRuns, FollowedOrClashes}
 use Rattle.oat_tool.specs.declared.command.Command.TheVariants.{Verify}
 use Rattle.oat_tool.specs.Answer.{as_outcome}
@@ -20,11 +21,13 @@ use Rattle.oat_tool.specs.Call.{Read}
 use Rattle.oat_tool.specs.CallLaws.{ShowsJust}
 use Rattle.oat_tool.specs.VerifyLaws.{IsJudged}
 
--- A verdict was reached, and its report is what was shown.
+-- A verdict was reached, and its report is what was shown, with the serial number of its blob.
 pub record ShowsVerdict (words : List (List ℕ)) (contents : Contents) (verdict : Verdict) (out err : Put) (status : ℕ) : Type 0 where
   pub image : Image
   pub judged : IsJudged words contents image verdict
-  pub shown : ShowsJust (as_outcome (report_of image.map verdict)) out err status
+  pub serial : Option ℕ
+  pub carried : CarriesSerial judged.bytes serial
+  pub shown : ShowsJust (as_outcome (report_of image.map serial verdict)) out err status
 
 -- The headline of one accepted blob: whatever was given and written, the device run whose blob the bytes are followed
 -- the path, or its returns and the replay's clash.

@@ -1,7 +1,7 @@
 -- `verify IMAGE CASE BLOB`: the first refusal of an input, or the verdict's report (docs/FORMATS.md).
-use Rattle.std.specs.Prelude.{◌≡◌, ℕ, List, [], ◌∷◌}
+use Rattle.std.specs.Prelude.{◌≡◌, ℕ, Option, List, [], ◌∷◌}
 use Rattle.oat_verify.specs.declared.verdict.Verdict.{Verdict}
-use Rattle.oat_verify.specs.Verdict.{Subject, subject_of, IsVerdict}
+use Rattle.oat_verify.specs.Verdict.{Subject, subject_of, IsVerdict, CarriesSerial}
 use Rattle.oat_first.specs.First.{First}
 use Rattle.oat_tool.specs.Answer.{Answer}
 use Rattle.oat_tool.specs.Loads.{File}
@@ -10,11 +10,13 @@ use Rattle.oat_tool.specs.Refusals.{RefusesBlob}
 use Rattle.oat_tool.specs.Admits.{Admits}
 use Rattle.oat_tool.specs.Report.{report_of}
 
--- The verdict on these bytes is reported.
+-- The verdict on these bytes is reported, with the serial number that they carry.
 pub record Concludes (subject : Subject) (bytes : List ℕ) (a : Answer) : Type 0 where
   pub verdict : Verdict
   pub right : IsVerdict subject bytes verdict
-  pub reported : a ≡ report_of subject.map verdict
+  pub serial : Option ℕ
+  pub carried : CarriesSerial bytes serial
+  pub reported : a ≡ report_of subject.map serial verdict
 
 abbrev pub Verifies : List File → Answer → Type 0
 Verifies (image ∷ case ∷ blob ∷ []) a =

@@ -1,5 +1,5 @@
 -- What the statuses of `verify` say of the defined outcome (docs/PROMISES.md).
-use Rattle.std.specs.Prelude.{◌≡◌, ◌≢◌, ℕ, List, [], ◌∷◌}
+use Rattle.std.specs.Prelude.{◌≡◌, ◌≢◌, ℕ, Option, List, [], ◌∷◌}
 use Rattle.oat_world.specs.Outside.{Contents}
 use Rattle.oat_image.specs.declared.image.Image.{Image}
 use Rattle.oat_map.specs.declared.edge.Edge.{Edge}
@@ -7,7 +7,7 @@ use Rattle.oat_case.specs.declared.case.Case.{Case}
 use Rattle.oat_verify.specs.declared.verdict.Verdict.{Verdict}
 use Rattle.oat_verify.specs.declared.verdict.Verdict.TheVariants.{Accept, Refuse}
 use Rattle.oat_verify.specs.declared.verdict.Cause.{Cause}
-use Rattle.oat_verify.specs.Verdict.{subject_of, IsVerdict}
+use Rattle.oat_verify.specs.Verdict.{subject_of, IsVerdict, CarriesSerial}
 use Rattle.oat_first.specs.First.{IsOne}
 use Rattle.oat_tool.specs.declared.command.Command.TheVariants.{Verify}
 use Rattle.oat_tool.specs.Outcome.{Outcome}
@@ -33,11 +33,13 @@ pub record IsJudged (words : List (List ℕ)) (contents : Contents) (i : Image) 
   pub blob_read : IsBlobText blob.text bytes
   pub right : IsVerdict (subject_of i c.session) bytes verdict
 
--- A verdict was reached, and the outcome is its report.
+-- A verdict was reached, and the outcome is its report, with the serial number of its blob.
 pub record ReportsVerdict (words : List (List ℕ)) (contents : Contents) (verdict : Verdict) (o : Outcome) : Type 0 where
   pub image : Image
   pub judged : IsJudged words contents image verdict
-  pub is : o ≡ as_outcome (report_of image.map verdict)
+  pub serial : Option ℕ
+  pub carried : CarriesSerial judged.bytes serial
+  pub is : o ≡ as_outcome (report_of image.map serial verdict)
 
 -- Status 0 is an acceptance.
 abbrev pub AcceptanceIsReported : Type 0

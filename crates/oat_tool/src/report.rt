@@ -6,7 +6,7 @@ use crate::pieces::Pieces;
 use oat_map::{Edge, Map};
 use oat_report::{path_line, verdict_line};
 use oat_shape::Shaped;
-use oat_verify::Verdict;
+use oat_verify::{Settled, Verdict};
 use std::alloc::{AllocError, Global};
 use std::marker::Model;
 
@@ -14,7 +14,7 @@ use std::marker::Model;
 #[derive(Debug, Drop)]
 pub struct ReportLines {
     shaped: Shaped,
-    verdict: Verdict,
+    settled: Settled,
     is_begun: bool,
     at: usize,
 }
@@ -24,7 +24,7 @@ impl Model for ReportLines {
 
     ghost Value = { reports.Left };
 
-    ghost view = { λ lines. record { image = lines.shaped; verdict = lines.verdict; is_begun = lines.is_begun; at = lines.at } };
+    ghost view = { λ lines. record { image = lines.shaped; verdict = lines.settled.verdict; serial = lines.settled.serial; is_begun = lines.is_begun; at = lines.at } };
 }
 
 /// The path of an acceptance.
@@ -59,12 +59,12 @@ pub fn ended(verdict: &Verdict) -> Ended
 impl ReportLines {
     ghost use Rattle.std.specs.Prelude.{◌≡◌, false};
 
-    pub fn of(shaped: Shaped, verdict: Verdict) -> ReportLines
-        ensures { result ≡ record { image = shaped; verdict = verdict; is_begun = false; at = 0 } }
+    pub fn of(shaped: Shaped, settled: Settled) -> ReportLines
+        ensures { result ≡ record { image = shaped; verdict = settled.verdict; serial = settled.serial; is_begun = false; at = 0 } }
     {
         ReportLines {
             shaped,
-            verdict,
+            settled,
             is_begun: false,
             at: 0,
         }
@@ -78,12 +78,12 @@ impl Pieces for ReportLines {
 
     fn next(&mut self, alloc: Global) -> Result<Option<Vec<u8>>, AllocError> {
         if !self.is_begun {
-            let mut line = verdict_line(alloc, &self.verdict)?;
+            let mut line = verdict_line(alloc, self.settled.serial, &self.settled.verdict)?;
             line.extend_from_slice(b"\n")?;
             self.is_begun = true;
             return Ok(Some(line));
         }
-        let path = path_of(&self.verdict);
+        let path = path_of(&self.settled.verdict);
         if self.at < path.len() {
             let line = edge_line(alloc, &self.shaped.image().map, &path[self.at])?;
             self.at += 1;

@@ -14,9 +14,10 @@ use crate::pieces::Pieces;
 use crate::report::{ReportLines, ended};
 use oat_case::Session;
 use oat_shape::Shaped;
+use oat_verify::settle;
 use std::alloc::{AllocError, Global};
 
-/// The verdict on a blob's bytes, to be reported.
+/// The verdict on a blob's bytes, to be reported with their serial number.
 fn conclude(
     alloc: Global,
     shaped: Shaped,
@@ -26,10 +27,10 @@ fn conclude(
     requires { IsOperation shaped.map session.now.op }
     ensures { IfOk result (λ page. Concludes (subject_of shaped session.now) bytes.now (answer_in ⟦<ReportLines as Pieces>⟧.text page)) }
 {
-    let verdict = oat_verify::verify(alloc, &shaped, session, bytes)?;
+    let settled = settle(alloc, &shaped, session, bytes)?;
     Ok(Page {
-        ended: ended(&verdict),
-        pieces: ReportLines::of(shaped, verdict),
+        ended: ended(&settled.verdict),
+        pieces: ReportLines::of(shaped, settled),
         err: Vec::new(alloc),
     })
 }
