@@ -1,5 +1,6 @@
 -- A run of n instructions has at most n entries, and records at most n branch bits and n indirect targets.
-use Rattle.std.proofs.Common.{◌≡◌, ◌≤◌, ◌<◌, ◌+◌, ℕ, zero, suc, ℤ, Bool, true, false, cond, nat_eq, List, [], ◌∷◌, ◌++◌, length, map, Option, None, Some, Result, Ok, Err, arith}
+use Rattle.std.proofs.Common.{◌≡◌, ◌≤◌, ◌<◌, ◌+◌, ℕ, zero, suc, ℤ, Bool, true, false, cond, nat_eq, nat_le, List, [], ◌∷◌, ◌++◌, length, map, Option, None, Some, Result, Ok, Err, arith}
+use Rattle.std.proofs.lemmas.Bool.{and_parts, leb-true}
 use Rattle.std.proofs.lemmas.List.{length-append, length-map}
 use Rattle.oat_case.specs.declared.case.Write.{Write}
 use Rattle.oat_image.specs.declared.image.Image.{Image}
@@ -13,7 +14,7 @@ use Rattle.oat_events.specs.Windows.{beyond, through}
 use Rattle.oat_journal.specs.Run.{Running, Entry, started, entry, turn, from_entry, journal_from, journal}
 use Rattle.oat_journal.specs.Window.{made_call, opens_window, seals_window}
 use Rattle.oat_journal.specs.Measured.{Run, dev, run_until, start_cells, window_of}
-use Rattle.oat_journal.specs.TurnLaws.{JournalsAreShort, WindowsAreShort, RecordsAreFew}
+use Rattle.oat_journal.specs.TurnLaws.{JournalsAreShort, WindowsAreShort, RecordsAreFew, CountsOfCasesFit}
 
 -- ---- what a state holds
 
@@ -125,6 +126,14 @@ run_few image o inputs writes n =
 
 pub records_are_few : RecordsAreFew
 records_are_few image o inputs writes n = let few = run_few image o inputs writes n in record { bits = few.bits; targets = few.targets }
+
+pub counts_of_cases_fit : CountsOfCasesFit
+counts_of_cases_fit image o case formed =
+    let few = records_are_few image o case.inputs case.writes case.steps in
+    let steps : case.steps ≤ 4194304 = leb-true case.steps 4194304 (and_parts (nat_le 1 case.steps) (nat_le case.steps 4194304) formed.steps).1 in
+    let bits = few.bits in
+    let targets = few.targets in
+    record { bits = omega (arith, bits, steps); targets = omega (arith, targets, steps) }
 
 -- ---- a journal and its window
 

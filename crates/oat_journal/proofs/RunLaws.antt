@@ -7,7 +7,7 @@ pub use Rattle.oat_journal.proofs.Bounds.{journal_is_bounded}
 pub use Rattle.oat_journal.proofs.TurnLaws.{turns_make_steps, one_turn, ended_runs_rest, turns_add, measured_turns_follow, measured_ends_stay}
 pub use Rattle.oat_journal.proofs.Progress.{turns_are_the_run}
 -- Lengths of journals, windows and records.
-pub use Rattle.oat_journal.proofs.Lengths.{journals_are_short, windows_are_short, records_are_few}
+pub use Rattle.oat_journal.proofs.Lengths.{journals_are_short, windows_are_short, records_are_few, counts_of_cases_fit}
 -- Windows of sealed runs, and what these report.
 pub use Rattle.oat_journal.proofs.Traces.{windows_are_traces, runs_report_their_window}
 pub use Rattle.oat_journal.proofs.Reports.{runs_report_exactly, no_violation_means_sound}

@@ -1,13 +1,16 @@
 -- What a turn of a run does, and what so many of them come to, whatever is given and written (docs/DEFINITIONS.md, "Bare run").
-use Rattle.std.specs.Prelude.{◌≡◌, ◌+◌, ◌≤◌, ℕ, ℤ, List, [], ◌++◌, Option, Some, None, length}
+use Rattle.std.specs.Prelude.{◌≡◌, ◌+◌, ◌≤◌, ◌<◌, ◌^◌, ℕ, ℤ, List, [], ◌++◌, Option, Some, None, length}
 use Rattle.oat_a64.specs.declared.inst.Inst.{Inst}
 use Rattle.oat_a64.specs.Step.{act, instruction_at, step}
+use Rattle.oat_blob.specs.Body.{Body}
+use Rattle.oat_case.specs.declared.case.Case.{Case}
 use Rattle.oat_case.specs.declared.case.Write.{Write}
+use Rattle.oat_case.specs.Limits.{IsWellFormedCase}
 use Rattle.oat_image.specs.declared.image.Image.{Image}
 use Rattle.oat_measure.specs.declared.opening.Opening.{Opening}
 use Rattle.oat_journal.specs.declared.end.DeviceEnd.{DeviceEnd}
 use Rattle.oat_journal.specs.Run.{Running, entry, found, journal, journal_from, makes, turn, turns}
-use Rattle.oat_journal.specs.Measured.{dev, window_of}
+use Rattle.oat_journal.specs.Measured.{body_of, dev, window_of}
 use Rattle.oat_journal.specs.Progress.{Progress, after_turns, going_on, measured_turn}
 
 -- ---- turns
@@ -74,3 +77,14 @@ pub record HasFewRecords (image : Image) (o : Opening) (inputs : List ℤ) (writ
 
 abbrev pub RecordsAreFew : Type 0
 RecordsAreFew = (image : Image) (o : Opening) (inputs : List ℤ) (writes : List Write) (n : ℕ) → HasFewRecords image o inputs writes n
+
+-- The bits and targets of a body can be counted in 32 bits.
+pub record CountsFit (body : Body) : Type 0 where
+  pub bits : length body.bits < 2 ^ 32
+  pub targets : length body.targets < 2 ^ 32
+
+-- The run of a case records few enough of them for its blob to be laid out.
+abbrev pub CountsOfCasesFit : Type 0
+CountsOfCasesFit =
+    (image : Image) (o : Opening) (case : Case) → IsWellFormedCase case
+    → CountsFit (body_of o (dev image o case.inputs case.writes case.steps).state)

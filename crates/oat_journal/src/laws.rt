@@ -5,6 +5,7 @@ ghost use Rattle.oat_journal.specs.Progress.{TurnsAreTheRun};
 ghost use Rattle.oat_journal.specs.Trace.{RunsReportTheirWindow, WindowsAreTraces};
 ghost use Rattle.oat_journal.specs.Worked.{OneJumpIsMeasured};
 ghost use Rattle.oat_journal.specs.TurnLaws.{
+  CountsOfCasesFit,
   EndedRunsRest,
   JournalsAreShort,
   MeasuredEndsStay,
@@ -100,6 +101,11 @@ pub fn windows_are_short()
 /// A run of n instructions records at most n branch bits and n indirect targets.
 pub fn records_are_few()
     ensures { RecordsAreFew }
+{}
+
+/// The run of a case records few enough of them for its blob to be laid out.
+pub fn counts_of_cases_fit()
+    ensures { CountsOfCasesFit }
 {}
 
 /// A sealed run reports no violation exactly where each checked use of its window was sound.
