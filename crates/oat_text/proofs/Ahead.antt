@@ -35,6 +35,7 @@ use Rattle.oat_text.specs.Readings.{has_number, name_at}
 use Rattle.oat_text.specs.Outline.{Outline, no_head, with_locals, with_labels}
 use Rattle.oat_text.specs.Bodies.{Bodies, Scope, scope_of, scope_in, instr_in, term_in, instr_of, term_of}
 use Rattle.oat_text.proofs.Lines.{Numbered, Say}
+use Rattle.oat_text.proofs.Programs.{all_append}
 use Rattle.oat_text.proofs.Crossing.{role_operations, operations_of, head_of}
 use Rattle.oat_text.proofs.Accepted.{AreShaped, names_in}
 use Rattle.oat_text.proofs.LinesSay.{instr_said, term_said}
@@ -42,10 +43,6 @@ use Rattle.oat_text.proofs.Declared.{BeginsRole, GlobalTaken, LocalTaken, BlockT
 use Rattle.oat_text.proofs.Apart.{IsApart, IsApartHead}
 
 -- ---- lists
-
-all_joined : {X : Type 0} (Q : X → Type 0) (xs ys : List X) → AllByRecursion Q xs → AllByRecursion Q ys → AllByRecursion Q (xs ++ ys)
-all_joined Q [] ys front back = back
-all_joined Q (x ∷ xs) ys front back = (front.0, all_joined Q xs ys front.1 back)
 
 one_of_all : {X : Type 0} (Q : X → Type 0) (front : List X) (x : X) (back : List X) → AllByRecursion Q (front ++ x ∷ back) → Q x
 one_of_all Q [] x back all = all.0
@@ -378,7 +375,7 @@ module _ (O : Outline) (B : Bodies) (P : Program) (last : IsLast O P) where
             role = subst (λ (r : Role). IsRole r func) (sym after.begun.role_is) (role_is func t.role t.name (length t.locals) after.begun.named params t.begins);
             few_params = omega arith;
             params_first = omega arith;
-            locals = All-from_recursion IsLocal func.locals (subst (AllByRecursion IsLocal) (sym after.all) (all_joined IsLocal t.locals after.locals t.fits after.fits));
+            locals = All-from_recursion IsLocal func.locals (subst (AllByRecursion IsLocal) (sym after.all) (all_append IsLocal t.locals after.locals t.fits after.fits));
             local_names = head_apart.locals;
             begun = after.some;
             labels = distinct_mapped bytes_eq (λ (c : BlockIr). c.label) func.blocks head_apart.labels;

@@ -13,6 +13,7 @@ use Rattle.oat_text.specs.declared.head.Stage.TheVariants.{Outside, Behind}
 use Rattle.oat_text.specs.Passes.{each, over}
 use Rattle.oat_text.specs.Readings.{has_number}
 use Rattle.oat_text.specs.Outline.{Outline, no_head, nothing, tested, itself, local_name, declare, outline_line}
+use Rattle.oat_text.proofs.Programs.{all_append}
 use Rattle.oat_text.proofs.Lines.{Numbered}
 use Rattle.oat_text.proofs.Accepted.{tested_is}
 use Rattle.oat_text.proofs.Declared.{distinct_added, global_taken, local_taken, block_taken, func_taken}
@@ -31,10 +32,6 @@ pub record IsApart (o : Outline) : Type 0 where
 pub none_apart : {X : Type 0} (e : X → X → Bool) → IsDistinct e []
 unfolding IsDistinct
 none_apart e = tt
-
-all_pushed : {X : Type 0} (Q : X → Type 0) (xs : List X) (x : X) → AllByRecursion Q xs → Q x → AllByRecursion Q (xs ++ x ∷ [])
-all_pushed Q [] x all one = (one, tt)
-all_pushed Q (y ∷ ys) x all one = (all.0, all_pushed Q ys x all.1 one)
 
 pub nothing_apart : IsApart nothing
 nothing_apart = record {
@@ -95,7 +92,7 @@ declare_apart n o line.End words p number e apart =
       globals = apart.globals;
       funcs = apart.funcs;
       operations = apart.operations;
-      heads = all_pushed IsApartHead o.heads o.present apart.heads apart.present;
+      heads = all_append IsApartHead o.heads (o.present ∷ []) apart.heads (apart.present, tt);
       present = record { locals = none_apart are_one_local; labels = none_apart bytes_eq };
     })
 declare_apart n o (line.Instr form) words p number e apart = subst IsApart (ok_is o p e) apart

@@ -1,12 +1,12 @@
 -- What the lines of declarations say that the reader takes, and what they leave behind.
-use Rattle.std.proofs.Common.{◌≡◌, ℕ, suc, ◌+◌, ◌≤◌, Bool, true, false, not, eqb, ◌||◌, List, [], ◌∷◌, ◌++◌, length, map, Option, Some, None, Ok, refl, sym, ap, ◌∙◌, subst, inl, inr, append_assoc, arith}
+use Rattle.std.proofs.Common.{◌≡◌, ℕ, ◌+◌, ◌≤◌, Bool, true, false, not, eqb, ◌||◌, List, [], ◌∷◌, ◌++◌, length, map, Option, Some, None, Ok, refl, sym, ap, ◌∙◌, subst, inl, inr, append_assoc, arith}
 use Rattle.std.specs.Prelude.{bytes_eq, codes, if◌then◌else◌, ◌⊎◌, option_map}
 use Rattle.std.specs.List.{AllZip, AllByRecursion, IsDistinct, list_any, slice_get}
 use Rattle.std.specs.Option.{ok_or}
 use Rattle.std.proofs.lemmas.Bool.Decides.{nat_tests}
 use Rattle.std.proofs.lemmas.Slice.Eq.{bytes_eq-Decides}
 use Rattle.std.proofs.lemmas.Fmt.{decimal_digit}
-use Rattle.std.proofs.lemmas.List.{append-nil}
+use Rattle.std.proofs.lemmas.List.{append-nil, length-map}
 use Rattle.oat_lines.specs.Lines.{TextWord}
 use Rattle.oat_lines.specs.Decimal.{numeral_of}
 use Rattle.oat_lines.specs.Fields.{cut}
@@ -32,7 +32,7 @@ use Rattle.oat_text.specs.declared.form.GlobalForm.TheVariants as globals
 use Rattle.oat_text.specs.declared.form.FuncForm.{FuncForm}
 use Rattle.oat_text.specs.declared.form.FuncForm.TheVariants as funcs
 use Rattle.oat_text.specs.declared.head.Stage.TheVariants.{Locals, Inside}
-use Rattle.oat_text.specs.Words.{Said, Named, Says, reference_text, ty_text}
+use Rattle.oat_text.specs.Words.{Named, Says, reference_text, ty_text}
 use Rattle.oat_text.specs.Forms.{global_word, func_word}
 use Rattle.oat_text.specs.Grammar.{global_line, local_line, parameter, head_line}
 use Rattle.oat_text.specs.Passes.{each}
@@ -40,6 +40,7 @@ use Rattle.oat_text.specs.Readings.{params_of, ty_of, local_of, parameter_of, i6
 use Rattle.oat_text.specs.Outline.{Outline, add, itself, local_name, scalar_of, global_of, global_in, add_parameter, add_parameters, begin_func, begin_operation, name_first, id_first, plain_line, operation_line, func_line, with_locals, with_labels}
 use Rattle.oat_text.specs.Outline as outline
 use Rattle.oat_text.proofs.Finding.{bytes_turned}
+use Rattle.oat_text.proofs.Lines.{lengths}
 use Rattle.oat_text.proofs.Crossing.{role_operations}
 use Rattle.oat_text.proofs.Accepted.{counted, none_of, one_of, two_of, some_of, pair_of, read_is}
 use Rattle.oat_text.proofs.LinesSay.{i64_read}
@@ -361,11 +362,8 @@ begun n o role name words p e =
       after = ok_is (record o { funcs = a.0; present = record { role = role; params = length b.0; locals = b.0; labels = [] }; stage = Locals }) p b.2;
     }
 
-says_many : {X : Type 0} (words : List TextWord) (f : X → Said) (xs : List X) → AllZip Says words (map f xs) → length words ≡ length xs
-says_many [] f [] all = refl
-says_many [] f (x ∷ xs) all = absurd all
-says_many (w ∷ ws) f [] all = absurd all
-says_many (w ∷ ws) f (x ∷ xs) all = ap (λ n. suc n) (says_many ws f xs all.1)
+params_many : (words : List TextWord) (params : List Local) → AllZip Says words (map parameter params) → length words ≡ length params
+params_many words params says = lengths words (map parameter params) says ∙ length-map params parameter
 
 name_split : (w : TextWord) (ws : List TextWord) (q : TextWord × List TextWord) → name_first (w ∷ ws) ≡ Some q → (read_name w ≡ Some q.0) × (q.1 ≡ ws)
 name_split w ws q e =
@@ -390,7 +388,7 @@ plain_taken n o w ws p few e =
       locals = b.locals;
       says = (refl, (read_is w a.0.0 split.0, b.says));
       begins = tt;
-      few = (let many = says_many ws parameter b.locals b.says in omega arith);
+      few = (let many = params_many ws b.locals b.says in omega arith);
       fits = b.fits;
       distinct = b.distinct;
       new = b.new;
@@ -401,7 +399,7 @@ plain_taken n o w ws p few e =
 main_taken : (n : ℕ) (o : Outline) (p : Outline) → begin_func n o Main (codes "main") [] ≡ Ok p → FuncTaken o funcs.Main [] p
 main_taken n o p e =
     let b = begun n o Main (codes "main") [] p e in
-    let none : 0 ≡ length b.locals = says_many [] parameter b.locals b.says in
+    let none : 0 ≡ length b.locals = params_many [] b.locals b.says in
     record {
       role = Main;
       name = codes "main";
@@ -435,7 +433,7 @@ numbered_taken n o id name w x ws p few counts names e =
       locals = b.locals;
       says = (refl, (number.0, (read_is x name names, b.says)));
       begins = (number.1, number.2);
-      few = (let many = says_many ws parameter b.locals b.says in omega arith);
+      few = (let many = params_many ws b.locals b.says in omega arith);
       fits = b.fits;
       distinct = b.distinct;
       new = b.new;

@@ -33,7 +33,7 @@ use Rattle.oat_text.proofs.Said as said
 
 -- ---- lists
 
-all_append : {X : Type 0} (P : X → Type 0) (xs ys : List X) → AllByRecursion P xs → AllByRecursion P ys → AllByRecursion P (xs ++ ys)
+pub all_append : {X : Type 0} (P : X → Type 0) (xs ys : List X) → AllByRecursion P xs → AllByRecursion P ys → AllByRecursion P (xs ++ ys)
 all_append P [] ys front back = back
 all_append P (x ∷ xs) ys front back = (front.0, all_append P xs ys front.1 back)
 

@@ -168,7 +168,7 @@ impl LineForm {
 }
 
 impl GlobalForm {
-    pub fn spelled(self) -> &'static [u8]
+    fn spelled(self) -> &'static [u8]
         ensures { result.now ≡ global_word self }
     {
         match self {
@@ -192,7 +192,7 @@ impl GlobalForm {
 }
 
 impl FuncForm {
-    pub fn spelled(self) -> &'static [u8]
+    fn spelled(self) -> &'static [u8]
         ensures { result.now ≡ func_word self }
     {
         match self {
@@ -227,7 +227,7 @@ impl FuncForm {
 }
 
 impl InstrForm {
-    pub fn spelled(self) -> &'static [u8]
+    fn spelled(self) -> &'static [u8]
         ensures { result.now ≡ instr_word self }
     {
         match self {
@@ -270,7 +270,7 @@ impl InstrForm {
     }
 }
 
-fn op_spelled(op: BinOp) -> &'static [u8]
+pub fn op_spelled(op: BinOp) -> &'static [u8]
     ensures { result.now ≡ op_keyword op }
 {
     match op {
@@ -297,7 +297,7 @@ fn op_spelled(op: BinOp) -> &'static [u8]
 }
 
 impl TermForm {
-    pub fn spelled(self) -> &'static [u8]
+    fn spelled(self) -> &'static [u8]
         ensures { result.now ≡ term_word self }
     {
         match self {

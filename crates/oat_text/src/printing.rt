@@ -6,21 +6,20 @@ ghost use Rattle.oat_lines.specs.Fields.{spaced, ended};
 ghost use Rattle.oat_ir.specs.Indices.{HasLocal, HasBlock, HasGlobal, HasFunc, IsInstr, IsTerm};
 ghost use Rattle.oat_ir.specs.WellFormed.{IsRole, IsBlockIr, IsFunc, IsProgram};
 ghost use Rattle.oat_text.specs.Words.{printed_word};
-ghost use Rattle.oat_text.specs.Forms.{global_word};
 ghost use Rattle.oat_text.specs.Grammar.{local_at, block_at, global_at, func_at, scalar_keyword, global_line, instr_line, term_line, parameter, head_line, local_line, block_lines, func_lines, line_text, lines_text, program_text};
 ghost use Rattle.oat_text.specs.Printing.{words_behind, head_text};
 
-use crate::form::{FuncForm, GlobalForm, InstrForm, LineForm, TermForm};
+use crate::form::op_spelled;
 use crate::put::{
     put_counted, put_four, put_line, put_parameter, put_three, put_two, put_typed, put_word,
 };
 use itoa::Buffer;
-use oat_ir::{BlockIr, Func, GlobalItem, Instr, Local, Program, Role, Term, Ty};
+use oat_ir::{Args, BlockIr, Func, GlobalItem, Instr, Local, Program, Role, Term, Ty};
 use std::alloc::{AllocError, Global};
 
 // Names of what an index stands for.
 
-fn local_name(func: &Func, x: u32) -> &[u8]
+fn local(func: &Func, x: u32) -> &[u8]
     requires { HasLocal func.now x }
     ensures { result.now ≡ printed_word (local_at func.now x) }
 {
@@ -34,7 +33,7 @@ fn label(func: &Func, block: u32) -> &[u8]
     func.blocks.as_slice()[block as usize].label.as_bytes()
 }
 
-fn global_name(program: &Program, global: u32) -> &[u8]
+fn global(program: &Program, global: u32) -> &[u8]
     requires { HasGlobal program.now global }
     ensures { result.now ≡ printed_word (global_at program.now global) }
 {
@@ -43,7 +42,7 @@ fn global_name(program: &Program, global: u32) -> &[u8]
         .as_bytes()
 }
 
-fn func_name(program: &Program, func: u32) -> &[u8]
+fn function(program: &Program, func: u32) -> &[u8]
     requires { HasFunc program.now func }
     ensures { result.now ≡ printed_word (func_at program.now func) }
 {
@@ -52,14 +51,11 @@ fn func_name(program: &Program, func: u32) -> &[u8]
 
 // Lines.
 
-fn scalar_form(critical: bool) -> GlobalForm
-    ensures { global_word result ≡ scalar_keyword critical }
+/// The keyword of a scalar that is a number.
+fn scalar_spelled(critical: bool) -> &'static [u8]
+    ensures { result.now ≡ scalar_keyword critical }
 {
-    if critical {
-        GlobalForm::Critical
-    } else {
-        GlobalForm::Plain
-    }
+    if critical { b"critical" } else { b"global" }
 }
 
 fn put_global(out: &mut Vec<u8>, global: &GlobalItem) -> Result<(), AllocError>
@@ -74,20 +70,16 @@ fn put_global(out: &mut Vec<u8>, global: &GlobalItem) -> Result<(), AllocError>
             let mut digits = Buffer::new();
             put_three(
                 out,
-                scalar_form(*critical).spelled(),
+                scalar_spelled(*critical),
                 name.as_bytes(),
                 digits.format(*start).as_bytes(),
             )
         }
         GlobalItem::FnScalar { name, params } => {
-            put_typed(out, GlobalForm::Plain.spelled(), name, Ty::Fn(*params))
+            put_typed(out, b"global", name, Ty::Fn(*params))
         }
-        GlobalItem::Array { name, len } => {
-            put_counted(out, GlobalForm::Array.spelled(), name, *len)
-        }
-        GlobalItem::CriticalArray { name, len } => {
-            put_counted(out, GlobalForm::Criticals.spelled(), name, *len)
-        }
+        GlobalItem::Array { name, len } => put_counted(out, b"array", name, *len),
+        GlobalItem::CriticalArray { name, len } => put_counted(out, b"criticals", name, *len),
     }
 }
 
@@ -96,7 +88,7 @@ fn put_arguments(out: &mut Vec<u8>, func: &Func, args: &[u32]) -> Result<(), All
     ensures { OnOk result (out.new.items ≡ out.old.items ++ words_behind (local_at func.now) args.now) }
 {
     for arg in args {
-        put_word(out, local_name(func, *arg))?;
+        put_word(out, local(func, *arg))?;
     }
     Ok(())
 }
@@ -108,7 +100,7 @@ fn put_call(
     keyword: &[u8],
     x: &[u8],
     callee: &[u8],
-    args: &[u32],
+    args: &Args,
 ) -> Result<(), AllocError>
     requires { All (HasLocal func.now) args.now }
     ensures { OnOk result (out.new.items
@@ -117,7 +109,7 @@ fn put_call(
     out.extend_from_slice(keyword)?;
     put_word(out, x)?;
     put_word(out, callee)?;
-    put_arguments(out, func, args)?;
+    put_arguments(out, func, args.as_slice())?;
     out.extend_from_slice(b"\n")
 }
 
@@ -134,75 +126,39 @@ fn put_instr(
         Instr::Const { x, value } => {
             let mut digits = Buffer::new();
             let value = digits.format(*value).as_bytes();
-            put_three(out, InstrForm::Const.spelled(), local_name(func, *x), value)
+            put_three(out, b"const", local(func, *x), value)
         }
-        Instr::Copy { x, y } => put_three(
-            out,
-            InstrForm::Copy.spelled(),
-            local_name(func, *x),
-            local_name(func, *y),
-        ),
-        Instr::Binary { op, x, y, z } => put_four(
-            out,
-            InstrForm::Binary(*op).spelled(),
-            local_name(func, *x),
-            local_name(func, *y),
-            local_name(func, *z),
-        ),
-        Instr::Load { x, global } => put_three(
-            out,
-            InstrForm::Load.spelled(),
-            local_name(func, *x),
-            global_name(program, *global),
-        ),
-        Instr::Store { global, x } => put_three(
-            out,
-            InstrForm::Store.spelled(),
-            global_name(program, *global),
-            local_name(func, *x),
-        ),
-        Instr::LoadX { x, array, i } => put_four(
-            out,
-            InstrForm::LoadX.spelled(),
-            local_name(func, *x),
-            global_name(program, *array),
-            local_name(func, *i),
-        ),
-        Instr::StoreX { array, i, x } => put_four(
-            out,
-            InstrForm::StoreX.spelled(),
-            global_name(program, *array),
-            local_name(func, *i),
-            local_name(func, *x),
-        ),
-        Instr::RefTo { x, func: callee } => put_three(
-            out,
-            InstrForm::RefTo.spelled(),
-            local_name(func, *x),
-            func_name(program, *callee),
-        ),
-        Instr::Call {
-            x,
-            func: callee,
-            args,
-        } => put_call(
-            out,
-            func,
-            InstrForm::Call.spelled(),
-            local_name(func, *x),
-            func_name(program, *callee),
-            args.as_slice(),
-        ),
-        Instr::ICall { x, y, args } => put_call(
-            out,
-            func,
-            InstrForm::ICall.spelled(),
-            local_name(func, *x),
-            local_name(func, *y),
-            args.as_slice(),
-        ),
-        Instr::Input { x } => put_two(out, InstrForm::Input.spelled(), local_name(func, *x)),
-        Instr::Output { x } => put_two(out, InstrForm::Output.spelled(), local_name(func, *x)),
+        Instr::Copy { x, y } => put_three(out, b"copy", local(func, *x), local(func, *y)),
+        Instr::Binary { op, x, y, z } => {
+            let op = op_spelled(*op);
+            put_four(out, op, local(func, *x), local(func, *y), local(func, *z))
+        }
+        Instr::Load { x, global: g } => {
+            put_three(out, b"load", local(func, *x), global(program, *g))
+        }
+        Instr::Store { global: g, x } => {
+            put_three(out, b"store", global(program, *g), local(func, *x))
+        }
+        Instr::LoadX { x, array, i } => {
+            let array = global(program, *array);
+            put_four(out, b"loadx", local(func, *x), array, local(func, *i))
+        }
+        Instr::StoreX { array, i, x } => {
+            let array = global(program, *array);
+            put_four(out, b"storex", array, local(func, *i), local(func, *x))
+        }
+        Instr::RefTo { x, func: f } => {
+            put_three(out, b"ref", local(func, *x), function(program, *f))
+        }
+        Instr::Call { x, func: f, args } => {
+            let callee = function(program, *f);
+            put_call(out, func, b"call", local(func, *x), callee, args)
+        }
+        Instr::ICall { x, y, args } => {
+            put_call(out, func, b"icall", local(func, *x), local(func, *y), args)
+        }
+        Instr::Input { x } => put_two(out, b"in", local(func, *x)),
+        Instr::Output { x } => put_two(out, b"out", local(func, *x)),
     }
 }
 
@@ -211,16 +167,16 @@ fn put_term(out: &mut Vec<u8>, func: &Func, term: &Term) -> Result<(), AllocErro
     ensures { OnOk result (out.new.items ≡ out.old.items ++ line_text (term_line func.now term.now)) }
 {
     match term {
-        Term::Jump { to } => put_two(out, TermForm::Jump.spelled(), label(func, *to)),
+        Term::Jump { to } => put_two(out, b"jump", label(func, *to)),
         Term::Branch { x, first, second } => put_four(
             out,
-            TermForm::Branch.spelled(),
-            local_name(func, *x),
+            b"branch",
+            local(func, *x),
             label(func, *first),
             label(func, *second),
         ),
-        Term::Ret { x } => put_two(out, TermForm::Ret.spelled(), local_name(func, *x)),
-        Term::Halt => put_line(out, TermForm::Halt.spelled()),
+        Term::Ret { x } => put_two(out, b"ret", local(func, *x)),
+        Term::Halt => put_line(out, b"halt"),
     }
 }
 
@@ -250,7 +206,7 @@ fn put_block(
     requires { IsBlockIr program.now func.now block.now }
     ensures { OnOk result (out.new.items ≡ out.old.items ++ lines_text (block_lines program.now func.now block.now)) }
 {
-    put_two(out, LineForm::Block.spelled(), block.label.as_bytes())?;
+    put_two(out, b"block", block.label.as_bytes())?;
     put_instrs(out, program, func, block.instrs.as_slice())?;
     put_term(out, func, &block.term)
 }
@@ -287,16 +243,16 @@ fn begin_head(out: &mut Vec<u8>, func: &Func) -> Result<(), AllocError>
 {
     match func.role {
         Role::Plain => {
-            out.extend_from_slice(FuncForm::Plain.spelled())?;
+            out.extend_from_slice(b"func")?;
             put_word(out, func.name.as_bytes())
         }
         Role::Operation(id) => {
             let mut digits = Buffer::new();
-            out.extend_from_slice(FuncForm::Operation.spelled())?;
+            out.extend_from_slice(b"operation")?;
             put_word(out, digits.format(id).as_bytes())?;
             put_word(out, func.name.as_bytes())
         }
-        Role::Main => out.extend_from_slice(FuncForm::Main.spelled()),
+        Role::Main => out.extend_from_slice(b"main"),
     }
 }
 
@@ -315,7 +271,7 @@ fn put_locals(out: &mut Vec<u8>, locals: &[Local]) -> Result<(), AllocError>
     ensures { OnOk result (out.new.items ≡ out.old.items ++ flat_map (λ local. line_text (local_line local)) locals.now) }
 {
     for local in locals {
-        put_typed(out, LineForm::Local.spelled(), &local.name, local.ty)?;
+        put_typed(out, b"local", &local.name, local.ty)?;
     }
     Ok(())
 }
@@ -335,7 +291,7 @@ fn put_func(out: &mut Vec<u8>, program: &Program, func: &Func) -> Result<(), All
     put_head(out, func)?;
     put_locals(out, behind_params(func))?;
     put_blocks(out, program, func, func.blocks.as_slice())?;
-    put_line(out, LineForm::End.spelled())
+    put_line(out, b"end")
 }
 
 // Programs.

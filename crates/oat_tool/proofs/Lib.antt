@@ -11,7 +11,6 @@ mod Answering
 mod One
 mod Refusing
 mod Admitting
-mod Records
 mod Verifying
 mod Running
 mod Naming

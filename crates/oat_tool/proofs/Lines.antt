@@ -2,13 +2,9 @@
 use Rattle.std.proofs.Common.{◌≡◌, ◌∙◌, ◌<◌, ◌≤◌, ◌+◌, ◌++◌, ℕ, Bool, true, false, List, [], ◌∷◌, length, take, drop, length-drop, refl, sym, ap, append_assoc, arith}
 use Rattle.std.proofs.Math.Seq.{drop-append_seam}
 use Rattle.std.proofs.lemmas.List.{take-append-drop, drop-drop, drop_all, length-take}
-use Rattle.hex.specs.Hex.{encode_with, encode_lower, lower_digits}
+use Rattle.hex.specs.Hex.{encode_with, encode_lower}
+use Rattle.oat_lines.proofs.LowerDigits.{digits_of_joined}
 use Rattle.oat_tool.specs.BlobLine.{line_end, line_left, turns_of_line}
-
-encode_with-append : (t xs ys : List ℕ) → encode_with t (xs ++ ys) ≡ encode_with t xs ++ encode_with t ys
-unfolding encode_with
-encode_with-append t [] ys = refl
-encode_with-append t (x ∷ xs) ys = rw (encode_with-append t xs ys) refl
 
 -- what stands behind the next block
 behind_block : (bytes : List ℕ) (at n : ℕ) → drop (length (take n (drop at bytes))) (drop at bytes) ≡ drop n (drop at bytes)
@@ -23,7 +19,7 @@ digits_split bytes at n =
     let block = take n (drop at bytes) in
     let later : drop (at + length block) bytes ≡ drop n (drop at bytes) = sym (drop-drop (length block) at bytes) ∙ behind_block bytes at n in
     ap encode_lower (sym (take-append-drop n (drop at bytes)))
-    ∙ (encode_with-append lower_digits block (drop n (drop at bytes))
+    ∙ (digits_of_joined block (drop n (drop at bytes))
     ∙ ap (λ (xs : List ℕ). encode_lower block ++ encode_lower xs) (sym later))
 
 block_is_made : (bytes : List ℕ) (at n : ℕ) (is_ended : Bool)
@@ -41,14 +37,17 @@ nothing_left bytes at low = rw (drop_all at bytes low) refl
 
 -- ---- the next piece, and that fewer turns are left
 
+pub few_taken : (n : ℕ) (block rest : List ℕ) → block ≡ take n rest → length block ≤ n
+few_taken n block rest is = let long = length-take n rest in rw is (omega (arith, long))
+
 pub makes_block : (bytes : List ℕ) (is_begun is_ended : Bool) (at : ℕ) (block digits : List ℕ) → is_begun ≡ true → at < length bytes
-    → block ≡ take 512 (drop at bytes) → digits ≡ encode_lower block
+    → block ≡ take 32 (drop at bytes) → digits ≡ encode_lower block
     → (line_left bytes is_begun at is_ended ≡ digits ++ line_left bytes is_begun (at + length block) is_ended)
     × (turns_of_line bytes is_begun (at + length block) is_ended < turns_of_line bytes is_begun at is_ended)
 makes_block bytes is_begun is_ended at block digits begun within is made =
-    let long = length-take 512 (drop at bytes) in
+    let long = length-take 32 (drop at bytes) in
     let rest = length-drop at bytes in
-    rw (begun, made, is) (block_is_made bytes at 512 is_ended, omega (arith, long, rest, within))
+    rw (begun, made, is) (block_is_made bytes at 32 is_ended, omega (arith, long, rest, within))
 
 pub makes_end : (bytes : List ℕ) (is_begun is_ended : Bool) (at : ℕ) (piece : List ℕ) → is_begun ≡ true → is_ended ≡ false
     → length bytes ≤ at → piece ≡ 10 ∷ []

@@ -16,6 +16,11 @@ use Rattle.oat_shape.specs.MapRules.{S7}
 use Rattle.oat_shape.specs.Shape.{Everywhere}
 use Rattle.oat_map.specs.Rows.{BeginsAt, IsOperation}
 use Rattle.oat_journal.specs.Measured.{Run, IsSealed, body_of, opening_of}
+use Rattle.oat_case.specs.Limits.{IsWellFormedCase}
+use Rattle.oat_measure.specs.Monitored.{Monitored}
+use Rattle.oat_journal.specs.TurnLaws.{CountsFit}
+use Rattle.oat_journal.proofs.RunLaws.{counts_of_cases_fit}
+use Rattle.oat_device.specs.DeviceRun.{DeviceRun, HasRun, ReportsItsBody, reported}
 use Rattle.oat_shape.proofs.Laid.{opens_once}
 use Rattle.oat_first.specs.First.{IsOne}
 use Rattle.oat_tool.specs.declared.page.Stop.{Stop}
@@ -43,6 +48,17 @@ stops_rejecting image case stop stops =
 
 pub runs_admitted : (image case : File) (i : Image) (c : Case) (a : Answer) → AreAdmitted image case i c → RunsCase i c a → Runs (image ∷ case ∷ []) a
 runs_admitted image case i c a admitted runs = Admits-admitted image case RunsCase a i c admitted runs
+
+-- ---- what a device that has made the run reports
+
+pub body_reported : (device : DeviceRun) (image : Image) (case : Case) (shown : Monitored) → HasRun device image case → ReportsItsBody device shown
+    → reported shown ≡ body_of (opening_of image case.session device.begin_at) (run_of image case device.begin_at).state
+body_reported device image case shown has reports = reports.body ∙ (λ i. body_of (has.opening i) (has.run i).state)
+
+pub counts_fit : (device : DeviceRun) (image : Image) (case : Case) (shown : Monitored) → IsWellFormedCase case → HasRun device image case → ReportsItsBody device shown
+    → CountsFit (reported shown)
+counts_fit device image case shown formed has reports =
+    subst CountsFit (sym (body_reported device image case shown has reports)) (counts_of_cases_fit image (opening_of image case.session device.begin_at) case formed)
 
 -- ---- one answer
 

@@ -2,10 +2,11 @@ ghost use Rattle.std.specs.Prelude.{◌≡◌, ◌≤◌, take, drop, length};
 ghost use Rattle.oat_tool.specs.BlobLine.{blob_line, line_left, turns_of_line};
 
 use crate::pieces::Pieces;
+use oat_lines::lower_digits;
 use std::alloc::{AllocError, Global};
 
 /// The most bytes whose digits are one piece.
-const BLOCK: usize = 512;
+const BLOCK: usize = 32;
 
 /// The line of a blob, whose digits are made a block at a time.
 #[derive(Debug, Drop)]
@@ -52,9 +53,9 @@ impl Pieces for BlobLine {
         }
         if self.at < self.bytes.len() {
             let block = next_block(self.bytes.as_slice(), self.at);
-            let digits = hex::encode(alloc, block)?;
+            let digits = Vec::from_slice(alloc, lower_digits(block, &mut [0; 64]))?;
             self.at += block.len();
-            return Ok(Some(digits.into_bytes()));
+            return Ok(Some(digits));
         }
         if !self.is_ended {
             let end = Vec::from_slice(alloc, b"\n")?;

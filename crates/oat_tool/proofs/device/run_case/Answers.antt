@@ -5,18 +5,18 @@ use Rattle.oat_blob.specs.Layout.{IsBlobOf}
 use Rattle.oat_journal.specs.Measured.{Run, IsSealed, end_of}
 use Rattle.oat_device.proofs.Whole.{steps_make_the_run}
 use Rattle.oat_tool.specs.Device.{sealed, unsealed}
-use Rattle.oat_tool.proofs.Records.{body_reported, device_small}
+use Rattle.oat_tool.proofs.Running.{body_reported, counts_fit}
 use Rattle.oat_tool.proofs.device.run_case.Goals as goal
 
 pub blob_under-requires-clause-few_bits : goal.blob_under-requires-clause-few_bits
 blob_under-requires-clause-few_bits c =
     let has = steps_make_the_run c.args.shaped.now c.args.case.now _ _ c.in_ok-device.ensures c.run-end.ensures.whole in
-    (device_small _ c.args.shaped.now c.args.case.now c.in-Some.sealed.now c.requires.well_formed has c.in-Some.ensures).bits
+    (counts_fit _ c.args.shaped.now c.args.case.now c.in-Some.sealed.now c.requires.well_formed has c.in-Some.ensures).bits
 
 pub blob_under-requires-clause-few_targets : goal.blob_under-requires-clause-few_targets
 blob_under-requires-clause-few_targets c =
     let has = steps_make_the_run c.args.shaped.now c.args.case.now _ _ c.in_ok-device.ensures c.run-end.ensures.whole in
-    (device_small _ c.args.shaped.now c.args.case.now c.in-Some.sealed.now c.requires.well_formed has c.in-Some.ensures).targets
+    (counts_fit _ c.args.shaped.now c.args.case.now c.in-Some.sealed.now c.requires.well_formed has c.in-Some.ensures).targets
 
 pub returns-in-Some : goal.returns-in-Some
 returns-in-Some c =
