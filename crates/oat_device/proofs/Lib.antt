@@ -4,3 +4,5 @@ mod Rooms
 mod Starting
 mod Runs
 pub mod Whole
+mod Telling
+mod Bodies

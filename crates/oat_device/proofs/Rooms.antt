@@ -19,7 +19,7 @@ use Rattle.oat_journal.specs.Run.{Running, found, makes, told, called, with_inpu
 use Rattle.oat_device.specs.Records.{bits_taken, targets_taken}
 use Rattle.oat_device.specs.declared.bare.BareRun.{BareRun}
 use Rattle.oat_device.specs.declared.course.Course.{Course}
-use Rattle.oat_device.specs.Standing.{HasRoom, IsReady, IsSpaced, engine_opening, spare_bits, spare_targets}
+use Rattle.oat_device.specs.Standing.{HasRoom, IsReady, IsSpaced, LeavesRoom, engine_opening, shelf_bits, shelf_targets, spare_bits, spare_targets, window_room}
 use Rattle.oat_journal.specs.Progress.{call_told}
 use Rattle.oat_journal.proofs.RunLaws.{turns_make_steps}
 
@@ -40,6 +40,12 @@ room-behind code number left spare pc next rest taken spaced (inl half) (inr t) 
     let one = t.0 in
     inr (omega (arith, half, one, few), λ h. spaced pc t.1 (subst (λ (q : ℕ). instruction_at code q ≡ Some (Svc number)) t.2 h))
 room-behind code number left spare pc next rest taken spaced (inr later) (inr t) few = absurd (later.1 t.1)
+
+-- all of a window's room is free, or what was, less what was taken
+pub room-after : (code : List ℕ) (number left spare pc next rest taken steps whole : ℕ) → IsSpaced code number → HasRoom code number left spare pc → Takes code number pc next taken
+    → left ≤ steps → steps ≤ 2 * whole → (spare ≤ rest + taken) ⊎ (whole ≤ rest) → HasRoom code number (left - 1) rest next
+room-after code number left spare pc next rest taken steps whole spaced room takes within half (inl few) = room-behind code number left spare pc next rest taken spaced room takes few
+room-after code number left spare pc next rest taken steps whole spaced room takes within half (inr all) = inl (omega (arith, within, half, all))
 
 -- ---- an instruction that tells a call
 
@@ -198,8 +204,8 @@ some-opening None (Some e) same some = absurd (cc)
 pub ready-next : (now next : Course) (bare : BareRun) (bits targets : ℕ) → IsReady now → now.bare.made < now.steps → Kept now.bare bare → next.bare ≡ record bare { end = next.bare.end }
     → next.steps ≡ now.steps → engine_opening next.engine ≡ engine_opening now.engine
     → Takes now.bare.code.now 3 now.bare.cpu.pc bare.cpu.pc bits → Takes now.bare.code.now 4 now.bare.cpu.pc bare.cpu.pc targets
-    → spare_bits now.engine ≤ spare_bits next.engine + bits → spare_targets now.engine ≤ spare_targets next.engine + targets → IsReady next
-ready-next now next bare bits targets ready left kept same steps opening takes_bits takes_targets bits_spare targets_spare =
+    → LeavesRoom bits targets now next → IsReady next
+ready-next now next bare bits targets ready left kept same steps opening takes_bits takes_targets leaves =
     let code : next.bare.code.now ≡ now.bare.code.now = ap (λ (b : BareRun). b.code.now) same ∙ kept.code in
     let made : next.bare.made ≡ now.bare.made + 1 = ap (λ (b : BareRun). b.made) same ∙ kept.made in
     let pc : next.bare.cpu.pc ≡ bare.cpu.pc = ap (λ (b : BareRun). b.cpu.pc) same in
@@ -210,6 +216,7 @@ ready-next now next bare bits targets ready left kept same steps opening takes_b
     let kept_capacity = kept.capacity in
     let room = ready.outputs in
     let few = ready.few in
+    let window : now.steps ≤ 2 * window_room next.engine = subst (λ (n : ℕ). now.steps ≤ 2 * n) (sym leaves.window) ready.window in
     let rest : next.steps - next.bare.made ≡ now.steps - now.bare.made - 1 = omega (arith, made, steps, left) in
     let move : (number spare : ℕ) → HasRoom now.bare.code.now number (now.steps - now.bare.made - 1) spare bare.cpu.pc → HasRoom next.bare.code.now number (next.steps - next.bare.made) spare next.bare.cpu.pc =
     λ number spare has.
@@ -225,7 +232,15 @@ ready-next now next bare bits targets ready left kept same steps opening takes_b
       writes_rise = subst (λ (n : ℕ). RisesFrom n next.bare.writes.now) (sym made) (subst (RisesFrom (now.bare.made + 1)) (sym writes) kept.rise);
       outputs = omega (arith, steps, made, len, capacity, outputs, kept_capacity, room);
       bits = move 3 (spare_bits next.engine)
-          (room-behind now.bare.code.now 3 (now.steps - now.bare.made) (spare_bits now.engine) now.bare.cpu.pc bare.cpu.pc (spare_bits next.engine) bits ready.bits_spaced ready.bits takes_bits bits_spare);
+          (room-after now.bare.code.now 3 (now.steps - now.bare.made) (spare_bits now.engine) now.bare.cpu.pc bare.cpu.pc (spare_bits next.engine) bits now.steps (window_room next.engine) ready.bits_spaced ready.bits takes_bits
+          (omega arith) window leaves.bits);
       targets = move 4 (spare_targets next.engine)
-          (room-behind now.bare.code.now 4 (now.steps - now.bare.made) (spare_targets now.engine) now.bare.cpu.pc bare.cpu.pc (spare_targets next.engine) targets ready.targets_spaced ready.targets takes_targets targets_spare);
+          (room-after now.bare.code.now 4 (now.steps - now.bare.made) (spare_targets now.engine) now.bare.cpu.pc bare.cpu.pc (spare_targets next.engine) targets now.steps (window_room next.engine) ready.targets_spaced ready.targets takes_targets
+          (omega arith) window leaves.targets);
+      window = omega (arith, steps, window);
+      shelf = leaves.shelf;
+      bits_to_shelve = move 3 (shelf_bits next)
+          (room-behind now.bare.code.now 3 (now.steps - now.bare.made) (shelf_bits now) now.bare.cpu.pc bare.cpu.pc (shelf_bits next) bits ready.bits_spaced ready.bits_to_shelve takes_bits leaves.bits_to_shelve);
+      targets_to_shelve = move 4 (shelf_targets next)
+          (room-behind now.bare.code.now 4 (now.steps - now.bare.made) (shelf_targets now) now.bare.cpu.pc bare.cpu.pc (shelf_targets next) targets ready.targets_spaced ready.targets_to_shelve takes_targets leaves.targets_to_shelve);
     }

@@ -1,24 +1,29 @@
 -- From one turn of a device to its whole run.
-use Rattle.std.proofs.Common.{◌≡◌, ◌+◌, ◌-◌, ◌≤◌, ◌<◌, ℕ, suc, ℤ, List, [], false, Option, Some, None, refl, sym, ap, subst, ◌∙◌, arith}
+use Rattle.std.proofs.Common.{◌≡◌, ◌+◌, ◌-◌, ◌≤◌, ◌<◌, ℕ, suc, ℤ, List, [], ◌∷◌, ◌++◌, false, Option, Some, None, refl, sym, ap, subst, ◌∙◌, arith}
 use Rattle.std.specs.Prelude.{MatchOption}
 use Rattle.std.specs.Option.{is_some, unwrap_or}
+use Rattle.std.proofs.lemmas.List.{append-nil}
 use Rattle.oat_a64.specs.Step.{Machine, Regs, first_regs, step}
 use Rattle.oat_case.specs.declared.case.Case.{Case}
 use Rattle.oat_case.specs.declared.case.Write.{Write}
 use Rattle.oat_image.specs.declared.image.Image.{Image}
+use Rattle.oat_measure.specs.declared.engine.Engine.{Engine}
 use Rattle.oat_measure.specs.declared.engine.Engine.TheVariants as engine
+use Rattle.oat_blob.specs.Body.{Body}
 use Rattle.oat_measure.specs.declared.opening.Opening.{Opening}
-use Rattle.oat_measure.specs.Measurement.{State, booted, measured, sealed}
+use Rattle.oat_measure.specs.Measurement.{Stage, State, unmeasured, measuring, sealed}
+use Rattle.oat_measure.specs.Shelving.{Measurements, at_start, body_of, measured_on, sealed_bodies}
 use Rattle.oat_measure.specs.Monitored.{Monitored}
 use Rattle.oat_journal.specs.declared.end.DeviceEnd.{DeviceEnd}
 use Rattle.oat_journal.specs.declared.end.DeviceEnd.TheVariants.{OutOfSteps}
 use Rattle.oat_journal.specs.Run.{found, makes, start_memory, turn, unless_ended}
-use Rattle.oat_journal.specs.Measured.{Run, IsSealed, body_of, dev, end_of, opening_of, start_cells}
+use Rattle.oat_journal.specs.Measured.{Run, dev, end_of, opening_of, start_cells}
 use Rattle.oat_journal.specs.Progress.{Progress, after_turns, call_told, first_of, going_on, measured_turn, progress_of_run, with_measurement}
-use Rattle.oat_journal.proofs.RunLaws.{measured_ends_stay, measured_turns_follow, runs_report_exactly, turns_are_the_run}
+use Rattle.oat_journal.proofs.RunLaws.{measured_ends_stay, measured_turns_follow, turns_are_the_run}
 use Rattle.oat_device.specs.declared.course.Course.{Course}
 use Rattle.oat_device.specs.Bare.{DoesFrom}
-use Rattle.oat_device.specs.DeviceRun.{DeviceRun, ReportsItsBody, reported, run_so_far, window_opening}
+use Rattle.oat_device.specs.DeviceRun.{DeviceRun, IsSealed, ReportsItsBody, bodies_so_far, reported, run_so_far, window_opening}
+use Rattle.oat_device.specs.Telling.{unnumbered}
 use Rattle.oat_device.specs.Standing.{HasMade, IsReady, engine_opening, progress_of, state_of, turns_of}
 
 -- ---- what is told of a run
@@ -35,18 +40,18 @@ end-is e run is = ap (λ (x : Option DeviceEnd). unwrap_or x OutOfSteps) is ∙ 
 
 -- ---- the start
 
-abbrev stands_at : Regs → (ℕ → ℕ) → List ℤ → List ℤ → State → Progress
-stands_at regs memory inputs outputs state = record {
+abbrev stands_at : Regs → (ℕ → ℕ) → List ℤ → List ℤ → Measurements → Progress
+stands_at regs memory inputs outputs measurements = record {
   running = record { machine = record { regs = regs; memory = memory }; made = 0; inputs = inputs; outputs = outputs; end = None };
-  state = state;
+  measurements = measurements;
 }
 
-pub starts : (image : Image) (regs : Regs) (memory : ℕ → ℕ) (given inputs outputs : List ℤ) (state : State) → regs ≡ first_regs → memory ≡ start_memory image.words
-    → given ≡ inputs → outputs ≡ [] → state ≡ booted (start_cells image) → stands_at regs memory given outputs state ≡ first_of image inputs
-starts image regs memory given inputs outputs state regs_are memory_is given_are none state_is =
-    λ i. stands_at (regs_are i) (memory_is i) (given_are i) (none i) (state_is i)
+pub starts : (image : Image) (o : Opening) (regs : Regs) (memory : ℕ → ℕ) (given inputs outputs : List ℤ) (measurements : Measurements) → regs ≡ first_regs → memory ≡ start_memory image.words
+    → given ≡ inputs → outputs ≡ [] → measurements ≡ at_start o (start_cells image) → stands_at regs memory given outputs measurements ≡ first_of image o inputs
+starts image o regs memory given inputs outputs measurements regs_are memory_is given_are none measurements_are =
+    λ i. stands_at (regs_are i) (memory_is i) (given_are i) (none i) (measurements_are i)
 
-pub first-run : (image : Image) (case : Case) (o : Opening) → first_of image case.inputs ≡ progress_of_run (dev image o case.inputs case.writes 0)
+pub first-run : (image : Image) (case : Case) (o : Opening) → first_of image o case.inputs ≡ progress_of_run (dev image o case.inputs case.writes 0)
 unfolding after_turns
 first-run image case o = turns_are_the_run image o case.inputs case.writes 0
 
@@ -58,11 +63,11 @@ unfolding turn
 next-left code left writes o p does =
     let s = p.running in
     let same : found left s ≡ found writes s = ap (λ (memory : ℕ → ℕ). record s.machine { memory = memory }) (does s.made s.machine.memory (omega arith)) in
-    ap (λ (m : Machine). with_measurement (record p { running = unless_ended s.end s (makes s (step code m)) }) (measured o p.state (call_told (step code m).event s.machine.regs))) same
+    ap (λ (m : Machine). with_measurement (record p { running = unless_ended s.end s (makes s (step code m)) }) (measured_on o p.measurements (call_told (step code m).event s.machine.regs))) same
 
 -- what one turn does
 pub record Turned (now next : Course) : Type 0 where
-  pub after : (o : Opening) → engine_opening now.engine ≡ Some o → progress_of next ≡ measured_turn now.bare.code.now now.bare.writes.now o (progress_of now)
+  pub after : (o : Opening) → engine_opening now.engine ≡ Some (unnumbered o) → progress_of next ≡ measured_turn now.bare.code.now now.bare.writes.now o (progress_of now)
   pub opening : engine_opening next.engine ≡ engine_opening now.engine
   pub steps : next.steps ≡ now.steps
   pub code : next.bare.code.now ≡ now.bare.code.now
@@ -77,14 +82,14 @@ turns-ended : (device : Course) (why : DeviceEnd) → device.bare.end ≡ Some w
 turns-ended device why ended = ap (λ (e : Option DeviceEnd). elim e as (λ _. ℕ) [ None ↦ device.bare.made | Some why ↦ device.steps ]) ended
 
 abbrev made-by : Image → Case → ℕ → ℕ → Progress
-made-by image case begin_at n = after_turns image.code case.writes (opening_of image case.session begin_at) n (first_of image case.inputs)
+made-by image case begin_at n = after_turns image.code case.writes (opening_of image case.session begin_at) n (first_of image (opening_of image case.session begin_at) case.inputs)
 
 -- the run behind one more turn
 run-next : (now next : Course) (image : Image) (case : Case) (begin_at : ℕ) → HasMade now image case begin_at → Turned now next → now.bare.end ≡ None
     → progress_of next ≡ made-by image case begin_at (now.bare.made + 1)
 run-next now next image case begin_at s t going =
     let o = opening_of image case.session begin_at in
-    let p = first_of image case.inputs in
+    let p = first_of image o case.inputs in
     let k = now.bare.made in
     let here : progress_of now ≡ after_turns image.code case.writes o k p =
     s.run ∙ sym (turns_are_the_run image o case.inputs case.writes (turns_of now)) ∙ ap (λ (n : ℕ). after_turns image.code case.writes o n p) (turns-going now going) in
@@ -105,7 +110,7 @@ counted-run next image case begin_at k made low run = by-end next.bare.end refl 
   o = opening_of image case.session begin_at
 
   p : Progress
-  p = first_of image case.inputs
+  p = first_of image o case.inputs
 
   by-end : (e : Option DeviceEnd) → next.bare.end ≡ e → progress_of next ≡ progress_of_run (dev image o case.inputs case.writes (turns_of next))
   by-end None going =
@@ -146,30 +151,52 @@ all-made device steps is done = by-end device.bare.end refl where
   by-end None going = turns-going device going ∙ done going ∙ is
   by-end (Some why) ended = turns-ended device why ended ∙ is
 
--- ---- the sealed state
+-- ---- the bodies
+
+-- what a device has measured so far
+pub measurements-are : (course : Course) (device : DeviceRun) → HasMade course device.image device.case device.begin_at → device.turns ≡ turns_of course
+    → (progress_of course).measurements ≡ (run_so_far device).measurements
+measurements-are course device s turns =
+    ap (λ (p : Progress). p.measurements) (s.run ∙ ap (λ (n : ℕ). progress_of_run (dev device.image (window_opening device) device.case.inputs device.case.writes n)) (sym turns))
+
+abbrev last_of : Opening → State → Stage → List Body
+last_of o s stage = elim stage [ unmeasured ↦ [] | measuring ↦ [] | sealed ↦ body_of o s ∷ [] ]
+
+last-unsealed : (o : Opening) (s : State) (stage : Stage) → (stage ≡ sealed → ⊥) → last_of o s stage ≡ []
+last-unsealed o s unmeasured open_still = refl
+last-unsealed o s measuring open_still = refl
+last-unsealed o s sealed open_still = absurd (open_still refl)
+
+-- while the last window hasn't sealed, the bodies are those that were shelved
+pub bodies-shelved : (device : DeviceRun) → (IsSealed device → ⊥) → bodies_so_far device ≡ (run_so_far device).measurements.shelved
+bodies-shelved device open_still =
+    let m = (run_so_far device).measurements in
+    ap (λ (last : List Body). m.shelved ++ last) (last-unsealed (window_opening device) m.state m.state.stage open_still) ∙ append-nil m.shelved
 
 pub sealed-is : (course : Course) (device : DeviceRun) → HasMade course device.image device.case device.begin_at → device.turns ≡ turns_of course
     → {B : Type 0} (now : B → Monitored) (result : Option B)
     → MatchOption result ((state_of course.engine).stage ≡ sealed → ⊥) (λ b. course.engine ≡ Some (engine.After (now b)))
-    → MatchOption result (IsSealed (run_so_far device) → ⊥) (λ b. ReportsItsBody device (now b))
+    → MatchOption result (IsSealed device → ⊥) (λ b. ReportsItsBody device (now b))
 sealed-is course device s turns {B = B} now result told = by-result result told where
   o : Opening
   o = window_opening device
 
-  state : state_of course.engine ≡ (run_so_far device).state
-  state = ap (λ (p : Progress). p.state) (s.run ∙ ap (λ (n : ℕ). progress_of_run (dev device.image o device.case.inputs device.case.writes n)) (sym turns))
+  same : (progress_of course).measurements ≡ (run_so_far device).measurements
+  same = measurements-are course device s turns
 
   by-result : (r : Option B) → MatchOption r ((state_of course.engine).stage ≡ sealed → ⊥) (λ b. course.engine ≡ Some (engine.After (now b)))
-      → MatchOption r (IsSealed (run_so_far device) → ⊥) (λ b. ReportsItsBody device (now b))
-  by-result None none = λ shut. none (ap (λ (x : State). x.stage) state ∙ shut)
+      → MatchOption r (IsSealed device → ⊥) (λ b. ReportsItsBody device (now b))
+  by-result None none = λ shut. none (ap (λ (m : Measurements). m.state.stage) same ∙ shut)
   by-result (Some b) some =
       let shown = now b in
-      let both : state_of (Some (engine.After shown)) ≡ (run_so_far device).state = sym (ap state_of some) ∙ state in
-      let own : engine_opening (Some (engine.After shown)) ≡ Some o = sym (ap engine_opening some) ∙ s.measures in
-      let opens : shown.opening ≡ o = cc in
-      let shut : IsSealed (run_so_far device) = sym (ap (λ (x : State). x.stage) both) in
+      let here : Measurements = record { shelved = course.shelf.bodies; state = state_of (Some (engine.After shown)) } in
+      let all : here ≡ (run_so_far device).measurements = sym (ap (λ (e : Option Engine). record { shelved = course.shelf.bodies; state = state_of e }) some) ∙ same in
+      let own : engine_opening (Some (engine.After shown)) ≡ Some (unnumbered o) = sym (ap engine_opening some) ∙ s.measures in
+      let opens : unnumbered shown.opening ≡ unnumbered o = cc in
       record {
-        sealed = shut;
-        body = ap (λ (x : Opening). body_of x (state_of (Some (engine.After shown)))) opens ∙ ap (body_of o) both;
-        violation = ap (λ (x : State). x.violation) both ∙ runs_report_exactly device.image o device.case.inputs device.case.writes device.turns shut;
+        sealed = sym (ap (λ (m : Measurements). m.state.stage) all);
+        body =
+            sym (ap (sealed_bodies o) all)
+            ∙ ap (λ (q : Opening). course.shelf.bodies ++ body_of q (state_of (Some (engine.After shown))) ∷ []) (sym opens)
+            ∙ ap (λ (m : Measurements). m.shelved ++ reported shown ∷ []) all;
       }

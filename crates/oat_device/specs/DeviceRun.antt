@@ -1,5 +1,5 @@
 -- The run that a device has made so far, in the words of the measured run (docs/DEFINITIONS.md, "Measured run").
-use Rattle.std.specs.Prelude.{◌≡◌, ℕ, List}
+use Rattle.std.specs.Prelude.{◌≡◌, ℕ, List, [], ◌∷◌, ◌++◌}
 use Rattle.oat_blob.specs.Body.{Body}
 use Rattle.oat_case.specs.declared.case.Case.{Case}
 use Rattle.oat_image.specs.declared.image.Image.{Image}
@@ -7,25 +7,26 @@ use Rattle.oat_map.specs.Rows.{BeginsAt}
 use Rattle.oat_measure.specs.declared.opening.Opening.{Opening}
 use Rattle.oat_measure.specs.Measurement.{sealed}
 use Rattle.oat_measure.specs.Monitored.{Monitored, state_at}
-use Rattle.oat_journal.specs.Measured.{IsSealed, Run, body_of, dev, first_unsound, opening_of, uses_of}
-use Rattle.oat_journal.specs.Uses.{CheckedUse}
+use Rattle.oat_measure.specs.Shelving.{body_of, sealed_bodies}
+use Rattle.oat_journal.specs.Measured.{HasBody, ReportsSoundness, Run, TellsItsWindow, dev, opening_of}
 
--- A device is an image, a case, the address of the SVC that opens its window, and a number of instructions: it has made the measured run of so many of them, or of all where that ended.
+-- A device is an image, a case, the address of the SVC that opens its windows, and a number of instructions: it has made the measured run of so many of them, or of all where that ended.
 pub record DeviceRun : Type 0 where
   pub image : Image
   pub case : Case
   pub begin_at : ℕ
   pub turns : ℕ
 
--- what its window is opened for
+-- what its windows are opened for
 abbrev pub window_opening : DeviceRun → Opening
 window_opening device = opening_of device.image device.case.session device.begin_at
 
 abbrev pub run_so_far : DeviceRun → Run
 run_so_far device = dev device.image (window_opening device) device.case.inputs device.case.writes device.turns
 
-abbrev pub uses_so_far : DeviceRun → List CheckedUse
-uses_so_far device = uses_of device.image (window_opening device) (run_so_far device)
+-- the bodies of the windows that are sealed so far
+abbrev pub bodies_so_far : DeviceRun → List Body
+bodies_so_far device = sealed_bodies (window_opening device) (run_so_far device).measurements
 
 -- It stands at the start of the run of a case on an image.
 pub record IsAtStart (device : DeviceRun) (given : Image) (asked : Case) : Type 0 where
@@ -38,11 +39,19 @@ pub record IsAtStart (device : DeviceRun) (given : Image) (asked : Case) : Type 
 abbrev pub reported : Monitored → Body
 reported shown = body_of shown.opening (state_at sealed shown)
 
--- The run has sealed its window, and that sealed state gives the run's body, with the violation of the first checked use that wasn't sound.
+-- the run has sealed the session's last window
+abbrev pub IsSealed : DeviceRun → Type 0
+IsSealed device = (run_so_far device).measurements.state.stage ≡ sealed
+
+-- It has sealed the last window, and that sealed state gives the last of its bodies.
 pub record ReportsItsBody (device : DeviceRun) (shown : Monitored) : Type 0 where
-  pub sealed : IsSealed (run_so_far device)
-  pub body : reported shown ≡ body_of (window_opening device) (run_so_far device).state
-  pub violation : shown.violation ≡ first_unsound (uses_so_far device)
+  pub sealed : IsSealed device
+  pub body : bodies_so_far device ≡ (run_so_far device).measurements.shelved ++ reported shown ∷ []
+
+-- Each body tells its window, whose checked uses were all sound exactly where it has no violation.
+pub record BodiesAreTrue (device : DeviceRun) : Type 0 where
+  pub tells : (s : ℕ) (body : Body) → HasBody (window_opening device) (run_so_far device) s body → TellsItsWindow device.image (window_opening device) (run_so_far device) s body
+  pub sound : (s : ℕ) (body : Body) → HasBody (window_opening device) (run_so_far device) s body → ReportsSoundness device.image (window_opening device) (run_so_far device) s body
 
 -- It has made the whole run of a case on an image.
 pub record HasRun (device : DeviceRun) (given : Image) (asked : Case) : Type 0 where

@@ -1,4 +1,5 @@
 pub mod DeviceRun
+pub mod Telling
 pub mod Standing
 pub mod Records
 pub mod Bare

@@ -1,42 +1,34 @@
 -- The measured run for which a device stands while it makes it, instruction by instruction (docs/DEFINITIONS.md, "Measured run").
-use Rattle.std.specs.Prelude.{◌≡◌, ◌+◌, ◌-◌, ◌*◌, ◌≤◌, ◌⊎◌, ℕ, List, Option, Some, None, IsSome, vec_len, vec_capacity}
+use Rattle.std.specs.Prelude.{◌≡◌, ◌+◌, ◌-◌, ◌*◌, ◌≤◌, ◌<◌, ◌^◌, ◌⊎◌, ℕ, List, Option, Some, None, IsSome, length, vec_len, vec_capacity}
 use Rattle.std.specs.List.{AllByRecursion}
 use Rattle.std.specs.Option.{option_map}
-use Rattle.sha2.specs.Sha256.{sha256}
 use Rattle.oat_a64.specs.declared.inst.Inst.TheVariants.{Svc}
 use Rattle.oat_a64.specs.Step.{instruction_at, next_pc}
-use Rattle.oat_blob.specs.Body.{Body}
 use Rattle.oat_case.specs.declared.case.Case.{Case}
-use Rattle.oat_case.specs.declared.case.Session.{Session}
 use Rattle.oat_case.specs.Limits.{IsInLimits, RisesFrom}
 use Rattle.oat_image.specs.declared.image.Image.{Image}
-use Rattle.oat_image.specs.Grammar.{image_text}
 use Rattle.oat_measure.specs.declared.engine.Engine.{Engine}
 use Rattle.oat_measure.specs.declared.opening.Opening.{Opening}
-use Rattle.oat_measure.specs.Measurement.{State, booted, sealed}
-use Rattle.oat_measure.specs.Monitored.{Monitored, state_at}
+use Rattle.oat_measure.specs.Measurement.{State, booted}
 use Rattle.oat_measure.specs.Transitions.{engine_shown, engine_state}
-use Rattle.oat_journal.specs.declared.end.DeviceEnd.{DeviceEnd}
-use Rattle.oat_journal.specs.declared.end.DeviceEnd.TheVariants.{OutOfSteps}
-use Rattle.oat_shape.specs.Shape.{IsShaped}
-use Rattle.oat_map.specs.Rows.{BeginsAt}
 use Rattle.oat_device.specs.declared.course.Course.{Course}
 use Rattle.oat_device.specs.Bare.{DoesFrom, running_of}
+use Rattle.oat_device.specs.Telling.{unnumbered, windows_due}
 use Rattle.oat_journal.specs.Measured.{dev, opening_of}
 use Rattle.oat_journal.specs.Progress.{Progress, progress_of_run}
 
 -- ---- what a device's values stand for
 
 abbrev pub state_of : Option Engine → State
-state_of None = booted (λ _. None)
+state_of None = booted None (λ _. None)
 state_of (Some engine) = engine_state engine
 
 abbrev pub progress_of : Course → Progress
-progress_of device = record { running = running_of device.bare; state = state_of device.engine }
+progress_of device = record { running = running_of device.bare; measurements = record { shelved = device.shelf.bodies; state = state_of device.engine } }
 
--- what the device's window is opened for
+-- what the device's windows are opened for
 abbrev pub engine_opening : Option Engine → Option Opening
-engine_opening engine = option_map (λ held. (engine_shown held).opening) engine
+engine_opening engine = option_map (λ held. unnumbered (engine_shown held).opening) engine
 
 -- ---- room for what is still to come
 
@@ -53,10 +45,39 @@ abbrev pub spare_targets : Option Engine → ℕ
 spare_targets None = 0
 spare_targets (Some engine) = (engine_shown engine).spare_targets
 
+-- the room that each window starts with
+abbrev pub window_room : Option Engine → ℕ
+window_room None = 0
+window_room (Some engine) = (engine_shown engine).room
+
+abbrev pub bits_held : Option Engine → ℕ
+bits_held engine = length (state_of engine).bits
+
+abbrev pub targets_held : Option Engine → ℕ
+targets_held engine = length (state_of engine).targets
+
+abbrev pub windows_to_come : Option Engine → ℕ
+windows_to_come None = 0
+windows_to_come (Some engine) = windows_due (engine_shown engine).opening
+
 -- no monitor call of this number directly follows another
 abbrev pub IsSpaced : List ℕ → ℕ → Type 0
 IsSpaced code number =
     (pc : ℕ) → instruction_at code pc ≡ Some (Svc number) → instruction_at code (next_pc pc) ≡ Some (Svc number) → ⊥
+
+-- The shelf has room for what the present window holds, and for the bodies of the windows to come. Of bodies there are few.
+pub record HasShelfRoom (device : Course) : Type 0 where
+  pub bits : bits_held device.engine ≤ device.shelf.spare_bits
+  pub targets : targets_held device.engine ≤ device.shelf.spare_targets
+  pub bodies : windows_to_come device.engine ≤ device.shelf.spare_bodies
+  pub few : length device.shelf.bodies + windows_to_come device.engine + 1 < 2 ^ 32
+
+-- the room that is left on the shelf once the present window lies there
+abbrev pub shelf_bits : Course → ℕ
+shelf_bits device = device.shelf.spare_bits - bits_held device.engine
+
+abbrev pub shelf_targets : Course → ℕ
+shelf_targets device = device.shelf.spare_targets - targets_held device.engine
 
 -- what each device keeps: the writes that are left can be made, and all that is left of the run has room
 pub record IsReady (device : Course) : Type 0 where
@@ -69,6 +90,19 @@ pub record IsReady (device : Course) : Type 0 where
   pub outputs : device.steps + vec_len device.bare.outputs ≤ device.bare.made + vec_capacity device.bare.outputs
   pub bits : HasRoom device.bare.code.now 3 (device.steps - device.bare.made) (spare_bits device.engine) device.bare.cpu.pc
   pub targets : HasRoom device.bare.code.now 4 (device.steps - device.bare.made) (spare_targets device.engine) device.bare.cpu.pc
+  pub window : device.steps ≤ 2 * window_room device.engine
+  pub shelf : HasShelfRoom device
+  pub bits_to_shelve : HasRoom device.bare.code.now 3 (device.steps - device.bare.made) (shelf_bits device) device.bare.cpu.pc
+  pub targets_to_shelve : HasRoom device.bare.code.now 4 (device.steps - device.bare.made) (shelf_targets device) device.bare.cpu.pc
+
+-- What a monitor call leaves of the room: what it was, less the records that it took, or all of a window's. Of the shelf's it takes no more.
+pub record LeavesRoom (new_bits new_targets : ℕ) (old new : Course) : Type 0 where
+  pub window : window_room new.engine ≡ window_room old.engine
+  pub bits : (spare_bits old.engine ≤ spare_bits new.engine + new_bits) ⊎ (window_room new.engine ≤ spare_bits new.engine)
+  pub targets : (spare_targets old.engine ≤ spare_targets new.engine + new_targets) ⊎ (window_room new.engine ≤ spare_targets new.engine)
+  pub shelf : HasShelfRoom new
+  pub bits_to_shelve : shelf_bits old ≤ shelf_bits new + new_bits
+  pub targets_to_shelve : shelf_targets old ≤ shelf_targets new + new_targets
 
 -- ---- standing
 
@@ -76,12 +110,12 @@ pub record IsReady (device : Course) : Type 0 where
 abbrev pub turns_of : Course → ℕ
 turns_of device = elim device.bare.end [ None ↦ device.bare.made | Some why ↦ device.steps ]
 
--- The device has made the measured run of so many instructions of this image, with this case's session, inputs and writes, whose window opens there.
+-- The device has made the measured run of so many instructions of this image, with this case's session, inputs and writes, whose windows open there.
 pub record HasMade (device : Course) (image : Image) (case : Case) (begin_at : ℕ) : Type 0 where
   pub ready : IsReady device
   pub code : device.bare.code.now ≡ image.code
   pub steps : device.steps ≡ case.steps
   pub within : device.bare.made ≤ device.steps
-  pub measures : engine_opening device.engine ≡ Some (opening_of image case.session begin_at)
+  pub measures : engine_opening device.engine ≡ Some (unnumbered (opening_of image case.session begin_at))
   pub run : progress_of device ≡ progress_of_run (dev image (opening_of image case.session begin_at) case.inputs case.writes (turns_of device))
   pub writes : DoesFrom device.bare.made device.bare.writes.now case.writes

@@ -2,19 +2,20 @@
 ghost use Rattle.std.specs.Prelude.{◌≡◌, ◌<◌, ◌≤◌, ◌+◌, IsSome, None, Some};
 ghost use Rattle.oat_cpu.specs.Processor.{regs_of};
 ghost use Rattle.oat_measure.specs.declared.opening.Opening.{Opening as OpeningGiven};
-ghost use Rattle.oat_measure.specs.Measurement.{measured};
+ghost use Rattle.oat_measure.specs.Shelving.{measured_on};
 ghost use Rattle.oat_device.specs.Bare.{DoesFrom};
 ghost use Rattle.oat_device.specs.Records.{bits_taken, targets_taken};
-ghost use Rattle.oat_device.specs.Standing.{IsReady, engine_opening, progress_of, spare_bits, spare_targets, state_of};
+ghost use Rattle.oat_device.specs.Standing.{HasShelfRoom, IsReady, LeavesRoom, engine_opening, progress_of, shelf_bits, shelf_targets, spare_bits, spare_targets};
+ghost use Rattle.oat_device.specs.Telling.{unnumbered};
 ghost use Rattle.oat_journal.specs.Progress.{with_measurement, call_told, measured_turn};
 
 use crate::bare::BareRun;
 use crate::call::call_numbered;
-use crate::monitor::told;
+use crate::monitor::{settled, told};
 use oat_a64::Event;
 use oat_cpu::Cpu;
 use oat_journal::DeviceEnd;
-use oat_measure::{Engine, MonitorCall};
+use oat_measure::{Engine, MonitorCall, Shelf};
 
 #[derive(Drop)]
 pub struct Course<'a> {
@@ -23,6 +24,8 @@ pub struct Course<'a> {
     pub steps: u64,
     /// None only while the monitor takes a call.
     pub engine: Option<Engine>,
+    /// The windows before the engine's.
+    pub shelf: Shelf,
 }
 
 fn call_told(event: Event, found: &Cpu) -> Option<MonitorCall>
@@ -35,23 +38,27 @@ fn call_told(event: Event, found: &Cpu) -> Option<MonitorCall>
 }
 
 impl<'a> Course<'a> {
-    // The monitor takes a call.
+    // The monitor takes a call, and a sealed window goes to the shelf where a further one is due.
     fn tell(&mut self, call: MonitorCall)
         requires engine { IsSome self.old.engine }
         requires bits { bits_taken call ≤ spare_bits self.old.engine }
         requires targets { targets_taken call ≤ spare_targets self.old.engine }
-        ensures after { (o : OpeningGiven) → engine_opening self.old.engine ≡ Some o → progress_of self.new ≡ with_measurement (progress_of self.old) (measured o (state_of self.old.engine) (Some call)) }
+        requires shelf { HasShelfRoom self.old }
+        requires bits_to_shelve { bits_taken call ≤ shelf_bits self.old }
+        requires targets_to_shelve { targets_taken call ≤ shelf_targets self.old }
+        ensures after { (o : OpeningGiven) → engine_opening self.old.engine ≡ Some (unnumbered o) → progress_of self.new ≡ with_measurement (progress_of self.old) (measured_on o (progress_of self.old).measurements (Some call)) }
         ensures opening { engine_opening self.new.engine ≡ engine_opening self.old.engine }
-        ensures bits { spare_bits self.old.engine ≤ spare_bits self.new.engine + bits_taken call }
-        ensures targets { spare_targets self.old.engine ≤ spare_targets self.new.engine + targets_taken call }
+        ensures room { LeavesRoom (bits_taken call) (targets_taken call) self.old self.new }
         ensures steps { self.new.steps ≡ self.old.steps }
         ensures bare { self.new.bare ≡ record self.old.bare { end = self.new.bare.end } }
     {
         let (engine, stop) = told(self.engine.take().unwrap(), call);
-        self.engine = Some(engine);
         if let Some(kind) = stop {
+            self.engine = Some(engine);
             self.bare.end = Some(DeviceEnd::Stopped(kind));
+            return;
         }
+        self.engine = Some(settled(engine, &mut self.shelf));
     }
 
     /// Makes the writes that are due, the next instruction, and the measurement of its monitor call.
@@ -59,7 +66,7 @@ impl<'a> Course<'a> {
         requires going { self.old.bare.end ≡ None }
         requires left { self.old.bare.made < self.old.steps }
         requires ready { IsReady self.old }
-        ensures after { (o : OpeningGiven) → engine_opening self.old.engine ≡ Some o → progress_of self.new ≡ measured_turn self.old.bare.code.now self.old.bare.writes.now o (progress_of self.old) }
+        ensures after { (o : OpeningGiven) → engine_opening self.old.engine ≡ Some (unnumbered o) → progress_of self.new ≡ measured_turn self.old.bare.code.now self.old.bare.writes.now o (progress_of self.old) }
         ensures opening { engine_opening self.new.engine ≡ engine_opening self.old.engine }
         ensures steps { self.new.steps ≡ self.old.steps }
         ensures code { self.new.bare.code.now ≡ self.old.bare.code.now }

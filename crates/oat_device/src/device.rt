@@ -1,19 +1,22 @@
-ghost use Rattle.std.specs.Prelude.{◌≡◌, IfOk, MatchOption, Some};
+ghost use Rattle.std.specs.Prelude.{◌≡◌, ◌<◌, length, slice_get, IfOk, MatchOption, Some};
+ghost use Rattle.oat_blob.specs.Body.{Body};
+ghost use Rattle.oat_blob.specs.Layout.{IsBlobOf};
 ghost use Rattle.oat_case.specs.Limits.{IsWellFormedCase};
 ghost use Rattle.oat_measure.specs.declared.engine.Engine.TheVariants as EngineState;
 ghost use Rattle.oat_measure.specs.Measurement.{sealed};
 ghost use Rattle.oat_map.specs.Rows.{IsOperation};
-ghost use Rattle.oat_journal.specs.Measured.{IsSealed, ReportsSoundness, end_of, first_unsound};
-ghost use Rattle.oat_device.specs.DeviceRun.{IsAtStart, ReportsItsBody, run_so_far, uses_so_far, window_opening};
+ghost use Rattle.oat_journal.specs.Measured.{end_of};
+ghost use Rattle.oat_device.specs.DeviceRun.{BodiesAreTrue, IsAtStart, IsSealed, ReportsItsBody, bodies_so_far, run_so_far};
 ghost use Rattle.oat_device.specs.Standing.{state_of};
 
 use crate::bare::BareRun;
 use crate::course::Course;
 use crate::start::{opening, start_cells, start_memory};
+use oat_blob::encode;
 use oat_case::Case;
 use oat_cpu::Cpu;
 use oat_journal::DeviceEnd;
-use oat_measure::{Engine, Sealed, Unmeasured};
+use oat_measure::{Engine, Sealed, Shelf, Unmeasured};
 use oat_shape::Shaped;
 use std::alloc::{AllocError, Global};
 use std::marker::Model;
@@ -53,7 +56,8 @@ impl<'a> Model for Device<'a> {
 }
 
 impl<'a> Device<'a> {
-    /// Takes all memory of the run: its outputs could be one for each step, its branch bits and its indirect targets one for each second step.
+    /// Takes all memory of the run: its outputs could be one for each step, its branch bits and its indirect targets one for each second step,
+    /// in one window or on the shelf.
     pub fn boot(alloc: Global, shaped: &'a Shaped, case: &'a Case) -> Result<Device<'a>, AllocError>
         requires well_formed { IsWellFormedCase case.now }
         requires operation { IsOperation shaped.now.map case.now.session.op }
@@ -65,6 +69,7 @@ impl<'a> Device<'a> {
         let room = (case.steps as usize).div_ceil(2);
         let opening = opening(shaped, &case.session);
         let engine = Unmeasured::boot(alloc, opening, cells.as_slice(), room)?;
+        let shelf = Shelf::with_room(alloc, opening.calls as usize, room)?;
         let bare = BareRun {
             code: image.code.as_slice(),
             cpu: Cpu::start(),
@@ -79,6 +84,7 @@ impl<'a> Device<'a> {
             bare,
             steps: case.steps,
             engine: Some(Engine::Before(engine)),
+            shelf,
         };
         Ok(Device {
             shaped,
@@ -92,8 +98,7 @@ impl<'a> Device<'a> {
     pub fn run(&mut self) -> DeviceEnd
         ensures whole { self.new ≡ record self.old { turns = self.old.case.steps } }
         ensures ended { result ≡ end_of (run_so_far self.new) }
-        ensures violation { IsSealed (run_so_far self.new) → (run_so_far self.new).state.violation ≡ first_unsound (uses_so_far self.new) }
-        ensures sound { IsSealed (run_so_far self.new) → ReportsSoundness self.new.image (window_opening self.new) (run_so_far self.new) }
+        ensures bodies { BodiesAreTrue self.new }
     {
         for _ in self.course.bare.made..self.course.steps {
             if self.course.bare.end.is_some() {
@@ -111,10 +116,37 @@ impl<'a> Device<'a> {
         self.course.bare.outputs.as_slice()
     }
 
-    /// The measurement of the window; None where it hasn't sealed.
+    /// The measurement of the session's last window; None exactly where that hasn't sealed.
     pub fn sealed(&self) -> Option<&Sealed>
-        ensures { MatchOption result (IsSealed (run_so_far self.now) → ⊥) (λ shown. ReportsItsBody self.now shown.now) }
+        ensures { MatchOption result (IsSealed self.now → ⊥) (λ shown. ReportsItsBody self.now shown.now) }
     {
         sealed_in(&self.course.engine)
+    }
+
+    /// How many windows have sealed.
+    pub fn bodies(&self) -> u32
+        ensures { result ≡ length (bodies_so_far self.now) }
+    {
+        let shelved = self.course.shelf.len() as u32;
+        match self.sealed() {
+            Some(_) => shelved + 1,
+            None => shelved,
+        }
+    }
+
+    /// The blob of a window's body under the case's key.
+    pub fn blob(&self, alloc: Global, serial: u32) -> Result<Vec<u8>, AllocError>
+        requires within { serial < length (bodies_so_far self.now) }
+        ensures { IfOk result (λ bytes. (body : Body) → slice_get (bodies_so_far self.now) serial ≡ Some body → IsBlobOf body self.now.case.session.key bytes.items) }
+    {
+        let key = self.case.session.key.as_slice();
+        let shelf = &self.course.shelf;
+        let i = serial as usize;
+        if i < shelf.len() {
+            let bits = shelf.bits(i, alloc)?;
+            return encode(alloc, &shelf.head(i), &bits, shelf.targets(i), key);
+        }
+        let sealed = self.sealed().unwrap();
+        encode(alloc, &sealed.head(), sealed.bits(), sealed.targets(), key)
     }
 }

@@ -1,13 +1,17 @@
 //! What a monitor call does to the one engine of a run.
-ghost use Rattle.std.specs.Prelude.{◌≡◌, ◌+◌, ◌≤◌, Some, Ok};
+ghost use Rattle.std.specs.Prelude.{◌≡◌, ◌+◌, ◌≤◌, IfSome, Some, Ok};
 ghost use Rattle.oat_measure.specs.Measurement.{measured, measuring, sealed, unmeasured};
+ghost use Rattle.oat_measure.specs.declared.engine.Engine.TheVariants as EngineOf;
 ghost use Rattle.oat_measure.specs.declared.call.MonitorCall.TheVariants as svc;
 ghost use Rattle.oat_measure.specs.Monitored.{Keeps, state_at};
 ghost use Rattle.oat_measure.specs.Transitions.{engine_shown, engine_state};
 ghost use Rattle.oat_device.specs.Records.{bits_taken, targets_taken};
-ghost use Rattle.oat_journal.specs.Progress.{kept, stop_of};
+ghost use Rattle.oat_device.specs.Telling.{FitsShelf, GoesOn, measurements_of, outcome};
+ghost use Rattle.oat_measure.specs.Shelving.{settled};
 
-use oat_measure::{Begun, Ended, Engine, Measuring, MonitorCall, Sealed, StopKind, Unmeasured};
+use oat_measure::{
+    Begun, Ended, Engine, Measuring, MonitorCall, Sealed, Shelf, StopKind, Unmeasured,
+};
 
 fn told_before(mut before: Unmeasured, call: MonitorCall) -> Engine
     ensures state { measured before.opening (state_at unmeasured before) (Some call) ≡ Ok (engine_state result) }
@@ -28,8 +32,8 @@ fn told_before(mut before: Unmeasured, call: MonitorCall) -> Engine
 
 // An end of another operation than the window's stops the run.
 fn ended(inside: Measuring, op: u64) -> (Engine, Option<StopKind>)
-    ensures state { engine_state result.0 ≡ kept (state_at measuring inside) (measured inside.opening (state_at measuring inside) (Some (svc.End op))) }
-    ensures stop { result.1 ≡ stop_of (measured inside.opening (state_at measuring inside) (Some (svc.End op))) }
+    ensures outcome { outcome result.0 result.1 ≡ measured inside.opening (state_at measuring inside) (Some (svc.End op)) }
+    ensures stopped { IfSome result.1 (λ kind. engine_state result.0 ≡ state_at measuring inside) }
     ensures keeps { Keeps inside (engine_shown result.0) }
 {
     match inside.end(op) {
@@ -41,9 +45,10 @@ fn ended(inside: Measuring, op: u64) -> (Engine, Option<StopKind>)
 fn told_inside(mut inside: Measuring, call: MonitorCall) -> (Engine, Option<StopKind>)
     requires bits { bits_taken call ≤ inside.spare_bits }
     requires targets { targets_taken call ≤ inside.spare_targets }
-    ensures state { engine_state result.0 ≡ kept (state_at measuring inside) (measured inside.opening (state_at measuring inside) (Some call)) }
-    ensures stop { result.1 ≡ stop_of (measured inside.opening (state_at measuring inside) (Some call)) }
+    ensures outcome { outcome result.0 result.1 ≡ measured inside.opening (state_at measuring inside) (Some call) }
+    ensures stopped { IfSome result.1 (λ kind. engine_state result.0 ≡ state_at measuring inside) }
     ensures opening { (engine_shown result.0).opening ≡ inside.opening }
+    ensures room { (engine_shown result.0).room ≡ inside.room }
     ensures bits { inside.spare_bits ≤ (engine_shown result.0).spare_bits + bits_taken call }
     ensures targets { inside.spare_targets ≤ (engine_shown result.0).spare_targets + targets_taken call }
 {
@@ -73,9 +78,10 @@ fn told_after(mut after: Sealed, call: MonitorCall) -> Engine
 pub fn told(engine: Engine, call: MonitorCall) -> (Engine, Option<StopKind>)
     requires bits { bits_taken call ≤ (engine_shown engine).spare_bits }
     requires targets { targets_taken call ≤ (engine_shown engine).spare_targets }
-    ensures state { engine_state result.0 ≡ kept (engine_state engine) (measured (engine_shown engine).opening (engine_state engine) (Some call)) }
-    ensures stop { result.1 ≡ stop_of (measured (engine_shown engine).opening (engine_state engine) (Some call)) }
+    ensures outcome { outcome result.0 result.1 ≡ measured (engine_shown engine).opening (engine_state engine) (Some call) }
+    ensures stopped { IfSome result.1 (λ kind. engine_state result.0 ≡ engine_state engine) }
     ensures opening { (engine_shown result.0).opening ≡ (engine_shown engine).opening }
+    ensures room { (engine_shown result.0).room ≡ (engine_shown engine).room }
     ensures bits { (engine_shown engine).spare_bits ≤ (engine_shown result.0).spare_bits + bits_taken call }
     ensures targets { (engine_shown engine).spare_targets ≤ (engine_shown result.0).spare_targets + targets_taken call }
 {
@@ -83,5 +89,29 @@ pub fn told(engine: Engine, call: MonitorCall) -> (Engine, Option<StopKind>)
         Engine::Before(before) => (told_before(before, call), None),
         Engine::Inside(inside) => told_inside(inside, call),
         Engine::After(after) => (told_after(after, call), None),
+    }
+}
+
+fn shelved_where_due(sealed: Sealed, shelf: &mut Shelf) -> Engine
+    requires fits { FitsShelf (EngineOf.After sealed) shelf.old }
+    ensures measurements { measurements_of result shelf.new ≡ settled sealed.opening (measurements_of (EngineOf.After sealed) shelf.old) }
+    ensures goes_on { GoesOn (EngineOf.After sealed) result shelf.old shelf.new }
+{
+    if sealed.is_due() {
+        Engine::Before(sealed.next(shelf))
+    } else {
+        Engine::After(sealed)
+    }
+}
+
+/// The engine behind a call that doesn't stop the run: a sealed window goes to the shelf where a further one is due.
+pub fn settled(engine: Engine, shelf: &mut Shelf) -> Engine
+    requires fits { FitsShelf engine shelf.old }
+    ensures measurements { measurements_of result shelf.new ≡ settled (engine_shown engine).opening (measurements_of engine shelf.old) }
+    ensures goes_on { GoesOn engine result shelf.old shelf.new }
+{
+    match engine {
+        Engine::After(sealed) => shelved_where_due(sealed, shelf),
+        other => other,
     }
 }

@@ -41,7 +41,7 @@ pub fn start_cells(alloc: Global, image: &Image, memory: &Memory) -> Result<Vec<
     Ok(cells)
 }
 
-/// What the window of a session's operation is opened for.
+/// What the first window of a session is opened for.
 pub fn opening(shaped: &Shaped, session: &Session) -> Opening
     requires { IsOperation shaped.now.map session.now.op }
     ensures begins { BeginsAt shaped.now.map session.now.op result.begin_at }
@@ -52,5 +52,7 @@ pub fn opening(shaped: &Shaped, session: &Session) -> Opening
         op: session.op,
         digest: shaped.digest(),
         begin_at: shaped.begin_at(session.op).unwrap(),
+        serial: session.calls.map(|_| 0),
+        calls: session.calls.unwrap_or(1),
     }
 }

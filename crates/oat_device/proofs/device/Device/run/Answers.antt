@@ -4,7 +4,7 @@ use Rattle.std.proofs.lemmas.Bool.{false≢true}
 use Rattle.oat_case.specs.declared.case.Case.{Case}
 use Rattle.oat_journal.specs.Measured.{dev, opening_of}
 use Rattle.oat_journal.specs.Progress.{Progress}
-use Rattle.oat_journal.proofs.RunLaws.{no_violation_means_sound, runs_report_exactly}
+use Rattle.oat_journal.proofs.RunLaws.{bodies_tell_windows, no_violation_means_sound}
 use Rattle.oat_device.specs.DeviceRun.{DeviceRun, run_so_far}
 use Rattle.oat_device.specs.Standing.{turns_of}
 use Rattle.oat_device.proofs.Runs.{Turned, all-made, end-is, is-none, made-next}
@@ -66,12 +66,10 @@ returns-clause-ended c =
     ∙ end-is at.course.bare.end (dev at.shaped.now (opening_of at.shaped.now at.case.now.session at.begin_at) at.case.now.inputs at.case.now.writes (turns_of at.course))
     (ap (λ (p : Progress). p.running.end) c.loop.invariant.0.standing.run)
 
-pub returns-clause-violation : goal.returns-clause-violation
-returns-clause-violation c =
+pub returns-clause-bodies : goal.returns-clause-bodies
+returns-clause-bodies c =
     let at = c.loop.self-inside in
-    λ is. runs_report_exactly at.shaped.now (opening_of at.shaped.now at.case.now.session at.begin_at) at.case.now.inputs at.case.now.writes (turns_of at.course) is
-
-pub returns-clause-sound : goal.returns-clause-sound
-returns-clause-sound c =
-    let at = c.loop.self-inside in
-    λ is. no_violation_means_sound at.shaped.now (opening_of at.shaped.now at.case.now.session at.begin_at) at.case.now.inputs at.case.now.writes (turns_of at.course) is
+    let o = opening_of at.shaped.now at.case.now.session at.begin_at in record {
+      tells = λ s body has. bodies_tell_windows at.shaped.now o at.case.now.inputs at.case.now.writes (turns_of at.course) s body has;
+      sound = λ s body has. no_violation_means_sound at.shaped.now o at.case.now.inputs at.case.now.writes (turns_of at.course) s body has;
+    }
