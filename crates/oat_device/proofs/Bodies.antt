@@ -1,5 +1,5 @@
 -- The bodies that a device gives: those on its shelf, and that of the last window where it has sealed.
-use Rattle.std.proofs.Common.{◌≡◌, ◌+◌, ◌-◌, ◌≤◌, ◌<◌, ◌^◌, ℕ, zero, suc, List, [], ◌∷◌, ◌++◌, length, length-append, Option, Some, None, refl, sym, ap, ◌∙◌, arith, inl, inr}
+use Rattle.std.proofs.Common.{◌≡◌, ◌+◌, ◌≤◌, ◌<◌, ◌^◌, ℕ, zero, suc, List, [], ◌∷◌, ◌++◌, length, length-append, Option, Some, None, refl, sym, ap, ◌∙◌, arith}
 use Rattle.std.specs.Prelude.{IfSome, IsSome, IsTrue, MatchOption, nat_le, slice_get}
 use Rattle.std.specs.Option.{unwrap_or}
 use Rattle.std.proofs.lemmas.Bool.{and_parts, leb-true}
@@ -56,9 +56,9 @@ keeps course device s turns =
       shelved = ap (λ (m : Measurements). m.shelved) (measurements-are course device s turns);
       few = omega (arith, few);
       counts = λ n body has.
-      let r = records_are_few device.image (window_opening device) device.case.inputs device.case.writes device.turns n body has in
-      let bits = r.bits in
-      let targets = r.targets in record { bits = omega (arith, bits, made, steps, turns); targets = omega (arith, targets, made, steps, turns) };
+          let r = records_are_few device.image (window_opening device) device.case.inputs device.case.writes device.turns n body has in
+          let bits = r.bits in
+          let targets = r.targets in record { bits = omega (arith, bits, made, steps, turns); targets = omega (arith, targets, made, steps, turns) };
     }
 
 pub on-shelf : (course : Course) (device : DeviceRun) (i : ℕ) → Keeps course device → i < length course.shelf.bodies → slice_get (bodies_so_far device) i ≡ slice_get course.shelf.bodies i

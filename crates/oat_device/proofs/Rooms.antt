@@ -15,7 +15,7 @@ use Rattle.oat_case.specs.Limits.{IsInLimits, RisesFrom}
 use Rattle.oat_measure.specs.declared.engine.Engine.{Engine}
 use Rattle.oat_measure.specs.Monitor.{call_numbered}
 use Rattle.oat_measure.specs.declared.call.MonitorCall.{MonitorCall}
-use Rattle.oat_journal.specs.Run.{Running, found, makes, told, called, with_input, turn}
+use Rattle.oat_journal.specs.Run.{Running, found, told, with_input, turn}
 use Rattle.oat_device.specs.Records.{bits_taken, targets_taken}
 use Rattle.oat_device.specs.declared.bare.BareRun.{BareRun}
 use Rattle.oat_device.specs.declared.course.Course.{Course}

@@ -1,17 +1,13 @@
 -- In an image with the shape no branch bit directly follows another, nor an indirect target another: each has its transfer behind it.
-use Rattle.std.proofs.Common.{◌≡◌, ℕ, zero, suc, ◌+◌, ◌-◌, ◌*◌, ◌/◌, ◌%◌, ◌^◌, ◌<◌, ◌≤◌, ◌⊎◌, ◌&&◌, eqb, leb, List, length, Option, Some, None, refl, sym, ap, subst, ◌∙◌, inl, inr, arith, mod-eq_of_lt}
-use Rattle.std.specs.Prelude.{IsTrue, Contains}
-use Rattle.std.specs.List.{slice_get}
-use Rattle.std.specs.Option.{option_and_then}
-use Rattle.std.proofs.lemmas.Bool.{cases_lt, cases_Bool, leb-true, eqb-true, and_parts}
-use Rattle.std.proofs.lemmas.Option.{slice_get_within}
+use Rattle.std.proofs.Common.{◌≡◌, ℕ, suc, ◌+◌, ◌*◌, ◌%◌, ◌^◌, ◌<◌, ◌≤◌, ◌⊎◌, ◌&&◌, leb, List, Some, refl, sym, ap, ◌∙◌, inl, inr, arith, mod-eq_of_lt}
+use Rattle.std.specs.Prelude.{IsTrue}
+use Rattle.std.proofs.lemmas.Bool.{cases_lt}
 use Rattle.oat_a64.specs.declared.inst.Inst.{Inst}
 use Rattle.oat_a64.specs.declared.inst.Inst.TheVariants.{Svc}
-use Rattle.oat_a64.specs.Fetch.{inst_of}
-use Rattle.oat_a64.specs.Step.{code_base, word_at, instruction_at, next_pc}
+use Rattle.oat_a64.specs.Step.{instruction_at, next_pc}
 use Rattle.oat_map.specs.declared.row.Row.{Row}
 use Rattle.oat_map.specs.declared.row.Row.TheVariants.{Jump, Branch, Call, ICall, Ret, Begin, End, UseCell, DefCell, Check}
-use Rattle.oat_map.specs.Rows.{address_of, word_count}
+use Rattle.oat_map.specs.Rows.{address_of}
 use Rattle.oat_image.specs.declared.image.Image.{Image}
 use Rattle.oat_image.specs.Grammar.{IsWellFormedImage}
 use Rattle.oat_shape.specs.Groups.{Stands, IsGroup}

@@ -1,15 +1,13 @@
 -- The words of data memory, and those of the cells, at the start of a run.
-use Rattle.std.proofs.Common.{◌≡◌, ℕ, ◌+◌, ◌*◌, ◌<◌, ◌≤◌, Bool, true, List, map, length, get_or, take, drop, Option, Some, None, refl, sym, ap, subst, ◌∙◌, arith, ◌%◌}
-use Rattle.std.specs.Prelude.{IsTrue, IsSome, SomeIff}
+use Rattle.std.proofs.Common.{◌≡◌, ℕ, ◌+◌, ◌≤◌, true, List, map, Option, Some, None, refl, sym, ap, ◌∙◌, arith, ◌%◌}
+use Rattle.std.specs.Prelude.{IsSome, SomeIff}
 use Rattle.std.specs.List.{slice_get, fold}
 use Rattle.std.specs.Option.{option_map}
 use Rattle.std.proofs.Math.Path.{fun_ext}
 use Rattle.std.proofs.lemmas.Bool.{eq-eqb, le-leb, and_from, or_left}
-use Rattle.std.proofs.lemmas.List.{at_drop_more, map_more, take_all}
 use Rattle.std.proofs.lemmas.Option.{slice_get-map}
 use Rattle.oat_mem.specs.DataMemory.{can_access, fits, word_in, with_word, global_base, global_size, global_address}
 use Rattle.oat_image.specs.declared.image.InitWord.{InitWord}
-use Rattle.oat_journal.specs.Run.{start_memory}
 
 -- ---- data memory
 

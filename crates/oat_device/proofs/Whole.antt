@@ -1,5 +1,5 @@
 -- The whole run of a case.
-use Rattle.std.proofs.Common.{◌≡◌, ℕ, sym, ap, subst, ◌∙◌}
+use Rattle.std.proofs.Common.{sym, ap, subst, ◌∙◌}
 use Rattle.oat_case.specs.declared.case.Case.{Case}
 use Rattle.oat_map.specs.Rows.{BeginsAt}
 use Rattle.oat_journal.specs.Measured.{dev, opening_of}

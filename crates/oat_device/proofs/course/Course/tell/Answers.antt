@@ -1,16 +1,12 @@
-use Rattle.std.proofs.Common.{◌≡◌, Option, Some, None, Ok, sym, ap, subst, ◌∙◌}
-use Rattle.oat_measure.specs.declared.call.MonitorCall.{MonitorCall}
+use Rattle.std.proofs.Common.{◌≡◌, Option, Some, sym, ap, subst, ◌∙◌}
 use Rattle.oat_measure.specs.declared.engine.Engine.{Engine}
-use Rattle.oat_measure.specs.declared.opening.Opening.{Opening}
-use Rattle.oat_measure.specs.declared.stop.StopKind.{StopKind}
-use Rattle.oat_measure.specs.Measurement.{measured}
 use Rattle.oat_measure.specs.Shelving.{measured_on}
-use Rattle.oat_measure.specs.Transitions.{engine_shown, engine_state}
+use Rattle.oat_measure.specs.Transitions.{engine_shown}
 use Rattle.oat_device.specs.declared.course.Course.{Course}
 use Rattle.oat_device.specs.Bare.{running_of}
 use Rattle.oat_device.specs.Records.{bits_taken, targets_taken}
 use Rattle.oat_device.specs.Standing.{LeavesRoom, engine_opening, progress_of}
-use Rattle.oat_device.specs.Telling.{outcome, unnumbered}
+use Rattle.oat_device.specs.Telling.{unnumbered}
 use Rattle.oat_journal.specs.Progress.{Progress, with_measurement}
 use Rattle.oat_device.proofs.Telling.{told-fits, told-known, told-leaves, told-on}
 use Rattle.oat_device.proofs.course.Course.tell.Goals as goal

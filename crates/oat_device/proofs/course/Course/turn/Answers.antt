@@ -1,9 +1,8 @@
-use Rattle.std.proofs.Common.{rules, ◌≡◌, ◌≤◌, ◌<◌, ◌+◌, ◌-◌, ℕ, Option, Some, None, refl, sym, ap, ◌∙◌, inl, arith}
-use Rattle.oat_cpu.specs.Processor.{regs_of}
+use Rattle.std.proofs.Common.{◌-◌, refl, inl, arith}
 use Rattle.oat_device.specs.Bare.{running_of}
 use Rattle.oat_device.specs.Records.{bits_taken, targets_taken}
 use Rattle.oat_device.specs.Standing.{shelf_bits, shelf_targets, spare_bits, spare_targets}
-use Rattle.oat_device.proofs.Rooms.{Takes, Kept, room-for, turn-takes, ready-next}
+use Rattle.oat_device.proofs.Rooms.{Takes, room-for, turn-takes, ready-next}
 use Rattle.oat_device.proofs.course.Course.turn.Goals as goal
 
 takes : (c : goal.After-tell-arg-1) → Takes c.args.self.now.bare.code.now 3 c.args.self.now.bare.cpu.pc c.turn-event.new.self.cpu.pc (bits_taken c.in-Some.call)

@@ -1,4 +1,4 @@
-use Rattle.std.proofs.Common.{◌≡◌, ◌≤◌, ◌<◌, ℕ, List, Option, Some, length, refl, sym, ap, subst, ◌∙◌, arith}
+use Rattle.std.proofs.Common.{◌≡◌, ◌<◌, ℕ, List, Option, Some, length, refl, sym, ap, subst, ◌∙◌, arith}
 use Rattle.std.specs.Prelude.{MatchOption, slice_get}
 use Rattle.std.proofs.lemmas.Result.{IfOk-weaker}
 use Rattle.oat_blob.specs.Body.{Body}
@@ -44,11 +44,11 @@ returns-then-i-len c =
     let key = c.as_slice-key.ensures ∙ ap (λ (device : DeviceRun). device.case.session.key) c.self.view_is in
     IfOk-weaker c.encode.result _ _
     (λ bytes blob body is.
-      let here : slice_get course.shelf.bodies c.args.serial ≡ Some body = sym (on-shelf course c.args.self.now c.args.serial k within) ∙ is in
-      let head = c.head.ensures body here in
-      let bits = c.in_ok-bits.ensures body here in
-      let targets = c.targets.ensures body here in
-      same-blob _ body _ c.args.self.now.case.session.key bytes.items (λ i. record { head = head i; bits = bits i; targets = targets i }) key blob)
+    let here : slice_get course.shelf.bodies c.args.serial ≡ Some body = sym (on-shelf course c.args.self.now c.args.serial k within) ∙ is in
+    let head = c.head.ensures body here in
+    let bits = c.in_ok-bits.ensures body here in
+    let targets = c.targets.ensures body here in
+    same-blob _ body _ c.args.self.now.case.session.key bytes.items (λ i. record { head = head i; bits = bits i; targets = targets i }) key blob)
     c.encode.ensures
 
 abbrev Last : (device : DeviceRun) (B : Type 0) → (B → Monitored) → Option B → Type 0
@@ -100,11 +100,11 @@ returns c =
     let key = c.as_slice-key.ensures ∙ ap (λ (device : DeviceRun). device.case.session.key) c.self.view_is in
     IfOk-weaker c.encode-2.result _ _
     (λ bytes blob body is.
-      let both : Some (reported shown) ≡ Some body = sym here ∙ is in
-      let last : reported shown ≡ body = cc in
-      let head = c.head-2.ensures in
-      let bits = c.bits-2.ensures in
-      let targets = c.targets-2.ensures in
-      let made : _ ≡ reported shown = λ i. record { head = head i; bits = bits i; targets = targets i } in
-      same-blob _ body _ c.args.self.now.case.session.key bytes.items (made ∙ last) key blob)
+    let both : Some (reported shown) ≡ Some body = sym here ∙ is in
+    let last : reported shown ≡ body = cc in
+    let head = c.head-2.ensures in
+    let bits = c.bits-2.ensures in
+    let targets = c.targets-2.ensures in
+    let made : _ ≡ reported shown = λ i. record { head = head i; bits = bits i; targets = targets i } in
+    same-blob _ body _ c.args.self.now.case.session.key bytes.items (made ∙ last) key blob)
     c.encode-2.ensures

@@ -1,5 +1,5 @@
-use Rattle.std.proofs.Common.{rules, ◌≡◌, ◌≤◌, ◌+◌, ◌-◌, ◌*◌, ℕ, ℤ, List, [], Some, None, length, refl, sym, ap, subst, ◌∙◌, inl, arith}
-use Rattle.std.specs.Prelude.{nat_le, vec_len, vec_capacity}
+use Rattle.std.proofs.Common.{◌≡◌, ◌≤◌, ◌*◌, ℕ, List, Some, length, refl, sym, ap, subst, ◌∙◌, inl, arith}
+use Rattle.std.specs.Prelude.{nat_le}
 use Rattle.std.specs.List.{AllByRecursion}
 use Rattle.std.proofs.lemmas.Bool.{and_parts, leb-true}
 use Rattle.oat_case.specs.declared.case.Write.{Write}
@@ -14,7 +14,6 @@ use Rattle.oat_journal.specs.Measured.{opening_of, start_cells}
 use Rattle.oat_device.specs.Standing.{IsSpaced}
 use Rattle.oat_device.specs.Telling.{unnumbered}
 use Rattle.oat_measure.specs.declared.opening.Opening.{Opening}
-use Rattle.oat_journal.specs.Progress.{first_of}
 use Rattle.oat_device.proofs.Bodies.{calls-few}
 use Rattle.oat_device.proofs.Runs.{starts, first-run}
 use Rattle.oat_device.proofs.Telling.{windows-few}
