@@ -12,7 +12,7 @@ use Rattle.oat_lines.specs.Lines.{TextWord, sole, triple}
 use Rattle.oat_lines.specs.Decimal.{numeral_of, capped}
 use Rattle.oat_lines.specs.Reading.{◌>>=◌, guard}
 use Rattle.oat_lines.proofs.Steps.{ok_is, some_is, bind_ok, guarded_ok, or_ok}
-use Rattle.oat_case.specs.Reading.{or_token, numeral_at, integer_or_fault}
+use Rattle.oat_case.specs.Reading.{Gathered, or_token, numeral_at, integer_or_fault, once_line}
 use Rattle.oat_case.specs.declared.fault.CaseFaultKind.{CaseFaultKind}
 use Rattle.oat_case.specs.declared.fault.CaseFaultKind.TheVariants.{Token, Twice, Range}
 
@@ -57,16 +57,7 @@ pub none_of : {X : Type 0} (o : Option X) → is_none o ≡ true → o ≡ None
 none_of None e = refl
 none_of (Some x) e = absurd cc
 
--- a line of one word that may stand once
-abbrev pub one_line : {X G : Type 0} → ℕ → (TextWord → Step X) → Bool → (X → Bool) → (X → G) → List TextWord → Step G
-one_line n parse free fits make words = do
-  word ← ok_or (sole words) (At n Token)
-  x ← parse word
-  once ← guard free (At n Twice)
-  fit ← guard (fits x) (At n Range)
-  Ok (make x)
-
-pub record Takes {X : Type 0} {G : Type 0} (parse : TextWord → Step X) (is_free : Bool) (test : X → Bool) (make : X → G) (line : List TextWord) (h : G) : Type 0 where
+pub record Takes {X : Type 0} (parse : TextWord → Step X) (is_free : Bool) (test : X → Bool) (make : X → Gathered) (line : List TextWord) (h : Gathered) : Type 0 where
   pub word : TextWord
   pub value : X
   pub words : line ≡ word ∷ []
@@ -75,8 +66,8 @@ pub record Takes {X : Type 0} {G : Type 0} (parse : TextWord → Step X) (is_fre
   pub fits : test value ≡ true
   pub made : make value ≡ h
 
-pub one_takes : {X G : Type 0} (n : ℕ) (parse : TextWord → Step X) (free : Bool) (fits : X → Bool) (make : X → G) (words : List TextWord) (h : G)
-    → one_line n parse free fits make words ≡ Ok h → Takes parse free fits make words h
+pub one_takes : {X : Type 0} (n : ℕ) (parse : TextWord → Step X) (free : Bool) (fits : X → Bool) (make : X → Gathered) (words : List TextWord) (h : Gathered)
+    → once_line n parse free fits make words ≡ Ok h → Takes parse free fits make words h
 one_takes n parse free fits make words h e =
     let a = bind_ok (ok_or (sole words) (At n Token)) (λ word. parse word >>= λ x. guard free (At n Twice) >>= λ _. guard (fits x) (At n Range) >>= λ _. Ok (make x)) h e in
     let b = bind_ok (parse a.0) (λ x. guard free (At n Twice) >>= λ _. guard (fits x) (At n Range) >>= λ _. Ok (make x)) h a.2 in
@@ -92,8 +83,8 @@ one_takes n parse free fits make words h e =
       made = ok_is (make b.0) h d.1;
     }
 
-pub one_again : {X G : Type 0} (n : ℕ) (parse : TextWord → Step X) (free : Bool) (fits : X → Bool) (make : X → G) (word : TextWord) (x : X)
-    → parse word ≡ Ok x → free ≡ true → fits x ≡ true → one_line n parse free fits make (word ∷ []) ≡ Ok (make x)
+pub one_again : {X : Type 0} (n : ℕ) (parse : TextWord → Step X) (free : Bool) (fits : X → Bool) (make : X → Gathered) (word : TextWord) (x : X)
+    → parse word ≡ Ok x → free ≡ true → fits x ≡ true → once_line n parse free fits make (word ∷ []) ≡ Ok (make x)
 one_again n parse free fits make word x parses is_free fit = rw (parses, is_free, fit) refl
 
 -- ---- a value that is given at most once, before or by these statements

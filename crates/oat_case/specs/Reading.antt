@@ -59,45 +59,29 @@ integer_at n word = integer_or_fault n (read_as_integer word)
 abbrev pub bytes_at : ℕ → TextWord → Result (List ℕ) (Fault CaseFaultKind)
 bytes_at n word = or_token n (decode_of word)
 
-unfoldable pub key_line : ℕ → Gathered → List TextWord → Result Gathered (Fault CaseFaultKind)
-key_line n g words = do
+-- A line of one word that may be said once: the word, that nothing was said before, and the limits.
+abbrev pub once_line : {X : Type 0} → ℕ → (TextWord → Result X (Fault CaseFaultKind)) → (is_free : Bool) → (fits : X → Bool) → (X → Gathered) → List TextWord → Result Gathered (Fault CaseFaultKind)
+once_line n read is_free fits with words = do
   word ← ok_or (sole words) (At n Token)
-  key ← bytes_at n word
-  once ← guard (is_none g.key) (At n Twice)
-  fits ← guard (key_fits key) (At n Range)
-  Ok (record g { key = Some key })
+  value ← read word
+  once ← guard is_free (At n Twice)
+  limited ← guard (fits value) (At n Range)
+  Ok (with value)
+
+unfoldable pub key_line : ℕ → Gathered → List TextWord → Result Gathered (Fault CaseFaultKind)
+key_line n g = once_line n (bytes_at n) (is_none g.key) key_fits (λ key. record g { key = Some key })
 
 unfoldable pub nonce_line : ℕ → Gathered → List TextWord → Result Gathered (Fault CaseFaultKind)
-nonce_line n g words = do
-  word ← ok_or (sole words) (At n Token)
-  nonce ← bytes_at n word
-  once ← guard (is_none g.nonce) (At n Twice)
-  fits ← guard (length nonce == 16) (At n Range)
-  Ok (record g { nonce = Some nonce })
+nonce_line n g = once_line n (bytes_at n) (is_none g.nonce) (λ nonce. length nonce == 16) (λ nonce. record g { nonce = Some nonce })
 
 unfoldable pub operation_line : ℕ → Gathered → List TextWord → Result Gathered (Fault CaseFaultKind)
-operation_line n g words = do
-  word ← ok_or (sole words) (At n Token)
-  id ← numeral_at n word
-  once ← guard (is_none g.operation) (At n Twice)
-  fits ← guard (operation_fits id) (At n Range)
-  Ok (record g { operation = Some id })
+operation_line n g = once_line n (numeral_at n) (is_none g.operation) operation_fits (λ id. record g { operation = Some id })
 
 unfoldable pub steps_line : ℕ → Gathered → List TextWord → Result Gathered (Fault CaseFaultKind)
-steps_line n g words = do
-  word ← ok_or (sole words) (At n Token)
-  steps ← numeral_at n word
-  once ← guard (is_none g.steps) (At n Twice)
-  fits ← guard (steps_fit steps) (At n Range)
-  Ok (record g { steps = Some steps })
+steps_line n g = once_line n (numeral_at n) (is_none g.steps) steps_fit (λ steps. record g { steps = Some steps })
 
 unfoldable pub calls_line : ℕ → Gathered → List TextWord → Result Gathered (Fault CaseFaultKind)
-calls_line n g words = do
-  word ← ok_or (sole words) (At n Token)
-  calls ← numeral_at n word
-  once ← guard (is_none g.calls) (At n Twice)
-  fits ← guard (calls_fit calls) (At n Range)
-  Ok (record g { calls = Some calls })
+calls_line n g = once_line n (numeral_at n) (is_none g.calls) calls_fit (λ calls. record g { calls = Some calls })
 
 unfoldable pub input_line : ℕ → Gathered → List TextWord → Result Gathered (Fault CaseFaultKind)
 input_line n g words = do
