@@ -1,15 +1,15 @@
 mod Bounds
 mod Cells
-mod Checking
+pub mod Checking
 mod FirstIn
-mod Frames
+pub mod Frames
 mod Keeping
 pub mod Kept
 mod Lines
 mod Locals
-mod Numbers
+pub mod Numbers
 mod Places
 mod Short
-mod Sourcing
+pub mod Sourcing
 mod Turning
 mod Worked

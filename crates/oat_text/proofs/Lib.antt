@@ -1,6 +1,6 @@
 mod Arguments
 mod Passing
-pub mod Programs
+mod Programs
 mod Said
 mod Tables
 mod Testing
@@ -19,5 +19,5 @@ mod Apart
 mod Ahead
 mod Followed
 mod Sized
-pub mod ReadTexts
+mod ReadTexts
 mod Printed

@@ -23,7 +23,7 @@ use Rattle.oat_text.specs.Outline.{nothing, outline_of}
 use Rattle.oat_text.specs.Bodies.{program_of, Bodies, bodies_of, func_from}
 use Rattle.oat_text.proofs.Crossing.{name_of, head_of, with_funcs, in_func, global_crossed, head_crossed, local_crossed}
 use Rattle.oat_text.proofs.Filling.{filled, body_crossed, end_crossed}
-use Rattle.oat_text.proofs.Programs.{printed}
+use Rattle.oat_text.proofs.Programs.{all_take, all_drop, printed}
 use Rattle.oat_text.proofs.Lines.{Numbered, Say, Crosses, here, onward, numbered_words, say_from_zip}
 
 -- ---- globals
@@ -49,10 +49,6 @@ locals_crossed globals done f so_far (l ∷ ls) b apart fits lines more says =
     (λ left said. subst (λ (all : List Local). Crosses (in_func globals done f (so_far ++ l ∷ []) [] Locals) (in_func globals done f all [] Locals) b b left more) (append_assoc so_far (l ∷ []) ls)
     (locals_crossed globals done f (so_far ++ l ∷ []) ls b again fits.1 left more said))
 
-all_first : {X : Type 0} (P : X → Type 0) (xs ys : List X) → AllByRecursion P (xs ++ ys) → AllByRecursion P xs × AllByRecursion P ys
-all_first P [] ys all = (tt, all)
-all_first P (x ∷ xs) ys all = let more = all_first P xs ys all.1 in ((all.0, more.0), more.1)
-
 -- the function that ends next has the next head
 head_next : (done rest : List Func) (f : Func) → slice_get (map head_of (done ++ f ∷ rest)) (length (map (λ (g : Func). g.blocks) done)) ≡ Some (head_of f)
 head_next done rest f =
@@ -77,16 +73,16 @@ module _ (p : Program) (program : IsProgram p) where
       let params = take f.params f.locals in
       let others = drop f.params f.locals in
       let joined : params ++ others ≡ f.locals = take-append-drop f.params f.locals in
-      let locals : AllByRecursion IsLocal params × AllByRecursion IsLocal others = all_first IsLocal params others (rw joined (recursion_from_All IsLocal f.locals fits.locals)) in
+      let locals = recursion_from_All IsLocal f.locals fits.locals in
       let apart : IsDistinct are_one_local (params ++ others) = rw joined fits.local_names in
       let body = flat_map (block_lines p f) f.blocks in
       let b = filled p done [] None [] in
       let ending : List Line = body ++ (Keyword (codes "end") ∷ []) ∷ more in
       let said = subst (λ (all : List Line). Say lines all) (lines_joined _ _ (map local_line others) body more) says in
-      onward (head_crossed p.globals done rest f names locals.0 fits.local_names fits.few_params fits.params_first b f.role refl fits.role operations lines (map local_line others ++ ending) said)
+      onward (head_crossed p.globals done rest f names (all_take IsLocal f.params f.locals locals) fits.local_names fits.few_params fits.params_first b f.role refl fits.role operations lines (map local_line others ++ ending) said)
       (λ after first. onward
       (subst (λ (all : List Local). Crosses (in_func p.globals done f params [] Locals) (in_func p.globals done f all [] Locals) b b after ending) joined
-      (locals_crossed p.globals done f params others b apart locals.1 after ending first))
+      (locals_crossed p.globals done f params others b apart (all_drop IsLocal f.params f.locals locals) after ending first))
       (λ behind second. onward
       (body_crossed p f program fits done at f.blocks fits.begun fits.labels (recursion_from_All (IsBlockIr p f) f.blocks fits.blocks) behind ((Keyword (codes "end") ∷ []) ∷ more) second)
       (λ last third. end_crossed p f program fits done at last more third)))

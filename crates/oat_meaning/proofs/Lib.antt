@@ -1,0 +1,9 @@
+mod Allowed
+mod MainNumber
+mod Making
+mod Passing
+mod Recordings
+mod Returning
+mod Slots
+mod Stepping
+mod Told

@@ -1,0 +1,10 @@
+use Rattle.std.proofs.Common.{◌∙◌}
+use Rattle.oat_ir.specs.declared.source.SourceEdge.TheVariants.{Branch}
+use Rattle.oat_check.specs.Steps.{branches, line_place}
+use Rattle.oat_meaning.specs.Activations.{frame_of}
+use Rattle.oat_meaning.proofs.interpreter.Interpreter.branch.Goals as goal
+
+pub returns : goal.returns
+returns c =
+    c.go_to.ensures (branches (line_place (frame_of c.args.self.now.running)) c.args.bit c.args.to)
+    (λ i. Branch ((c.site.ensures ∙ c.requires.ready.running) i) c.args.bit (c.block_site.ensures i))

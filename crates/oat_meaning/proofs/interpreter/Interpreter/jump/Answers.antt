@@ -1,0 +1,10 @@
+use Rattle.std.proofs.Common.{◌∙◌}
+use Rattle.oat_ir.specs.declared.source.SourceEdge.TheVariants.{Jump}
+use Rattle.oat_check.specs.Steps.{jumps, line_place}
+use Rattle.oat_meaning.specs.Activations.{frame_of}
+use Rattle.oat_meaning.proofs.interpreter.Interpreter.jump.Goals as goal
+
+pub returns : goal.returns
+returns c =
+    c.go_to.ensures (jumps (line_place (frame_of c.args.self.now.running)) c.args.to)
+    (λ i. Jump ((c.site.ensures ∙ c.requires.ready.running) i) (c.block_site.ensures i))

@@ -1,0 +1,101 @@
+-- What is kept of the events of a run: its outputs, and of the calls of one operation the edges and the loads.
+use Rattle.std.specs.Prelude.{◌+◌, ◌-◌, ◌≤◌, ℕ, ℤ, Bool, false, ◌&&◌, ◌||◌, nat_eq, if◌then◌else◌, List, [], ◌∷◌, ◌++◌, length, get_or, Option, Some, None}
+use Rattle.std.specs.List.{fold}
+use Rattle.oat_bits.specs.Words.{signed}
+use Rattle.oat_ir.specs.declared.program.Program.{Program}
+use Rattle.oat_ir.specs.declared.source.CriticalLoad.{CriticalLoad}
+use Rattle.oat_ir.specs.declared.source.SourceEdge.{SourceEdge}
+use Rattle.oat_ir.specs.declared.source.SourceEdge.TheVariants.{End}
+use Rattle.oat_events.specs.Events.{SourceEvent, takes, enters, leaves, loads, stores, outputs}
+use Rattle.oat_check.specs.Naming.{written_edge}
+use Rattle.oat_check.specs.Steps.{LineEdge}
+use Rattle.oat_meaning.specs.declared.record.CallEnd.{CallEnd}
+
+-- The edges and loads of all calls of the operation lie one behind the other, and each call that has completed tells where its own end.
+pub record Recorded : Type 0 where
+  pub op : ℕ
+  pub inside : Bool
+  pub outputs : List ℤ
+  pub edges : List SourceEdge
+  pub loads : List CriticalLoad
+  pub ends : List CallEnd
+
+-- before the first event
+abbrev pub nothing_recorded : ℕ → Recorded
+nothing_recorded op = record { op = op; inside = false; outputs = []; edges = []; loads = []; ends = [] }
+
+-- ---- what each event adds
+
+abbrev pub edge_added : Recorded → SourceEdge → Recorded
+edge_added r edge = if r.inside then record r { edges = r.edges ++ edge ∷ [] } else r
+
+abbrev pub when_entered : Recorded → ℕ → Recorded
+when_entered r op = record r { inside = r.inside || nat_eq op r.op }
+
+abbrev pub call_end : Recorded → CallEnd
+call_end r = record { edges = length r.edges + 1; loads = length r.loads }
+
+abbrev pub completed : Recorded → Recorded
+completed r = record r { inside = false; edges = r.edges ++ End r.op ∷ []; ends = r.ends ++ call_end r ∷ [] }
+
+abbrev pub when_left : Recorded → ℕ → Recorded
+when_left r op = if r.inside && nat_eq op r.op then completed r else r
+
+abbrev pub load_added : Recorded → ℕ → ℕ → Recorded
+load_added r cell value = if r.inside then record r { loads = r.loads ++ record { cell = cell; value = signed value } ∷ [] } else r
+
+abbrev pub output_added : Recorded → ℤ → Recorded
+output_added r value = record r { outputs = r.outputs ++ value ∷ [] }
+
+abbrev pub event_added : Program → Recorded → SourceEvent LineEdge → Recorded
+event_added p r (takes edge) = edge_added r (written_edge p edge)
+event_added p r (enters op) = when_entered r op
+event_added p r (leaves op) = when_left r op
+event_added p r (loads cell value) = load_added r cell value
+event_added p r (stores cell value) = r
+event_added p r (outputs value) = output_added r value
+
+abbrev pub events_added : Program → Recorded → List (SourceEvent LineEdge) → Recorded
+events_added p r events = fold (event_added p) r events
+
+-- ---- what one step adds
+
+-- a value, and the cell that was read, if it was one
+abbrev pub read_added : Recorded → Option ℕ → ℕ → Recorded
+read_added r (Some cell) value = load_added r cell value
+read_added r None value = r
+
+-- an edge, and the operation that is entered, if one is
+abbrev pub call_added : Recorded → SourceEdge → Option ℕ → Recorded
+call_added r edge (Some op) = when_entered (edge_added r edge) op
+call_added r edge None = edge_added r edge
+
+-- the operation that is left, if one is, and an edge
+abbrev pub return_added : Recorded → SourceEdge → Option ℕ → Recorded
+return_added r edge (Some op) = edge_added (when_left r op) edge
+return_added r edge None = edge_added r edge
+
+-- ---- room
+
+-- a record, and for how many more steps it has room
+pub record RoomyRecord : Type 0 where
+  pub recorded : Recorded
+  pub left : ℕ
+
+-- a list of so many items, in so much room, takes one more for each step that is left
+pub record TakesMore (left items capacity : ℕ) : Type 0 where
+  pub room : items + left ≤ capacity
+  pub few : items + left ≤ 4194304
+
+-- ---- where calls end
+
+abbrev pub no_call : CallEnd
+no_call = record { edges = 0; loads = 0 }
+
+-- where a call ends that has completed
+abbrev pub end_of_call : Recorded → ℕ → CallEnd
+end_of_call r call = get_or r.ends call no_call
+
+-- where the calls before it end
+abbrev pub end_before_call : Recorded → ℕ → CallEnd
+end_before_call r call = if nat_eq call 0 then no_call else end_of_call r (call - 1)
