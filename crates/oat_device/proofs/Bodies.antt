@@ -68,7 +68,7 @@ on-shelf course device i k within =
 
 -- ---- how many bodies there are
 
-pub count-open : (course : Course) (device : DeviceRun) → Keeps course device → (IsSealed device → ⊥) → length (bodies_so_far device) ≡ length course.shelf.bodies
+pub count-open : (course : Course) (device : DeviceRun) → Keeps course device → (IsSealed (run_so_far device) → ⊥) → length (bodies_so_far device) ≡ length course.shelf.bodies
 count-open course device k open_still = ap (λ (bodies : List Body). length bodies) (bodies-shelved device open_still ∙ sym k.shelved)
 
 pub count-sealed : (course : Course) (device : DeviceRun) → Keeps course device → (shown : Monitored) → ReportsItsBody device shown → length (bodies_so_far device) ≡ length course.shelf.bodies + 1
@@ -80,7 +80,7 @@ count-sealed course device k shown report =
 
 -- the window behind those on the shelf is the last one, and has sealed
 pub last-sealed : (course : Course) (device : DeviceRun) → Keeps course device → {B : Type 0} (now : B → Monitored) (last : Option B) (i : ℕ)
-    → MatchOption last (IsSealed device → ⊥) (λ b. ReportsItsBody device (now b)) → i < length (bodies_so_far device) → length course.shelf.bodies ≤ i → IsSome last
+    → MatchOption last (IsSealed (run_so_far device) → ⊥) (λ b. ReportsItsBody device (now b)) → i < length (bodies_so_far device) → length course.shelf.bodies ≤ i → IsSome last
 last-sealed course device k now (Some b) i report within behind = refl
 last-sealed course device k now None i open_still within behind =
     let all = count-open course device k open_still in

@@ -168,7 +168,7 @@ last-unsealed o s measuring open_still = refl
 last-unsealed o s sealed open_still = absurd (open_still refl)
 
 -- while the last window hasn't sealed, the bodies are those that were shelved
-pub bodies-shelved : (device : DeviceRun) → (IsSealed device → ⊥) → bodies_so_far device ≡ (run_so_far device).measurements.shelved
+pub bodies-shelved : (device : DeviceRun) → (IsSealed (run_so_far device) → ⊥) → bodies_so_far device ≡ (run_so_far device).measurements.shelved
 bodies-shelved device open_still =
     let m = (run_so_far device).measurements in
     ap (λ (last : List Body). m.shelved ++ last) (last-unsealed (window_opening device) m.state m.state.stage open_still) ∙ append-nil m.shelved
@@ -176,7 +176,7 @@ bodies-shelved device open_still =
 pub sealed-is : (course : Course) (device : DeviceRun) → HasMade course device.image device.case device.begin_at → device.turns ≡ turns_of course
     → {B : Type 0} (now : B → Monitored) (result : Option B)
     → MatchOption result ((state_of course.engine).stage ≡ sealed → ⊥) (λ b. course.engine ≡ Some (engine.After (now b)))
-    → MatchOption result (IsSealed device → ⊥) (λ b. ReportsItsBody device (now b))
+    → MatchOption result (IsSealed (run_so_far device) → ⊥) (λ b. ReportsItsBody device (now b))
 sealed-is course device s turns {B = B} now result told = by-result result told where
   o : Opening
   o = window_opening device
@@ -185,7 +185,7 @@ sealed-is course device s turns {B = B} now result told = by-result result told 
   same = measurements-are course device s turns
 
   by-result : (r : Option B) → MatchOption r ((state_of course.engine).stage ≡ sealed → ⊥) (λ b. course.engine ≡ Some (engine.After (now b)))
-      → MatchOption r (IsSealed device → ⊥) (λ b. ReportsItsBody device (now b))
+      → MatchOption r (IsSealed (run_so_far device) → ⊥) (λ b. ReportsItsBody device (now b))
   by-result None none = λ shut. none (ap (λ (m : Measurements). m.state.stage) same ∙ shut)
   by-result (Some b) some =
       let shown = now b in

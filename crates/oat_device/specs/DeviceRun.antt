@@ -40,12 +40,12 @@ abbrev pub reported : Monitored → Body
 reported shown = body_of shown.opening (state_at sealed shown)
 
 -- the run has sealed the session's last window
-abbrev pub IsSealed : DeviceRun → Type 0
-IsSealed device = (run_so_far device).measurements.state.stage ≡ sealed
+abbrev pub IsSealed : Run → Type 0
+IsSealed run = run.measurements.state.stage ≡ sealed
 
 -- It has sealed the last window, and that sealed state gives the last of its bodies.
 pub record ReportsItsBody (device : DeviceRun) (shown : Monitored) : Type 0 where
-  pub sealed : IsSealed device
+  pub sealed : IsSealed (run_so_far device)
   pub body : bodies_so_far device ≡ (run_so_far device).measurements.shelved ++ reported shown ∷ []
 
 -- Each body tells its window, whose checked uses were all sound exactly where it has no violation.

@@ -118,7 +118,7 @@ impl<'a> Device<'a> {
 
     /// The measurement of the session's last window; None exactly where that hasn't sealed.
     pub fn sealed(&self) -> Option<&Sealed>
-        ensures { MatchOption result (IsSealed self.now → ⊥) (λ shown. ReportsItsBody self.now shown.now) }
+        ensures { MatchOption result (IsSealed (run_so_far self.now) → ⊥) (λ shown. ReportsItsBody self.now shown.now) }
     {
         sealed_in(&self.course.engine)
     }

@@ -1,9 +1,7 @@
 -- A defined outcome with a status of work is an answer of the command that was asked for.
-use Rattle.std.proofs.Common.{◌≡◌, ℕ, List, refl, subst}
-use Rattle.oat_world.specs.Outside.{Contents}
+use Rattle.std.proofs.Common.{refl, subst}
 use Rattle.oat_first.specs.First.{fails, passes}
 use Rattle.oat_tool.specs.declared.command.Command.{Command}
-use Rattle.oat_tool.specs.Outcome.{Outcome}
 use Rattle.oat_tool.specs.Loads.{AreLoaded}
 use Rattle.oat_tool.specs.Commands.{files_of}
 use Rattle.oat_tool.specs.Defined.{Does, done, other}

@@ -1,5 +1,5 @@
 -- What is refused has one refusal, and isn't read; a reader's fault is the text's first, unless it is want of memory.
-use Rattle.std.proofs.Common.{◌≡◌, ◌≢◌, ◌∙◌, ℕ, List, Result, Ok, Err, refl, sym, ap}
+use Rattle.std.proofs.Common.{◌≡◌, ◌≢◌, ◌∙◌, ℕ, List, Result, Ok, Err, sym, ap}
 use Rattle.oat_map.specs.declared.map.Map.{Map}
 use Rattle.oat_image.specs.declared.image.Image.{Image}
 use Rattle.oat_lines.specs.declared.fault.Fault.{Fault}

@@ -1,12 +1,9 @@
 -- The room of `device`: where its work stops and goes on, that it has one answer, and what its statuses say.
-use Rattle.std.proofs.Common.{◌≡◌, ◌↔◌, ◌<◌, ◌+◌, ◌++◌, ◌∙◌, ◌⊎◌, ℕ, List, [], ◌∷◌, Some, Contains, inl, inr, refl, sym, ap, subst, codes, arith}
+use Rattle.std.proofs.Common.{◌≡◌, ◌↔◌, ◌<◌, ◌+◌, ◌++◌, ◌∙◌, ℕ, zero, suc, length, take, List, [], ◌∷◌, Some, inl, inr, refl, sym, ap, subst, codes, arith}
 use Rattle.std.specs.List.{slice_get}
-use Rattle.std.proofs.lemmas.Bool.{cases_lt}
-use Rattle.std.proofs.lemmas.Option.{slice_get-get_or}
+use Rattle.std.proofs.lemmas.List.{take_more}
+use Rattle.std.proofs.lemmas.Option.{get_or_from_slice_get}
 use Rattle.oat_world.specs.Outside.{Contents}
-use Rattle.oat_map.specs.declared.map.Map.{Map}
-use Rattle.oat_map.specs.declared.row.Row.{Row}
-use Rattle.oat_map.specs.declared.row.Row.TheVariants.{Begin}
 use Rattle.oat_blob.specs.Layout.{IsBlobOf}
 use Rattle.oat_blob.specs.Body.{Body}
 use Rattle.oat_measure.specs.declared.opening.Opening.{Opening}
@@ -14,13 +11,10 @@ use Rattle.oat_image.specs.declared.image.Image.{Image}
 use Rattle.oat_case.specs.declared.case.Case.{Case}
 use Rattle.oat_shape.specs.MapRules.{S7}
 use Rattle.oat_shape.specs.Shape.{Everywhere}
-use Rattle.oat_map.specs.Rows.{BeginsAt, IsOperation}
-use Rattle.oat_journal.specs.Measured.{Run, IsSealed, body_of, opening_of}
-use Rattle.oat_case.specs.Limits.{IsWellFormedCase}
-use Rattle.oat_measure.specs.Monitored.{Monitored}
-use Rattle.oat_journal.specs.TurnLaws.{CountsFit}
-use Rattle.oat_journal.proofs.RunLaws.{counts_of_cases_fit}
-use Rattle.oat_device.specs.DeviceRun.{DeviceRun, HasRun, ReportsItsBody, reported}
+use Rattle.oat_journal.specs.Measured.{Run, opening_of}
+use Rattle.oat_device.specs.DeviceRun.{DeviceRun, HasRun, IsSealed, bodies_so_far}
+use Rattle.oat_measure.specs.Shelving.{sealed_bodies}
+use Rattle.std.specs.List.{AllZip}
 use Rattle.oat_shape.proofs.Laid.{opens_once}
 use Rattle.oat_first.specs.First.{IsOne}
 use Rattle.oat_tool.specs.declared.page.Stop.{Stop}
@@ -31,9 +25,8 @@ use Rattle.oat_tool.specs.Answer.{Answer, shows, as_outcome}
 use Rattle.oat_tool.specs.Loads.{File, AreLoaded}
 use Rattle.oat_tool.specs.Commands.{files_of}
 use Rattle.oat_tool.specs.Admits.{Rejects, AreAdmitted}
-use Rattle.oat_tool.specs.Device.{Runs, RunsCase, ShowsRun, sealed, unsealed, run_of, run_lines}
+use Rattle.oat_tool.specs.Device.{IsBlobUnder, Runs, RunsCase, ShowsRun, sealed, unsealed, run_and_blobs, run_of}
 use Rattle.oat_tool.specs.DeviceLaws.{IsMeasuredRun, RunIsShown, RunIsNotRejected, OneDeviceAnswer}
-use Rattle.oat_tool.specs.BlobLine.{blob_line}
 use Rattle.oat_tool.specs.Works.{StopsWith}
 use Rattle.oat_tool.proofs.Working.{StopsWith-more, IsDone}
 use Rattle.oat_tool.proofs.Admitting.{Admits-rejected, Admits-admitted, Admits-one, Admits-through}
@@ -51,27 +44,50 @@ runs_admitted image case i c a admitted runs = Admits-admitted image case RunsCa
 
 -- ---- what a device that has made the run reports
 
-pub body_reported : (device : DeviceRun) (image : Image) (case : Case) (shown : Monitored) → HasRun device image case → ReportsItsBody device shown
-    → reported shown ≡ body_of (opening_of image case.session device.begin_at) (run_of image case device.begin_at).state
-body_reported device image case shown has reports = reports.body ∙ (λ i. body_of (has.opening i) (has.run i).state)
+pub bodies_reported : (device : DeviceRun) (image : Image) (case : Case) → HasRun device image case
+    → bodies_so_far device ≡ sealed_bodies (opening_of image case.session device.begin_at) (run_of image case device.begin_at).measurements
+bodies_reported device image case has = λ i. sealed_bodies (has.opening i) (has.run i).measurements
 
-pub counts_fit : (device : DeviceRun) (image : Image) (case : Case) (shown : Monitored) → IsWellFormedCase case → HasRun device image case → ReportsItsBody device shown
-    → CountsFit (reported shown)
-counts_fit device image case shown formed has reports =
-    subst CountsFit (sym (body_reported device image case shown has reports)) (counts_of_cases_fit image (opening_of image case.session device.begin_at) case formed)
+-- one more blob behind those of the bodies before
+blobs_more : (key : List ℕ) (bodies : List Body) (blobs : List (List ℕ)) (body : Body) (bytes : List ℕ) → AllZip (IsBlobUnder key) bodies blobs → IsBlobOf body key bytes
+    → AllZip (IsBlobUnder key) (bodies ++ body ∷ []) (blobs ++ bytes ∷ [])
+blobs_more key [] [] body bytes all last = (last, tt)
+blobs_more key [] (b ∷ blobs) body bytes all last = absurd all
+blobs_more key (x ∷ bodies) [] body bytes all last = absurd all
+blobs_more key (x ∷ bodies) (b ∷ blobs) body bytes all last = (all.0, blobs_more key bodies blobs body bytes all.1 last)
+
+body_at : (bodies : List Body) (s : ℕ) → s < length bodies → (body : Body) × (slice_get bodies s ≡ Some body)
+body_at [] s within = absurd (omega arith)
+body_at (body ∷ bodies) zero within = (body, refl)
+body_at (body ∷ bodies) (suc s) within = body_at bodies s (omega arith)
+
+pub blobs_up_to : (key : List ℕ) (bodies : List Body) (blobs : List (List ℕ)) (s : ℕ) (bytes : List ℕ) → s < length bodies → AllZip (IsBlobUnder key) (take s bodies) blobs
+    → ((body : Body) → slice_get bodies s ≡ Some body → IsBlobOf body key bytes) → AllZip (IsBlobUnder key) (take (s + 1) bodies) (blobs ++ bytes ∷ [])
+blobs_up_to key bodies blobs s bytes within all last =
+    let found = body_at bodies s within in
+    let more : take s bodies ++ found.0 ∷ [] ≡ take (s + 1) bodies = sym (take_more bodies s found.0 within ∙ ap (λ (b : Body). take s bodies ++ b ∷ []) (get_or_from_slice_get bodies s found.0 found.0 found.1)) in
+    subst (λ (xs : List Body). AllZip (IsBlobUnder key) xs (blobs ++ bytes ∷ [])) more (blobs_more key (take s bodies) blobs found.0 bytes all (last found.0 found.1))
 
 -- ---- one answer
 
-one_blob : (body : Body) (key one two : List ℕ) → IsBlobOf body key one → IsBlobOf body key two → one ≡ two
-one_blob body key one two first second = first.layout ∙ sym second.layout
+one_list : (key : List ℕ) (bodies : List Body) (one two : List (List ℕ)) → AllZip (IsBlobUnder key) bodies one → AllZip (IsBlobUnder key) bodies two → one ≡ two
+one_list key [] [] [] first second = refl
+one_list key [] [] (b ∷ two) first second = absurd second
+one_list key [] (a ∷ one) two first second = absurd first
+one_list key (body ∷ bodies) [] two first second = absurd first
+one_list key (body ∷ bodies) (a ∷ one) [] first second = absurd second
+one_list key (body ∷ bodies) (a ∷ one) (b ∷ two) first second =
+    let same = first.0.layout ∙ sym second.0.layout in
+    let rest = one_list key bodies one two first.1 second.1 in
+    λ i. same i ∷ rest i
 
 one_shown : (o : Opening) (key : List ℕ) (run : Run) → IsOne Answer (ShowsRun o key run)
-one_shown o key run a b (sealed is bytes blob shown) (sealed is' bytes' blob' shown') =
-    shown ∙ (ap (λ bytes. shows Done (run_lines run ++ blob_line bytes) [])
-    (one_blob (body_of o run.state) key bytes bytes' blob blob') ∙ sym shown')
-one_shown o key run a b (sealed is bytes blob shown) (unsealed none shown') = absurd (none is)
-one_shown o key run a b (unsealed none shown) (sealed is bytes blob shown') = absurd (none is)
-one_shown o key run a b (unsealed none shown) (unsealed none' shown') = shown ∙ sym shown'
+one_shown o key run a b (sealed is blobs all shown) (sealed is' blobs' all' shown') =
+    shown ∙ (ap (λ (xs : List (List ℕ)). shows Done (run_and_blobs run xs) []) (one_list key (sealed_bodies o run.measurements) blobs blobs' all all') ∙ sym shown')
+one_shown o key run a b (sealed is blobs all shown) (unsealed none blobs' all' shown') = absurd (none is)
+one_shown o key run a b (unsealed none blobs all shown) (sealed is blobs' all' shown') = absurd (none is)
+one_shown o key run a b (unsealed none blobs all shown) (unsealed none' blobs' all' shown') =
+    shown ∙ (ap (λ (xs : List (List ℕ)). shows Unsealed (run_and_blobs run xs) (line (codes "no blob"))) (one_list key (sealed_bodies o run.measurements) blobs blobs' all all') ∙ sym shown')
 
 one_run : (image : Image) (case : Case) → Everywhere (S7 image.map) → IsOne Answer (RunsCase image case)
 one_run image case paired a b one two =
@@ -93,11 +109,11 @@ as_told o p X same told = subst (λ (q : Outcome). (q.status ≡ 0 ↔ X) × (q.
 
 statuses : (o : Opening) (key : List ℕ) (run : Run) (a : Answer) → ShowsRun o key run a
     → ((as_outcome a).status ≡ 0 ↔ IsSealed run) × ((as_outcome a).status ≡ 7 ↔ ¬ IsSealed run)
-statuses o key run a (sealed is bytes blob shown) =
-    as_told (as_outcome a) (as_outcome (shows Done (run_lines run ++ blob_line bytes) [])) (IsSealed run) (ap as_outcome shown)
+statuses o key run a (sealed is blobs all shown) =
+    as_told (as_outcome a) (as_outcome (shows Done (run_and_blobs run blobs) [])) (IsSealed run) (ap as_outcome shown)
     ((λ zeroth. is, λ all. refl), (λ seven. absurd (omega (arith, seven)), λ none. absurd (none is)))
-statuses o key run a (unsealed none shown) =
-    as_told (as_outcome a) (as_outcome (shows Unsealed (run_lines run) (line (codes "no blob")))) (IsSealed run) (ap as_outcome shown)
+statuses o key run a (unsealed none blobs all shown) =
+    as_told (as_outcome a) (as_outcome (shows Unsealed (run_and_blobs run blobs) (line (codes "no blob")))) (IsSealed run) (ap as_outcome shown)
     ((λ zeroth. absurd (omega (arith, zeroth)), λ all. absurd (none all)), (λ seven. none, λ is. refl))
 
 run_shown : (words : List (List ℕ)) (contents : Contents) (files : List File) (a : Answer) → AreLoaded contents (files_of words Device) files

@@ -3,7 +3,7 @@ use Rattle.std.specs.Prelude.{◌≡◌, ◌≢◌, ◌↔◌, ℕ, List, [], �
 use Rattle.oat_world.specs.Outside.{Contents}
 use Rattle.oat_image.specs.declared.image.Image.{Image}
 use Rattle.oat_case.specs.declared.case.Case.{Case}
-use Rattle.oat_journal.specs.Measured.{IsSealed}
+use Rattle.oat_device.specs.DeviceRun.{IsSealed}
 use Rattle.oat_first.specs.First.{IsOne}
 use Rattle.oat_tool.specs.declared.command.Command.TheVariants.{Device}
 use Rattle.oat_tool.specs.Outcome.{Outcome}
@@ -16,7 +16,7 @@ use Rattle.oat_tool.specs.DefinedLaws.{IsOfWork}
 use Rattle.oat_tool.specs.Device.{Runs, RunsCase, run_of}
 
 -- The files that the words name hold a shaped image and a case for one of its operations, and the outcome is what is
--- defined of the case's measured run on the image: with status 0 where it sealed, and else with status 7.
+-- defined of the case's measured run on the image: with status 0 where its last window sealed, and else with status 7.
 pub record IsMeasuredRun (words : List (List ℕ)) (contents : Contents) (o : Outcome) : Type 0 where
   pub image : File
   pub case : File

@@ -10,7 +10,7 @@
 
 mod admit;
 mod asked;
-mod blob_line;
+mod blob_lines;
 mod blob_text;
 mod command;
 mod device;

@@ -4,7 +4,7 @@ use Rattle.std.proofs.lemmas.Result.{IfOk-weaker}
 use Rattle.oat_blob.specs.Body.{Body}
 use Rattle.oat_blob.specs.Layout.{IsBlobOf}
 use Rattle.oat_measure.specs.Monitored.{Monitored}
-use Rattle.oat_device.specs.DeviceRun.{DeviceRun, IsSealed, ReportsItsBody, reported}
+use Rattle.oat_device.specs.DeviceRun.{DeviceRun, IsSealed, ReportsItsBody, reported, run_so_far}
 use Rattle.oat_device.proofs.Bodies.{Keeps, holds-within, keeps, last-is, last-sealed, on-shelf}
 use Rattle.oat_device.proofs.device.Device.blob.Goals as goal
 
@@ -52,7 +52,7 @@ returns-then-i-len c =
     c.encode.ensures
 
 abbrev Last : (device : DeviceRun) (B : Type 0) → (B → Monitored) → Option B → Type 0
-Last device B now last = MatchOption last (IsSealed device → ⊥) (λ b. ReportsItsBody device (now b))
+Last device B now last = MatchOption last (IsSealed (run_so_far device) → ⊥) (λ b. ReportsItsBody device (now b))
 
 pub unwrap-sealed-requires : goal.unwrap-sealed-requires
 unwrap-sealed-requires c =

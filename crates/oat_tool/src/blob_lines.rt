@@ -1,31 +1,34 @@
 ghost use Rattle.std.specs.Prelude.{◌≡◌, ◌≤◌, take, drop, length};
-ghost use Rattle.oat_tool.specs.BlobLine.{blob_line, line_left, turns_of_line};
+ghost use Rattle.std.specs.List.{flat_map};
+ghost use Rattle.oat_tool.specs.BlobLine.{blob_line, lines_left, turns_of_lines};
 
 use crate::pieces::Pieces;
+use oat_case::Bytes;
 use oat_lines::lower_digits;
 use std::alloc::{AllocError, Global};
 
 /// The most bytes whose digits are one piece.
 const BLOCK: usize = 32;
 
-/// The line of a blob, whose digits are made a block at a time.
+/// The lines of blobs, whose digits are made a block at a time.
 #[derive(Debug, Drop)]
-pub struct BlobLine {
-    bytes: Vec<u8>,
+pub struct BlobLines {
+    blobs: Vec<Bytes>,
+    /// How many lines were made.
+    done: usize,
     is_begun: bool,
     at: usize,
-    is_ended: bool,
 }
 
-impl BlobLine {
-    pub fn of(bytes: Vec<u8>) -> BlobLine
-        ensures { ⟦<BlobLine as Pieces>⟧.text result ≡ blob_line bytes.items }
+impl BlobLines {
+    pub fn of(blobs: Vec<Bytes>) -> BlobLines
+        ensures { ⟦<BlobLines as Pieces>⟧.text result ≡ flat_map blob_line blobs.items }
     {
-        BlobLine {
-            bytes,
+        BlobLines {
+            blobs,
+            done: 0,
             is_begun: false,
             at: 0,
-            is_ended: false,
         }
     }
 }
@@ -40,28 +43,31 @@ fn next_block(bytes: &[u8], at: usize) -> &[u8]
     &rest[..BLOCK.min(rest.len())]
 }
 
-impl Pieces for BlobLine {
-    ghost text = { λ line. line_left line.bytes.items line.is_begun line.at line.is_ended };
+impl Pieces for BlobLines {
+    ghost text = { λ lines. lines_left (drop lines.done lines.blobs.items) lines.is_begun lines.at };
 
-    ghost turns = { λ line. turns_of_line line.bytes.items line.is_begun line.at line.is_ended };
+    ghost turns = { λ lines. turns_of_lines (drop lines.done lines.blobs.items) lines.is_begun lines.at };
 
     fn next(&mut self, alloc: Global) -> Result<Option<Vec<u8>>, AllocError> {
+        if self.done >= self.blobs.len() {
+            return Ok(None);
+        }
         if !self.is_begun {
             let keyword = Vec::from_slice(alloc, b"blob ")?;
             self.is_begun = true;
             return Ok(Some(keyword));
         }
-        if self.at < self.bytes.len() {
-            let block = next_block(self.bytes.as_slice(), self.at);
+        let bytes = self.blobs[self.done].as_slice();
+        if self.at < bytes.len() {
+            let block = next_block(bytes, self.at);
             let digits = Vec::from_slice(alloc, lower_digits(block, &mut [0; 64]))?;
             self.at += block.len();
             return Ok(Some(digits));
         }
-        if !self.is_ended {
-            let end = Vec::from_slice(alloc, b"\n")?;
-            self.is_ended = true;
-            return Ok(Some(end));
-        }
-        Ok(None)
+        let end = Vec::from_slice(alloc, b"\n")?;
+        self.done += 1;
+        self.is_begun = false;
+        self.at = 0;
+        Ok(Some(end))
     }
 }
