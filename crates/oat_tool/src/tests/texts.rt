@@ -34,8 +34,33 @@ pub const BLOB_HELPER: &str =
 pub const BLOB_LIMIT: &str =
     "blob 4f415442010002000102030405060708090a0b0c0d0e0fdf36513e3ff2cfa9ec497b8e82e790f094110afe98de18608448166c0b5195561736fb92427488462fba94dec5853808e9556a60106bccd4a7454556236535500100000000000000000000000a0000000000000020000000018000000001000000000001009c69c2eaef775b4e7a67fd82446a9941a961cf458a4dcba29f62f0b6bd19a5cb7d\n";
 
+/// An operation with nothing in it, and a main function that calls it.
+const IDLE: &str =
+    "operation 1 idle\nlocal z i64\nblock b0\nret z\nend\nmain\nlocal s i64\nblock b0\ncall s idle\nhalt\nend\n";
+
+/// A loop that scales, clips and adds its inputs.
+const LOOP: &str =
+    "critical limit 50\nglobal total 0\nfunc scale v:i64\nlocal k i64\nlocal r i64\nblock b0\nconst k 3\nmul r v k\nret r\nend\nfunc clip v:i64\nlocal m i64\nlocal c i64\nblock b0\nload m limit\nlt c m v\nbranch c over under\nblock over\nret m\nblock under\nret v\nend\noperation 7 measure n:i64\nlocal i i64\nlocal one i64\nlocal x i64\nlocal c i64\nlocal t i64\nblock b0\nconst one 1\njump test\nblock test\nlt c i n\nbranch c body done\nblock body\nin x\ncall x scale x\ncall x clip x\nload t total\nadd t t x\nstore total t\nout x\nadd i i one\njump test\nblock done\nload t total\nret t\nend\nmain\nlocal n i64\nlocal s i64\nblock b0\nconst n 5\ncall s measure n\nout s\nhalt\nend\n";
+
+/// A function that calls itself.
+const DEEP: &str =
+    "operation 1 idle\nlocal z i64\nblock b0\nret z\nend\nfunc down n:i64\nlocal one i64\nlocal r i64\nblock b0\nconst one 1\nsub n n one\nbranch n more stop\nblock more\ncall r down n\nadd r r one\nret r\nblock stop\nret one\nend\nmain\nlocal n i64\nlocal s i64\nblock b0\ncall s idle\nconst n 256\ncall s down n\nout s\nhalt\nend\n";
+
+/// A main function that prints an element of an array.
+const ELEMENT: &str =
+    "array a 4\noperation 1 idle\nlocal z i64\nblock b0\nret z\nend\nmain\nlocal i i64\nlocal x i64\nblock b0\nconst i 3\nloadx x a i\nout x\nhalt\nend\n";
+
 /// The texts of files.
-pub const FILES: [(&str, &str); 24] = [
+pub const FILES: [(&str, &str); 33] = [
+    ("I", IDLE),
+    ("S", LOOP),
+    ("R", DEEP),
+    ("INDEX_3", ELEMENT),
+    ("GLOBL", "globl x 1\n"),
+    ("NAME", "global 9x 1\n"),
+    ("LARGE", "global x 9223372036854775808\n"),
+    ("AGAIN", "global x 1\nglobal x 1\n"),
+    ("NOWHERE", "main\nblock b0\njump c\nend\n"),
     ("A", ONE_JUMP),
     ("B", CALLS),
     (
@@ -99,7 +124,17 @@ pub const FILES: [(&str, &str); 24] = [
 ];
 
 /// The texts of files that have one part of the case changed.
-pub const CASES: [(&str, &str, &str); 19] = [
+pub const CASES: [(&str, &str, &str); 21] = [
+    (
+        "KS",
+        "operation 1\nsteps 100000\n",
+        "operation 7\nsteps 100000\ninput 10\ninput 20\ninput 16\ninput 17\ninput 0\n",
+    ),
+    (
+        "KS_4",
+        "operation 1\nsteps 100000\n",
+        "operation 7\nsteps 100000\ninput 10\ninput 20\ninput 16\ninput 17\n",
+    ),
     (
         "KB",
         "operation 1\nsteps 100000\n",
@@ -203,7 +238,24 @@ pub const IMAGES: [(&str, &str, &str); 9] = [
 ];
 
 /// The texts of files that have one part of another text changed.
-pub const CHANGED: [(&str, &str, &str, &str); 5] = [
+pub const CHANGED: [(&str, &str, &str, &str); 12] = [
+    (
+        "DIVIDES",
+        IDLE,
+        "block b0\ncall s idle\n",
+        "local a i64\nlocal b i64\nblock b0\nconst a -9223372036854775808\nconst b -1\ndiv s a b\nout s\nrem s a b\nout s\nconst b 0\ndiv s a b\n",
+    ),
+    ("INDEX_4", ELEMENT, "const i 3", "const i 4"),
+    ("INDEX_LESS", ELEMENT, "const i 3", "const i -1"),
+    (
+        "UNSET",
+        IDLE,
+        "block b0\ncall s idle\n",
+        "local f fn/0\nblock b0\nicall s f\n",
+    ),
+    ("R_257", DEEP, "const n 256", "const n 257"),
+    ("PLAIN", DEEP, "call r down n", "call r idle"),
+    ("ENDLESS", IDLE, "ret z", "jump b0"),
     ("BAD", CALLS, "blocks 2\n", "blocks 3\n0001005C bad\n"),
     ("LAST", BLOB, "f558a5", "f558a4"),
     (
