@@ -3,3 +3,4 @@ pub mod Counting
 pub mod SameLines
 pub mod VerdictLine
 pub mod WorkedLines
+pub mod SourceLine

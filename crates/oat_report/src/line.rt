@@ -125,7 +125,7 @@ fn return_line(alloc: Global, map: &Map, from: u64, to: u64) -> Result<Vec<u8>, 
     Ok(line)
 }
 
-fn end_line(alloc: Global, op: u16) -> Result<Vec<u8>, AllocError>
+pub fn end_line(alloc: Global, op: u16) -> Result<Vec<u8>, AllocError>
     ensures { IfOk result (λ line. line.items ≡ codes "end " ++ decimal op) }
 {
     let mut line = Vec::from_slice(alloc, b"end ")?;

@@ -21,3 +21,4 @@ mod Followed
 mod Sized
 mod ReadTexts
 mod Printed
+pub mod TextLaws

@@ -10,6 +10,8 @@ mod Following
 mod Answering
 mod One
 mod Refusing
+mod Programming
+mod Interpreting
 mod Admitting
 mod Verifying
 mod Running

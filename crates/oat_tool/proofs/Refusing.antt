@@ -42,13 +42,13 @@ refuses_case file fault a other given told =
 
 -- ---- one value, or one fault
 
-ok_one : {X E : Type 0} (x y : X) (answer : Result X E) → answer ≡ Ok x → answer ≡ Ok y → y ≡ x
+pub ok_one : {X E : Type 0} (x y : X) (answer : Result X E) → answer ≡ Ok x → answer ≡ Ok y → y ≡ x
 ok_one x y answer one two = let same = sym two ∙ one in cc
 
-err_one : {X E : Type 0} (e f : E) (answer : Result X E) → answer ≡ Err e → answer ≡ Err f → e ≡ f
+pub err_one : {X E : Type 0} (e f : E) (answer : Result X E) → answer ≡ Err e → answer ≡ Err f → e ≡ f
 err_one e f answer one two = let same = sym one ∙ two in cc
 
-never : {X E : Type 0} (x : X) (e : E) (answer : Result X E) → answer ≡ Ok x → answer ≡ Err e → ⊥
+pub never : {X E : Type 0} (x : X) (e : E) (answer : Result X E) → answer ≡ Ok x → answer ≡ Err e → ⊥
 never x e answer one two = let same = sym one ∙ two in cc
 
 read_again : (text : List ℕ) (image : Image) → IsImageText text image → image_at text ≡ Ok image

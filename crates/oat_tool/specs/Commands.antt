@@ -3,15 +3,19 @@
 use Rattle.std.specs.Prelude.{◌≡◌, ◌+◌, ℕ, Bool, true, false, not, ◌&&◌, ◌||◌, nat_eq, List, [], ◌∷◌, length, take, drop, Contains, codes}
 use Rattle.std.specs.Str.{bytes_eq}
 use Rattle.oat_tool.specs.declared.command.Command.{Command}
-use Rattle.oat_tool.specs.declared.command.Command.TheVariants.{Verify, Device}
+use Rattle.oat_tool.specs.declared.command.Command.TheVariants.{Run, Verify, Device}
 use Rattle.oat_tool.specs.Loads.{Wanted, wanted_of}
 
 abbrev pub commands : List Command
-commands = Verify ∷ Device ∷ []
+commands = Run ∷ Verify ∷ Device ∷ []
 
 abbrev pub fixed_of : Command → List (List ℕ)
+fixed_of Run = codes "run" ∷ []
 fixed_of Verify = codes "verify" ∷ []
 fixed_of Device = codes "device" ∷ []
+
+abbrev pub program_limit : ℕ
+program_limit = 1048576
 
 abbrev pub image_limit : ℕ
 image_limit = 16777216
@@ -23,6 +27,7 @@ abbrev pub blob_limit : ℕ
 blob_limit = 41943040
 
 abbrev pub limits_of : Command → List ℕ
+limits_of Run = program_limit ∷ case_limit ∷ []
 limits_of Verify = image_limit ∷ case_limit ∷ blob_limit ∷ []
 limits_of Device = image_limit ∷ case_limit ∷ []
 

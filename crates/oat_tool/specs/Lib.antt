@@ -17,6 +17,9 @@ pub mod BlobLine
 pub mod Refusals
 pub mod Admits
 pub mod Report
+pub mod Programs
+pub mod Interpret
+pub mod InterpretLaws
 pub mod Verify
 pub mod VerifyLaws
 pub mod Headline

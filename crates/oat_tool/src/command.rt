@@ -1,6 +1,8 @@
 ghost use Rattle.std.specs.Prelude.{◌≡◌, map};
 ghost use Rattle.oat_tool.specs.Commands.{fixed_of, limits_of};
 
+const PROGRAM_LIMIT: usize = 1_048_576;
+
 const IMAGE_LIMIT: usize = 16_777_216;
 
 const CASE_LIMIT: usize = 4_194_304;
@@ -10,6 +12,8 @@ const BLOB_LIMIT: usize = 41_943_040;
 /// A command of the program.
 #[derive(Clone, Copy, Debug, PartialEq, Eq)]
 pub enum Command {
+    /// Runs a program on the inputs of a case.
+    Run,
     /// Judges a blob against an image and a case.
     Verify,
     /// Runs a case on an image, measured.
@@ -22,6 +26,7 @@ impl Command {
         ensures { map (λ word. word.now) result.now ≡ fixed_of self }
     {
         match self {
+            Command::Run => &["run"],
             Command::Verify => &["verify"],
             Command::Device => &["device"],
         }
@@ -32,6 +37,7 @@ impl Command {
         ensures { result.now ≡ limits_of self }
     {
         match self {
+            Command::Run => &[PROGRAM_LIMIT, CASE_LIMIT],
             Command::Verify => &[IMAGE_LIMIT, CASE_LIMIT, BLOB_LIMIT],
             Command::Device => &[IMAGE_LIMIT, CASE_LIMIT],
         }
@@ -39,4 +45,4 @@ impl Command {
 }
 
 /// The commands of the program.
-pub const COMMANDS: [Command; 2] = [Command::Verify, Command::Device];
+pub const COMMANDS: [Command; 3] = [Command::Run, Command::Verify, Command::Device];

@@ -4,6 +4,7 @@ ghost use Rattle.oat_tool.specs.DefinedLaws.{LinesNameFiles, OneCommand, OneOutc
 ghost use Rattle.oat_tool.specs.CallLaws.{WholeIsPut, DefinedIsShown, TheDefinedIsShown, FrontIsPut, RefusalsAreQuiet, ReadFaultsAreTold};
 
 pub mod device;
+pub mod interpret;
 pub mod verify;
 
 /// Of each call whose contents are told.

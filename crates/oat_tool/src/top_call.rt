@@ -11,6 +11,7 @@ use crate::asked::{command_of, names_of};
 use crate::command::Command;
 use crate::device::device;
 use crate::files::{File, load_all};
+use crate::interpret::interpret;
 use crate::page::Halt;
 use crate::put::{finish, say, say_starved};
 use crate::texts::USAGE;
@@ -34,6 +35,7 @@ fn work<O: Sink, E: Sink>(
     ensures no_fault { result ≢ 4 }
 {
     match command {
+        Command::Run => finish(alloc, interpret(alloc, files), out, err),
         Command::Verify => finish(alloc, verify(alloc, files), out, err),
         Command::Device => finish(alloc, device(alloc, files), out, err),
     }

@@ -41,8 +41,33 @@ pub const FIRST_WINDOW: &str =
 const SECOND_WINDOW: &str =
     "4f41544202000100000001000102030405060708090a0b0c0d0e0fbfe3efe4b055175178c67a8c93f6d0ae70a60a153fd87742e3e744f78b114bf3a8aa04d29d219fccfbc7dce968c0ca98144b9673ace997f6689b8fd9a387e0a5000000000000000000c41e46eec7db97f74d78e5396552c1c2ac1b5a5e12e33a49b892f1c64a95ef86";
 
+/// An operation with nothing in it, and a main function that calls it.
+const IDLE: &str =
+    "operation 1 idle\nlocal z i64\nblock b0\nret z\nend\nmain\nlocal s i64\nblock b0\ncall s idle\nhalt\nend\n";
+
+/// A loop that scales, clips and adds its inputs.
+const LOOP: &str =
+    "critical limit 50\nglobal total 0\nfunc scale v:i64\nlocal k i64\nlocal r i64\nblock b0\nconst k 3\nmul r v k\nret r\nend\nfunc clip v:i64\nlocal m i64\nlocal c i64\nblock b0\nload m limit\nlt c m v\nbranch c over under\nblock over\nret m\nblock under\nret v\nend\noperation 7 measure n:i64\nlocal i i64\nlocal one i64\nlocal x i64\nlocal c i64\nlocal t i64\nblock b0\nconst one 1\njump test\nblock test\nlt c i n\nbranch c body done\nblock body\nin x\ncall x scale x\ncall x clip x\nload t total\nadd t t x\nstore total t\nout x\nadd i i one\njump test\nblock done\nload t total\nret t\nend\nmain\nlocal n i64\nlocal s i64\nblock b0\nconst n 5\ncall s measure n\nout s\nhalt\nend\n";
+
+/// A function that calls itself.
+const DEEP: &str =
+    "operation 1 idle\nlocal z i64\nblock b0\nret z\nend\nfunc down n:i64\nlocal one i64\nlocal r i64\nblock b0\nconst one 1\nsub n n one\nbranch n more stop\nblock more\ncall r down n\nadd r r one\nret r\nblock stop\nret one\nend\nmain\nlocal n i64\nlocal s i64\nblock b0\ncall s idle\nconst n 256\ncall s down n\nout s\nhalt\nend\n";
+
+/// A main function that prints an element of an array.
+const ELEMENT: &str =
+    "array a 4\noperation 1 idle\nlocal z i64\nblock b0\nret z\nend\nmain\nlocal i i64\nlocal x i64\nblock b0\nconst i 3\nloadx x a i\nout x\nhalt\nend\n";
+
 /// The texts of files.
-pub const FILES: [(&str, &str); 26] = [
+pub const FILES: [(&str, &str); 35] = [
+    ("I", IDLE),
+    ("S", LOOP),
+    ("R", DEEP),
+    ("INDEX_3", ELEMENT),
+    ("GLOBL", "globl x 1\n"),
+    ("NAME", "global 9x 1\n"),
+    ("LARGE", "global x 9223372036854775808\n"),
+    ("AGAIN", "global x 1\nglobal x 1\n"),
+    ("NOWHERE", "main\nblock b0\njump c\nend\n"),
     ("A", ONE_JUMP),
     ("B", CALLS),
     (
@@ -108,9 +133,19 @@ pub const FILES: [(&str, &str); 26] = [
 ];
 
 /// The texts of files that have one part of the case changed.
-pub const CASES: [(&str, &str, &str); 21] = [
+pub const CASES: [(&str, &str, &str); 23] = [
     ("K1", "100000\n", "100000\ncalls 1\n"),
     ("K2", "100000\n", "100000\ncalls 2\n"),
+    (
+        "KS",
+        "operation 1\nsteps 100000\n",
+        "operation 7\nsteps 100000\ninput 10\ninput 20\ninput 16\ninput 17\ninput 0\n",
+    ),
+    (
+        "KS_4",
+        "operation 1\nsteps 100000\n",
+        "operation 7\nsteps 100000\ninput 10\ninput 20\ninput 16\ninput 17\n",
+    ),
     (
         "KB",
         "operation 1\nsteps 100000\n",
@@ -214,7 +249,7 @@ pub const IMAGES: [(&str, &str, &str); 9] = [
 ];
 
 /// The texts of files that have one part of another text changed.
-pub const CHANGED: [(&str, &str, &str, &str); 7] = [
+pub const CHANGED: [(&str, &str, &str, &str); 14] = [
     ("VERSION", BLOB, "4f41544201", "4f41544203"),
     (
         "MOVED",
@@ -222,6 +257,23 @@ pub const CHANGED: [(&str, &str, &str, &str); 7] = [
         "4f41544202000100000000",
         "4f41544202000100000001",
     ),
+    (
+        "DIVIDES",
+        IDLE,
+        "block b0\ncall s idle\n",
+        "local a i64\nlocal b i64\nblock b0\nconst a -9223372036854775808\nconst b -1\ndiv s a b\nout s\nrem s a b\nout s\nconst b 0\ndiv s a b\n",
+    ),
+    ("INDEX_4", ELEMENT, "const i 3", "const i 4"),
+    ("INDEX_LESS", ELEMENT, "const i 3", "const i -1"),
+    (
+        "UNSET",
+        IDLE,
+        "block b0\ncall s idle\n",
+        "local f fn/0\nblock b0\nicall s f\n",
+    ),
+    ("R_257", DEEP, "const n 256", "const n 257"),
+    ("PLAIN", DEEP, "call r down n", "call r idle"),
+    ("ENDLESS", IDLE, "ret z", "jump b0"),
     ("BAD", CALLS, "blocks 2\n", "blocks 3\n0001005C bad\n"),
     ("LAST", BLOB, "f558a5", "f558a4"),
     (

@@ -1,0 +1,87 @@
+-- The room of `run`: where its work stops and goes on, that it has one answer, and what its status says.
+use Rattle.std.proofs.Common.{◌≡◌, ◌∙◌, ℕ, List, [], ◌∷◌, ap, sym, subst}
+use Rattle.oat_world.specs.Outside.{Contents}
+use Rattle.oat_ir.specs.declared.program.Program.{Program}
+use Rattle.oat_case.specs.declared.case.Case.{Case}
+use Rattle.oat_first.specs.First.{First, fails, passes, IsOne}
+use Rattle.oat_first.proofs.FirstLaws.{First-one, First-through}
+use Rattle.oat_tool.specs.declared.page.Stop.{Stop}
+use Rattle.oat_tool.specs.declared.command.Command.TheVariants as commands
+use Rattle.oat_tool.specs.Outcome.{Outcome}
+use Rattle.oat_tool.specs.Answer.{Answer, as_outcome}
+use Rattle.oat_tool.specs.Loads.{File, AreLoaded}
+use Rattle.oat_tool.specs.Commands.{files_of}
+use Rattle.oat_tool.specs.Programs.{IsCheckedText, RefusesProgram, IsCaseOf, RefusesCaseOf}
+use Rattle.oat_tool.specs.Interpret.{Interprets, ShowsSource}
+use Rattle.oat_tool.specs.InterpretLaws.{IsSourceRun, SourceRunIsShown, OneInterpretation}
+use Rattle.oat_tool.specs.Works.{StopsWith}
+use Rattle.oat_tool.proofs.Working.{StopsWith-more, IsDone}
+use Rattle.oat_tool.proofs.Programming.{program_is_decisive, case_of_is_decisive, refused_program_is_not_done, refused_case_is_not_done}
+use Rattle.oat_tool.proofs.Setting.{work_is_done}
+use Rattle.oat_tool.proofs.Answering.{work_is_of_command}
+
+-- what comes after the program
+abbrev Taking : File → Program → Answer → Type 0
+Taking case p = First Case Answer (IsCaseOf p case.text) (RefusesCaseOf p case) (λ c. ShowsSource p c)
+
+-- ---- where the work stops, and where it goes on to the run
+
+pub stops_at_program : (program case : File) (stop : Stop) → StopsWith (RefusesProgram program) stop → StopsWith (Interprets (program ∷ case ∷ [])) stop
+stops_at_program program case stop stops =
+    StopsWith-more (RefusesProgram program) (Interprets (program ∷ case ∷ [])) stop (λ a refused. fails refused) stops
+
+pub stops_at_case : (program case : File) (p : Program) (stop : Stop) → IsCheckedText program.text p → StopsWith (RefusesCaseOf p case) stop
+    → StopsWith (Interprets (program ∷ case ∷ [])) stop
+stops_at_case program case p stop checked stops =
+    StopsWith-more (RefusesCaseOf p case) (Interprets (program ∷ case ∷ [])) stop (λ a refused. passes p checked (fails refused)) stops
+
+pub interprets_taken : (program case : File) (p : Program) (c : Case) (a : Answer) → IsCheckedText program.text p → IsCaseOf p case.text c
+    → ShowsSource p c a → Interprets (program ∷ case ∷ []) a
+interprets_taken program case p c a checked given shown = passes p checked (passes c given shown)
+
+-- ---- one answer
+
+one_shown : (p : Program) (c : Case) → IsOne Answer (ShowsSource p c)
+one_shown p c a b one two = one ∙ sym two
+
+one_taking : (case : File) (p : Program) → IsOne Answer (Taking case p)
+one_taking case p =
+    First-one Case Answer (IsCaseOf p case.text) (RefusesCaseOf p case) (λ c. ShowsSource p c) (case_of_is_decisive p case) (λ c given. one_shown p c)
+
+pub one_interpretation : OneInterpretation
+one_interpretation [] a b one two = absurd one
+one_interpretation (program ∷ []) a b one two = absurd one
+one_interpretation (program ∷ case ∷ []) a b one two =
+    First-one Program Answer (IsCheckedText program.text) (RefusesProgram program) (Taking case) (program_is_decisive program)
+    (λ p checked. one_taking case p) a b one two
+one_interpretation (program ∷ case ∷ other ∷ files) a b one two = absurd one
+
+-- ---- what the status says
+
+run_shown : (words : List (List ℕ)) (contents : Contents) (files : List File) (a : Answer) → AreLoaded contents (files_of words commands.Run) files
+    → Interprets files a → IsDone (as_outcome a).status → IsSourceRun words contents (as_outcome a)
+run_shown words contents [] a held none is_done = absurd none
+run_shown words contents (program ∷ []) a held none is_done = absurd none
+run_shown words contents (program ∷ case ∷ []) a held interprets is_done =
+    let taken = First-through Program Answer (IsCheckedText program.text) (RefusesProgram program) (Taking case) a
+    (refused_program_is_not_done program a is_done) interprets in
+    let shown = First-through Case Answer (IsCaseOf taken.0 case.text) (RefusesCaseOf taken.0 case) (λ c. ShowsSource taken.0 c) a
+    (refused_case_is_not_done taken.0 case a is_done) taken.2 in
+    record {
+      program = program;
+      case = case;
+      held = held;
+      p = taken.0;
+      c = shown.0;
+      checked = taken.1;
+      given = shown.1;
+      is = ap as_outcome shown.2;
+    }
+run_shown words contents (program ∷ case ∷ other ∷ files) a held none is_done = absurd none
+
+pub source_run_is_shown : SourceRunIsShown
+source_run_is_shown words contents o asked defined work =
+    let answered = work_is_of_command words contents commands.Run o asked defined work in
+    subst (λ (p : Outcome). IsSourceRun words contents p) (sym answered.is)
+    (run_shown words contents answered.files answered.answer answered.held answered.given
+    (λ two. work_is_done o.status work (ap (λ (p : Outcome). p.status) answered.is ∙ two)))

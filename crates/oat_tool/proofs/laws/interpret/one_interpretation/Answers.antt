@@ -1,0 +1,5 @@
+use Rattle.oat_tool.proofs.Interpreting as room
+use Rattle.oat_tool.proofs.laws.interpret.one_interpretation.Goals as goal
+
+pub returns : goal.returns
+returns c = room.one_interpretation
