@@ -1,5 +1,5 @@
 -- The room of `run`: where its work stops and goes on, that it has one answer, and what its status says.
-use Rattle.std.proofs.Common.{◌≡◌, ◌∙◌, ℕ, List, [], ◌∷◌, ap, sym, subst}
+use Rattle.std.proofs.Common.{◌∙◌, ℕ, List, [], ◌∷◌, ap, sym, subst}
 use Rattle.oat_world.specs.Outside.{Contents}
 use Rattle.oat_ir.specs.declared.program.Program.{Program}
 use Rattle.oat_case.specs.declared.case.Case.{Case}

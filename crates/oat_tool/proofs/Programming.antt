@@ -1,9 +1,7 @@
 -- What is refused of a program's file and of its case's has one refusal, and isn't read.
-use Rattle.std.proofs.Common.{◌≡◌, ◌∙◌, ℕ, List, [], Bool, true, false, Option, Some, None, Result, Ok, Err, MatchResult, sym, ap, subst, IsTrue}
+use Rattle.std.proofs.Common.{◌≡◌, ◌∙◌, [], Bool, true, false, Option, Some, None, Result, Ok, Err, MatchResult, sym, ap, subst, IsTrue}
 use Rattle.oat_ir.specs.declared.program.Program.{Program}
-use Rattle.oat_lines.specs.declared.fault.Fault.{Fault}
 use Rattle.oat_lines.specs.FaultText.{fault_text}
-use Rattle.oat_text.specs.declared.fault.TextFaultKind.{TextFaultKind}
 use Rattle.oat_text.specs.FaultText.{kind_text}
 use Rattle.oat_text.specs.Grammar.{IsProgramText}
 use Rattle.oat_text.specs.Bodies.{program_of}
@@ -17,10 +15,9 @@ use Rattle.oat_tool.specs.declared.page.Stop.{Stop}
 use Rattle.oat_tool.specs.Answer.{Answer, refused, no_operation, as_outcome}
 use Rattle.oat_tool.specs.Loads.{File}
 use Rattle.oat_tool.specs.Programs.{rule_text, IsCheckedText, MisreadsProgram, BreaksCheck, RefusesProgram, misread, broken, IsCaseOf, RefusesCaseOf, misread_case, lacking}
-use Rattle.oat_tool.specs.Refusals.{RefusesCase}
 use Rattle.oat_tool.specs.Works.{StopsWith}
 use Rattle.oat_tool.proofs.Working.{StopsWith-more, IsDone, refused_is_not_done}
-use Rattle.oat_tool.proofs.Refusing.{ok_one, err_one, never, case_is_decisive}
+use Rattle.oat_tool.proofs.Refusing.{err_one, never, case_is_decisive}
 use Rattle.oat_text.proofs.TextLaws.{text_read, one_program}
 
 -- ---- where the stages stop

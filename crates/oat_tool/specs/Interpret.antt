@@ -1,6 +1,6 @@
 -- `run PROG CASE`: the first refusal of an input, or the lines of the program's run on the case's inputs, and then those
 -- of the first call of the case's operation where that completed (docs/FORMATS.md).
-use Rattle.std.specs.Prelude.{◌≡◌, ◌-◌, ℕ, List, [], ◌∷◌, ◌++◌, length, drop, if◌then◌else◌}
+use Rattle.std.specs.Prelude.{◌≡◌, ℕ, List, [], ◌∷◌, ◌++◌, if◌then◌else◌}
 use Rattle.std.specs.List.{flat_map}
 use Rattle.oat_ir.specs.declared.program.Program.{Program}
 use Rattle.oat_ir.specs.declared.source.SourceEdge.{SourceEdge}
