@@ -57,8 +57,20 @@ const DEEP: &str =
 const ELEMENT: &str =
     "array a 4\noperation 1 idle\nlocal z i64\nblock b0\nret z\nend\nmain\nlocal i i64\nlocal x i64\nblock b0\nconst i 3\nloadx x a i\nout x\nhalt\nend\n";
 
+/// The image of calls with its operation called twice.
+const CALLS_TWICE: &str =
+    "oat-image 1\ncode 46\n94000003\n94000002\nD4000001\nD10043FF\nF90003FE\nD2800049\nD4000021\n9400001B\n9400001A\nD280010B\nF2A8000B\nF9400169\nB5000049\nD4200060\nD4000081\nD63F0120\nD280000B\nF2A8000B\nF940016A\nD2800009\nD40000E1\nEB0A001F\n9A9FA7E9\nD4000061\nB5000049\n14000003\nD4000121\n14000001\nD2800049\nD4000041\nF94003FE\n910043FF\nD40000A1\nD65F03C0\nD10043FF\nF90003FE\nF94003FE\n910043FF\nD40000A1\nD65F03C0\nD28000E0\nD40000A1\nD65F03C0\nD2800180\nD40000A1\nD65F03C0\ndata 2\n0 000000000000000A\n1 00000000000100A0\ncells 1\n0\nfunctions 5\n00010000 main 0 0\n0001000C work 0 0\n00010088 helper 1 1\n000100A0 up 0 1\n000100AC down 0 1\nblocks 2\n00010068 yes\n00010070 done\nrows 15\ncall 00010000 0001000C\ncall 00010004 0001000C\nbegin 00010014 2\ncall 0001001C 00010088\ncall 00010020 00010088\ncheck 00010030\nicall 00010038 0\nuse 00010040 0\nbranch 0001005C 00010068 00010070\njump 0001006C 00010070\nend 00010070 2\nret 00010080\nret 00010098\nret 000100A4\nret 000100B0\nend\n";
+
+/// The lines of the blobs of its two windows in one session.
+pub const BLOBS_TWICE: &str =
+    "blob 4f41544202000200000000000102030405060708090a0b0c0d0e0ff5e2e9f59649eea03de14e58f19eb1b7e9809d0d2e69fb613013cfbf7a8ad6a2a8b037467ef7cd28aa08851bbbc6938496b5d32e5dca2ace259db2766da62f8d0000000001800000000100000000000100a0259629a92f6bb68b149263c68922d118260bd4363b2bfc3ae0112b8f5937001b\nblob 4f41544202000200000001000102030405060708090a0b0c0d0e0ff5e2e9f59649eea03de14e58f19eb1b7e9809d0d2e69fb613013cfbf7a8ad6a22749de00b370cbf0676e30347c2366618838c7becd9cd63fe7779077d83cb8290000000001800000000100000000000100a093aaad6550b0a4678b0d8f6d6efd581cceb408a886b4a2958076231a3c5ea3af\n";
+
+/// The same, with another value in the cell from between the two windows on.
+pub const BLOBS_BETWEEN: &str =
+    "blob 4f41544202000200000000000102030405060708090a0b0c0d0e0ff5e2e9f59649eea03de14e58f19eb1b7e9809d0d2e69fb613013cfbf7a8ad6a2a8b037467ef7cd28aa08851bbbc6938496b5d32e5dca2ace259db2766da62f8d0000000001800000000100000000000100a0259629a92f6bb68b149263c68922d118260bd4363b2bfc3ae0112b8f5937001b\nblob 4f41544202000200000001000102030405060708090a0b0c0d0e0ff5e2e9f59649eea03de14e58f19eb1b7e9809d0d2e69fb613013cfbf7a8ad6a22749de00b370cbf0676e30347c2366618838c7becd9cd63fe7779077d83cb8290100000000000000000000000a000000000000002000000001800000000100000000000100a005567a7fa7fd55223ea8de15048d65d16fefc02b6af2f3d27247624a53d5b5bc\n";
+
 /// The texts of files.
-pub const FILES: [(&str, &str); 35] = [
+pub const FILES: [(&str, &str); 37] = [
     ("I", IDLE),
     ("S", LOOP),
     ("R", DEEP),
@@ -70,6 +82,11 @@ pub const FILES: [(&str, &str); 35] = [
     ("NOWHERE", "main\nblock b0\njump c\nend\n"),
     ("A", ONE_JUMP),
     ("B", CALLS),
+    ("D", CALLS_TWICE),
+    (
+        "STALE",
+        "4f41544202000200000001000102030405060708090a0b0c0d0e0ff5e2e9f59649eea03de14e58f19eb1b7e9809d0d2e69fb613013cfbf7a8ad6a22749de00b370cbf0676e30347c2366618838c7becd9cd63fe7779077d83cb8290100000000000000000000000a000000000000002000000001800000000100000000000100a005567a7fa7fd55223ea8de15048d65d16fefc02b6af2f3d27247624a53d5b5bc",
+    ),
     (
         "C",
         "oat-image 1\ncode 3\nD2800029\nD4000021\n14000000\ndata 0\ncells 0\nfunctions 1\n00010000 main 0 0\nblocks 1\n00010008 loop\nrows 2\nbegin 00010000 1\njump 00010008 00010008\nend\n",
@@ -133,7 +150,7 @@ pub const FILES: [(&str, &str); 35] = [
 ];
 
 /// The texts of files that have one part of the case changed.
-pub const CASES: [(&str, &str, &str); 23] = [
+pub const CASES: [(&str, &str, &str); 26] = [
     ("K1", "100000\n", "100000\ncalls 1\n"),
     ("K2", "100000\n", "100000\ncalls 2\n"),
     (
@@ -150,6 +167,21 @@ pub const CASES: [(&str, &str, &str); 23] = [
         "KB",
         "operation 1\nsteps 100000\n",
         "operation 2\nsteps 100000\n",
+    ),
+    (
+        "KD2",
+        "operation 1\nsteps 100000\n",
+        "operation 2\nsteps 100000\ncalls 2\n",
+    ),
+    (
+        "KD3",
+        "operation 1\nsteps 100000\n",
+        "operation 2\nsteps 100000\ncalls 3\n",
+    ),
+    (
+        "BETWEEN",
+        "operation 1\nsteps 100000\n",
+        "operation 2\nsteps 100000\ncalls 2\nwrite 45 40000000 2000000000000000\n",
     ),
     (
         "ORDER",
