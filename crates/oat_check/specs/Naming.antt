@@ -23,7 +23,7 @@ site_of_line p at = source_site at.func at.block (count_by is_calling (take at.l
 
 abbrev pub written_edge : Program → LineEdge → SourceEdge
 written_edge p (jumps from block) = edges.Jump (site_of_line p from) (source_site from.func block 0)
-written_edge p (branches from bit block) = edges.Branch (site_of_line p from) bit (source_site from.func block 0)
+written_edge p (branches from bit block) = edges.Branch bit (site_of_line p from) (source_site from.func block 0)
 written_edge p (calls from func) = edges.Call (site_of_line p from) (source_site func 0 0)
 written_edge p (icalls from func) = edges.ICall (site_of_line p from) (source_site func 0 0)
 written_edge p (returns from back) = edges.Ret (site_of_line p from) (site_of_line p back)
@@ -41,7 +41,7 @@ source_site_name p site = record { place = source_block_name p site; number = si
 
 abbrev pub source_edge_name : Program → SourceEdge → EdgeName
 source_edge_name p (edges.Jump from to) = name.jump (source_site_name p from) (source_block_name p to)
-source_edge_name p (edges.Branch from bit to) = name.branch (source_site_name p from) bit (source_block_name p to)
+source_edge_name p (edges.Branch bit from to) = name.branch (source_site_name p from) bit (source_block_name p to)
 source_edge_name p (edges.Call from to) = name.call (source_site_name p from) (source_func_name p to)
 source_edge_name p (edges.ICall from to) = name.icall (source_site_name p from) (source_func_name p to)
 source_edge_name p (edges.Ret from to) = name.return (source_site_name p from) (source_site_name p to)

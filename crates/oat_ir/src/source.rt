@@ -33,9 +33,9 @@ pub enum SourceEdge {
         to: SourceSite,
     },
     Branch {
-        from: SourceSite,
-        /// Whether the branch goes to its first block.
+        /// Whether the branch goes to its first block. It stands in front, so that an edge has 28 bytes.
         bit: bool,
+        from: SourceSite,
         to: SourceSite,
     },
     Call {

@@ -83,7 +83,7 @@ fn branch_line(
     bit: bool,
     to: &SourceSite,
 ) -> Result<Vec<u8>, AllocError>
-    ensures { IfOk result (λ line. line.items ≡ source_edge_line program.now (SourceEdge.Branch from.now bit to.now)) }
+    ensures { IfOk result (λ line. line.items ≡ source_edge_line program.now (SourceEdge.Branch bit from.now to.now)) }
 {
     let mut line = begin_line(alloc, b"branch ", program, from)?;
     line.extend_from_slice(if bit { b"1" } else { b"0" })?;
@@ -134,7 +134,7 @@ pub fn source_line(
 {
     match edge {
         SourceEdge::Jump { from, to } => jump_line(alloc, program, from, to),
-        SourceEdge::Branch { from, bit, to } => branch_line(alloc, program, from, *bit, to),
+        SourceEdge::Branch { bit, from, to } => branch_line(alloc, program, from, *bit, to),
         SourceEdge::Call { from, to } => call_line(alloc, b"call ", program, from, to),
         SourceEdge::ICall { from, to } => call_line(alloc, b"icall ", program, from, to),
         SourceEdge::Ret { from, to } => return_line(alloc, program, from, to),
