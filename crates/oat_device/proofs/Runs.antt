@@ -24,7 +24,7 @@ use Rattle.oat_device.specs.declared.course.Course.{Course}
 use Rattle.oat_device.specs.Bare.{DoesFrom}
 use Rattle.oat_device.specs.DeviceRun.{DeviceRun, IsSealed, ReportsItsBody, bodies_so_far, reported, run_so_far, window_opening}
 use Rattle.oat_device.specs.Telling.{unnumbered}
-use Rattle.oat_device.specs.Standing.{HasMade, IsReady, engine_opening, progress_of, state_of, turns_of}
+use Rattle.oat_device.specs.Standing.{HasMade, IsReady, TakesTurn, engine_opening, progress_of, state_of, turns_of}
 
 -- ---- what is told of a run
 
@@ -67,7 +67,7 @@ next-left code left writes o p does =
 
 -- what one turn does
 pub record Turned (now next : Course) : Type 0 where
-  pub after : (o : Opening) → engine_opening now.engine ≡ Some (unnumbered o) → progress_of next ≡ measured_turn now.bare.code.now now.bare.writes.now o (progress_of now)
+  pub after : TakesTurn now next
   pub opening : engine_opening next.engine ≡ engine_opening now.engine
   pub steps : next.steps ≡ now.steps
   pub code : next.bare.code.now ≡ now.bare.code.now

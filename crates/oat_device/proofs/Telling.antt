@@ -17,7 +17,7 @@ use Rattle.oat_device.specs.declared.bare.BareRun.{BareRun}
 use Rattle.oat_device.specs.declared.course.Course.{Course}
 use Rattle.oat_device.specs.Records.{bits_taken, targets_taken}
 use Rattle.oat_device.specs.Standing.{HasShelfRoom, LeavesRoom, bits_held, shelf_bits, shelf_targets, targets_held, windows_to_come}
-use Rattle.oat_device.specs.Telling.{FitsShelf, GoesOn, measurements_of, outcome, unnumbered, windows_due}
+use Rattle.oat_device.specs.Telling.{FitsShelf, Settles, measurements_of, outcome, unnumbered, windows_due}
 
 -- ---- the records that a call takes
 
@@ -163,7 +163,7 @@ abbrev pub course_of : BareRun → ℕ → Engine → BodyShelf → Course
 course_of bare steps e shelf = record { bare = bare; steps = steps; engine = Some e; shelf = shelf }
 
 pub told-leaves : (bare bare_next : BareRun) (steps steps_next : ℕ) (e told after : Engine) (shelf next : BodyShelf) (call : MonitorCall)
-    → HasRoomFor call e shelf → TakesRoom call e told → Ok (engine_state told) ≡ measured (engine_shown e).opening (engine_state e) (Some call) → GoesOn told after shelf next
+    → HasRoomFor call e shelf → TakesRoom call e told → Ok (engine_state told) ≡ measured (engine_shown e).opening (engine_state e) (Some call) → Settles told after shelf next
     → LeavesRoom (bits_taken call) (targets_taken call) (course_of bare steps e shelf) (course_of bare_next steps_next after next)
 told-leaves bare bare_next steps steps_next e told after shelf next call has takes is goes =
     let g = grown (engine_shown e).opening (engine_state e) (engine_state told) call is in

@@ -15,7 +15,9 @@ use Rattle.oat_device.specs.declared.course.Course.{Course}
 use Rattle.oat_device.specs.Bare.{DoesFrom, running_of}
 use Rattle.oat_device.specs.Telling.{unnumbered, windows_due}
 use Rattle.oat_journal.specs.Measured.{dev, opening_of}
-use Rattle.oat_journal.specs.Progress.{Progress, progress_of_run}
+use Rattle.oat_journal.specs.Progress.{Progress, measured_turn, progress_of_run, with_measurement}
+use Rattle.oat_measure.specs.declared.call.MonitorCall.{MonitorCall}
+use Rattle.oat_measure.specs.Shelving.{measured_on}
 
 -- ---- what a device's values stand for
 
@@ -29,6 +31,16 @@ progress_of device = record { running = running_of device.bare; measurements = r
 -- what the device's windows are opened for
 abbrev pub engine_opening : Option Engine → Option Opening
 engine_opening engine = option_map (λ held. unnumbered (engine_shown held).opening) engine
+
+-- The monitor has taken a call, in whichever session.
+abbrev pub TakesCall : MonitorCall → Course → Course → Type 0
+TakesCall call old new =
+    (o : Opening) → engine_opening old.engine ≡ Some (unnumbered o) → progress_of new ≡ with_measurement (progress_of old) (measured_on o (progress_of old).measurements (Some call))
+
+-- It has made one turn of the run, in whichever session.
+abbrev pub TakesTurn : Course → Course → Type 0
+TakesTurn old new =
+    (o : Opening) → engine_opening old.engine ≡ Some (unnumbered o) → progress_of new ≡ measured_turn old.bare.code.now old.bare.writes.now o (progress_of old)
 
 -- ---- room for what is still to come
 

@@ -31,7 +31,7 @@ pub record FitsShelf (engine : Engine) (shelf : BodyShelf) : Type 0 where
   pub bodies : windows_due (engine_shown engine).opening ≤ shelf.spare_bodies
 
 -- An engine goes on with the same session: with the room that it had, or with all of it free. Of the shelf's room is taken what goes there.
-pub record GoesOn (old new : Engine) (before after : BodyShelf) : Type 0 where
+pub record Settles (old new : Engine) (before after : BodyShelf) : Type 0 where
   pub opening : unnumbered (engine_shown new).opening ≡ unnumbered (engine_shown old).opening
   pub room : (engine_shown new).room ≡ (engine_shown old).room
   pub spare_bits : ((engine_shown new).spare_bits ≡ (engine_shown old).spare_bits) ⊎ ((engine_shown new).room ≤ (engine_shown new).spare_bits)

@@ -1,13 +1,10 @@
 //! The run of a device in the making: turn by turn the bare run, and the monitor that takes its calls.
 ghost use Rattle.std.specs.Prelude.{◌≡◌, ◌<◌, ◌≤◌, ◌+◌, IsSome, None, Some};
 ghost use Rattle.oat_cpu.specs.Processor.{regs_of};
-ghost use Rattle.oat_measure.specs.declared.opening.Opening.{Opening as OpeningGiven};
-ghost use Rattle.oat_measure.specs.Shelving.{measured_on};
 ghost use Rattle.oat_device.specs.Bare.{DoesFrom};
 ghost use Rattle.oat_device.specs.Records.{bits_taken, targets_taken};
-ghost use Rattle.oat_device.specs.Standing.{HasShelfRoom, IsReady, LeavesRoom, engine_opening, progress_of, shelf_bits, shelf_targets, spare_bits, spare_targets};
-ghost use Rattle.oat_device.specs.Telling.{unnumbered};
-ghost use Rattle.oat_journal.specs.Progress.{with_measurement, call_told, measured_turn};
+ghost use Rattle.oat_device.specs.Standing.{HasShelfRoom, IsReady, LeavesRoom, TakesCall, TakesTurn, engine_opening, shelf_bits, shelf_targets, spare_bits, spare_targets};
+ghost use Rattle.oat_journal.specs.Progress.{call_told};
 
 use crate::bare::BareRun;
 use crate::call::call_numbered;
@@ -46,7 +43,7 @@ impl<'a> Course<'a> {
         requires shelf { HasShelfRoom self.old }
         requires bits_to_shelve { bits_taken call ≤ shelf_bits self.old }
         requires targets_to_shelve { targets_taken call ≤ shelf_targets self.old }
-        ensures after { (o : OpeningGiven) → engine_opening self.old.engine ≡ Some (unnumbered o) → progress_of self.new ≡ with_measurement (progress_of self.old) (measured_on o (progress_of self.old).measurements (Some call)) }
+        ensures after { TakesCall call self.old self.new }
         ensures opening { engine_opening self.new.engine ≡ engine_opening self.old.engine }
         ensures room { LeavesRoom (bits_taken call) (targets_taken call) self.old self.new }
         ensures steps { self.new.steps ≡ self.old.steps }
@@ -66,7 +63,7 @@ impl<'a> Course<'a> {
         requires going { self.old.bare.end ≡ None }
         requires left { self.old.bare.made < self.old.steps }
         requires ready { IsReady self.old }
-        ensures after { (o : OpeningGiven) → engine_opening self.old.engine ≡ Some (unnumbered o) → progress_of self.new ≡ measured_turn self.old.bare.code.now self.old.bare.writes.now o (progress_of self.old) }
+        ensures after { TakesTurn self.old self.new }
         ensures opening { engine_opening self.new.engine ≡ engine_opening self.old.engine }
         ensures steps { self.new.steps ≡ self.old.steps }
         ensures code { self.new.bare.code.now ≡ self.old.bare.code.now }

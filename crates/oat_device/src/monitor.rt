@@ -6,7 +6,7 @@ ghost use Rattle.oat_measure.specs.declared.call.MonitorCall.TheVariants as svc;
 ghost use Rattle.oat_measure.specs.Monitored.{Keeps, state_at};
 ghost use Rattle.oat_measure.specs.Transitions.{engine_shown, engine_state};
 ghost use Rattle.oat_device.specs.Records.{bits_taken, targets_taken};
-ghost use Rattle.oat_device.specs.Telling.{FitsShelf, GoesOn, measurements_of, outcome};
+ghost use Rattle.oat_device.specs.Telling.{FitsShelf, Settles, measurements_of, outcome};
 ghost use Rattle.oat_measure.specs.Shelving.{settled};
 
 use oat_measure::{
@@ -95,7 +95,7 @@ pub fn told(engine: Engine, call: MonitorCall) -> (Engine, Option<StopKind>)
 fn shelved_where_due(sealed: Sealed, shelf: &mut Shelf) -> Engine
     requires fits { FitsShelf (EngineOf.After sealed) shelf.old }
     ensures measurements { measurements_of result shelf.new ≡ settled sealed.opening (measurements_of (EngineOf.After sealed) shelf.old) }
-    ensures goes_on { GoesOn (EngineOf.After sealed) result shelf.old shelf.new }
+    ensures goes_on { Settles (EngineOf.After sealed) result shelf.old shelf.new }
 {
     if sealed.is_due() {
         Engine::Before(sealed.next(shelf))
@@ -108,7 +108,7 @@ fn shelved_where_due(sealed: Sealed, shelf: &mut Shelf) -> Engine
 pub fn settled(engine: Engine, shelf: &mut Shelf) -> Engine
     requires fits { FitsShelf engine shelf.old }
     ensures measurements { measurements_of result shelf.new ≡ settled (engine_shown engine).opening (measurements_of engine shelf.old) }
-    ensures goes_on { GoesOn engine result shelf.old shelf.new }
+    ensures goes_on { Settles engine result shelf.old shelf.new }
 {
     match engine {
         Engine::After(sealed) => shelved_where_due(sealed, shelf),

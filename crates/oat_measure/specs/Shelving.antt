@@ -26,8 +26,8 @@ pub record Measurements : Type 0 where
   pub state : State
 
 -- The first window of a session: windows are numbered from 0, and there is at least one, or there is one without a number.
-abbrev pub IsFirst : Opening → Type 0
-IsFirst o = MatchOption o.serial (o.calls ≡ 1) (λ serial. (serial ≡ 0) × (1 ≤ o.calls))
+abbrev pub IsFirstWindow : Opening → Type 0
+IsFirstWindow o = MatchOption o.serial (o.calls ≡ 1) (λ serial. (serial ≡ 0) × (1 ≤ o.calls))
 
 -- a session that starts
 abbrev pub at_start : Opening → Cells → Measurements

@@ -4,7 +4,7 @@ ghost use Rattle.std.specs.Prelude.{◌≡◌, ◌+◌, ◌≤◌, ℕ, [], ◌�
 ghost use Rattle.oat_measure.specs.Measurement.{booted, measured, unmeasured, measuring, sealed};
 ghost use Rattle.oat_measure.specs.declared.call.MonitorCall.TheVariants as svc;
 ghost use Rattle.oat_measure.specs.Monitored.{Keeps, cells_of, state_at};
-ghost use Rattle.oat_measure.specs.Shelving.{IsFirst, body_head, body_of, is_due, next_opening, reopened};
+ghost use Rattle.oat_measure.specs.Shelving.{IsFirstWindow, body_head, body_of, is_due, next_opening, reopened};
 ghost use Rattle.oat_measure.specs.Transitions.{begun_shown, begun_state, BegunUnchanged, ended_shown, ended_state, EndedUnchanged};
 
 use crate::cells::{define, unsound};
@@ -136,7 +136,7 @@ impl Unmeasured {
         cells: &[u64],
         room: usize,
     ) -> Result<Unmeasured, AllocError>
-        requires first { IsFirst opening }
+        requires first { IsFirstWindow opening }
         requires few { length cells.now ≤ 65536 }
         ensures state { IfOk result (λ made. state_at unmeasured made ≡ booted opening.serial (cells_of cells.now)) }
         ensures opening { IfOk result (λ made. made.opening ≡ opening) }
