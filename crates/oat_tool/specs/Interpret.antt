@@ -39,12 +39,12 @@ abbrev pub source_text : SourceRun → List ℕ
 source_text run = source_run_text run ++ source_path_text run.program (path_told run)
 
 -- the run of a program on a case's inputs; the case's writes have no effect
-abbrev pub source_run : Program → Case → SourceRun
-source_run p c = whole_run p c.inputs c.session.op c.steps
+abbrev pub case_run : Program → Case → SourceRun
+case_run p c = whole_run p c.inputs c.session.op c.steps
 
 -- The run is shown.
 abbrev pub ShowsSource : Program → Case → Answer → Type 0
-ShowsSource p c a = a ≡ shows Done (source_text (source_run p c)) []
+ShowsSource p c a = a ≡ shows Done (source_text (case_run p c)) []
 
 abbrev pub Interprets : List File → Answer → Type 0
 Interprets (program ∷ case ∷ []) a =

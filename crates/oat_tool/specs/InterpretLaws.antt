@@ -12,7 +12,7 @@ use Rattle.oat_tool.specs.Commands.{IsLine, files_of}
 use Rattle.oat_tool.specs.Programs.{IsCheckedText, IsCaseOf}
 use Rattle.oat_tool.specs.Defined.{Defined}
 use Rattle.oat_tool.specs.DefinedLaws.{IsOfWork}
-use Rattle.oat_tool.specs.Interpret.{Interprets, source_run, source_text}
+use Rattle.oat_tool.specs.Interpret.{Interprets, case_run, source_text}
 
 -- The files that the words name hold a checked program and a case for one of its operations, and the outcome is the text
 -- of the run that the program makes on the case's inputs in at most so many steps, with status 0.
@@ -24,7 +24,7 @@ pub record IsSourceRun (words : List (List ℕ)) (contents : Contents) (o : Outc
   pub c : Case
   pub checked : IsCheckedText program.text p
   pub given : IsCaseOf p case.text c
-  pub is : o ≡ record { status = 0; out = source_text (source_run p c); err = [] }
+  pub is : o ≡ record { status = 0; out = source_text (case_run p c); err = [] }
 
 -- A status of work is 0, and is that of the run.
 abbrev pub SourceRunIsShown : Type 0

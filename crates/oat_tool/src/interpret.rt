@@ -3,7 +3,7 @@ ghost use Rattle.oat_case.specs.Limits.{IsWellFormedCase};
 ghost use Rattle.oat_tool.specs.declared.command.Command.TheVariants as commands;
 ghost use Rattle.oat_tool.specs.Commands.{limits_of};
 ghost use Rattle.oat_tool.specs.Works.{Works, answer_in};
-ghost use Rattle.oat_tool.specs.Interpret.{end_told, path_told, source_run, source_run_text, Interprets, ShowsSource};
+ghost use Rattle.oat_tool.specs.Interpret.{end_told, path_told, case_run, source_run_text, Interprets, ShowsSource};
 
 use crate::files::File;
 use crate::page::{Ended, Page, Stop};
@@ -44,14 +44,14 @@ fn path_told(alloc: Global, source: &Source<'_>) -> Result<Vec<SourceEdge>, Allo
 }
 
 /// The run of a program on the inputs of a case: its lines, and its path.
-fn source_run<'a>(
+fn case_run<'a>(
     alloc: Global,
     checked: &'a Checked,
     case: &'a Case,
 ) -> Result<(RunLines, Vec<SourceEdge>), AllocError>
     requires { IsWellFormedCase case.now }
-    ensures lines { IfOk result (λ made. ⟦<RunLines as Pieces>⟧.text made.0 ≡ source_run_text (source_run checked.now case.now)) }
-    ensures path { IfOk result (λ made. made.1.items ≡ path_told (source_run checked.now case.now)) }
+    ensures lines { IfOk result (λ made. ⟦<RunLines as Pieces>⟧.text made.0 ≡ source_run_text (case_run checked.now case.now)) }
+    ensures path { IfOk result (λ made. made.1.items ≡ path_told (case_run checked.now case.now)) }
 {
     let inputs = case.inputs.as_slice();
     let mut source = Source::start(alloc, checked, inputs, case.session.op, case.steps)?;
@@ -70,7 +70,7 @@ fn interpret_case(
     requires { IsWellFormedCase case.now }
     ensures { IfOk result (λ page. ShowsSource checked case.now (answer_in ⟦<RunAndPath as Pieces>⟧.text page)) }
 {
-    let (lines, path) = source_run(alloc, &checked, case)?;
+    let (lines, path) = case_run(alloc, &checked, case)?;
     Ok(Page {
         ended: Ended::Done,
         pieces: Then {

@@ -1,7 +1,7 @@
 use Rattle.std.proofs.Common.{◌∙◌, ap}
 use Rattle.oat_meaning.specs.SourceRun.{SourceRun}
 use Rattle.oat_tool.specs.Interpret.{path_told}
-use Rattle.oat_tool.proofs.interpret.source_run.Goals as goal
+use Rattle.oat_tool.proofs.interpret.case_run.Goals as goal
 
 pub returns-clause-path : goal.returns-clause-path
 returns-clause-path c =
