@@ -41,22 +41,6 @@ pub const FIRST_WINDOW: &str =
 const SECOND_WINDOW: &str =
     "4f41544202000100000001000102030405060708090a0b0c0d0e0fbfe3efe4b055175178c67a8c93f6d0ae70a60a153fd87742e3e744f78b114bf3a8aa04d29d219fccfbc7dce968c0ca98144b9673ace997f6689b8fd9a387e0a5000000000000000000c41e46eec7db97f74d78e5396552c1c2ac1b5a5e12e33a49b892f1c64a95ef86";
 
-/// An operation with nothing in it, and a main function that calls it.
-const IDLE: &str =
-    "operation 1 idle\nlocal z i64\nblock b0\nret z\nend\nmain\nlocal s i64\nblock b0\ncall s idle\nhalt\nend\n";
-
-/// A loop that scales, clips and adds its inputs.
-const LOOP: &str =
-    "critical limit 50\nglobal total 0\nfunc scale v:i64\nlocal k i64\nlocal r i64\nblock b0\nconst k 3\nmul r v k\nret r\nend\nfunc clip v:i64\nlocal m i64\nlocal c i64\nblock b0\nload m limit\nlt c m v\nbranch c over under\nblock over\nret m\nblock under\nret v\nend\noperation 7 measure n:i64\nlocal i i64\nlocal one i64\nlocal x i64\nlocal c i64\nlocal t i64\nblock b0\nconst one 1\njump test\nblock test\nlt c i n\nbranch c body done\nblock body\nin x\ncall x scale x\ncall x clip x\nload t total\nadd t t x\nstore total t\nout x\nadd i i one\njump test\nblock done\nload t total\nret t\nend\nmain\nlocal n i64\nlocal s i64\nblock b0\nconst n 5\ncall s measure n\nout s\nhalt\nend\n";
-
-/// A function that calls itself.
-const DEEP: &str =
-    "operation 1 idle\nlocal z i64\nblock b0\nret z\nend\nfunc down n:i64\nlocal one i64\nlocal r i64\nblock b0\nconst one 1\nsub n n one\nbranch n more stop\nblock more\ncall r down n\nadd r r one\nret r\nblock stop\nret one\nend\nmain\nlocal n i64\nlocal s i64\nblock b0\ncall s idle\nconst n 256\ncall s down n\nout s\nhalt\nend\n";
-
-/// A main function that prints an element of an array.
-const ELEMENT: &str =
-    "array a 4\noperation 1 idle\nlocal z i64\nblock b0\nret z\nend\nmain\nlocal i i64\nlocal x i64\nblock b0\nconst i 3\nloadx x a i\nout x\nhalt\nend\n";
-
 /// The image of calls with its operation called twice.
 const CALLS_TWICE: &str =
     "oat-image 1\ncode 46\n94000003\n94000002\nD4000001\nD10043FF\nF90003FE\nD2800049\nD4000021\n9400001B\n9400001A\nD280010B\nF2A8000B\nF9400169\nB5000049\nD4200060\nD4000081\nD63F0120\nD280000B\nF2A8000B\nF940016A\nD2800009\nD40000E1\nEB0A001F\n9A9FA7E9\nD4000061\nB5000049\n14000003\nD4000121\n14000001\nD2800049\nD4000041\nF94003FE\n910043FF\nD40000A1\nD65F03C0\nD10043FF\nF90003FE\nF94003FE\n910043FF\nD40000A1\nD65F03C0\nD28000E0\nD40000A1\nD65F03C0\nD2800180\nD40000A1\nD65F03C0\ndata 2\n0 000000000000000A\n1 00000000000100A0\ncells 1\n0\nfunctions 5\n00010000 main 0 0\n0001000C work 0 0\n00010088 helper 1 1\n000100A0 up 0 1\n000100AC down 0 1\nblocks 2\n00010068 yes\n00010070 done\nrows 15\ncall 00010000 0001000C\ncall 00010004 0001000C\nbegin 00010014 2\ncall 0001001C 00010088\ncall 00010020 00010088\ncheck 00010030\nicall 00010038 0\nuse 00010040 0\nbranch 0001005C 00010068 00010070\njump 0001006C 00010070\nend 00010070 2\nret 00010080\nret 00010098\nret 000100A4\nret 000100B0\nend\n";
@@ -70,16 +54,7 @@ pub const BLOBS_BETWEEN: &str =
     "blob 4f41544202000200000000000102030405060708090a0b0c0d0e0ff5e2e9f59649eea03de14e58f19eb1b7e9809d0d2e69fb613013cfbf7a8ad6a2a8b037467ef7cd28aa08851bbbc6938496b5d32e5dca2ace259db2766da62f8d0000000001800000000100000000000100a0259629a92f6bb68b149263c68922d118260bd4363b2bfc3ae0112b8f5937001b\nblob 4f41544202000200000001000102030405060708090a0b0c0d0e0ff5e2e9f59649eea03de14e58f19eb1b7e9809d0d2e69fb613013cfbf7a8ad6a22749de00b370cbf0676e30347c2366618838c7becd9cd63fe7779077d83cb8290100000000000000000000000a000000000000002000000001800000000100000000000100a005567a7fa7fd55223ea8de15048d65d16fefc02b6af2f3d27247624a53d5b5bc\n";
 
 /// The texts of files.
-pub const FILES: [(&str, &str); 37] = [
-    ("I", IDLE),
-    ("S", LOOP),
-    ("R", DEEP),
-    ("INDEX_3", ELEMENT),
-    ("GLOBL", "globl x 1\n"),
-    ("NAME", "global 9x 1\n"),
-    ("LARGE", "global x 9223372036854775808\n"),
-    ("AGAIN", "global x 1\nglobal x 1\n"),
-    ("NOWHERE", "main\nblock b0\njump c\nend\n"),
+pub const FILES: [(&str, &str); 28] = [
     ("A", ONE_JUMP),
     ("B", CALLS),
     ("D", CALLS_TWICE),
@@ -150,19 +125,9 @@ pub const FILES: [(&str, &str); 37] = [
 ];
 
 /// The texts of files that have one part of the case changed.
-pub const CASES: [(&str, &str, &str); 26] = [
+pub const CASES: [(&str, &str, &str); 24] = [
     ("K1", "100000\n", "100000\ncalls 1\n"),
     ("K2", "100000\n", "100000\ncalls 2\n"),
-    (
-        "KS",
-        "operation 1\nsteps 100000\n",
-        "operation 7\nsteps 100000\ninput 10\ninput 20\ninput 16\ninput 17\ninput 0\n",
-    ),
-    (
-        "KS_4",
-        "operation 1\nsteps 100000\n",
-        "operation 7\nsteps 100000\ninput 10\ninput 20\ninput 16\ninput 17\n",
-    ),
     (
         "KB",
         "operation 1\nsteps 100000\n",
@@ -281,7 +246,7 @@ pub const IMAGES: [(&str, &str, &str); 9] = [
 ];
 
 /// The texts of files that have one part of another text changed.
-pub const CHANGED: [(&str, &str, &str, &str); 14] = [
+pub const CHANGED: [(&str, &str, &str, &str); 7] = [
     ("VERSION", BLOB, "4f41544201", "4f41544203"),
     (
         "MOVED",
@@ -289,23 +254,6 @@ pub const CHANGED: [(&str, &str, &str, &str); 14] = [
         "4f41544202000100000000",
         "4f41544202000100000001",
     ),
-    (
-        "DIVIDES",
-        IDLE,
-        "block b0\ncall s idle\n",
-        "local a i64\nlocal b i64\nblock b0\nconst a -9223372036854775808\nconst b -1\ndiv s a b\nout s\nrem s a b\nout s\nconst b 0\ndiv s a b\n",
-    ),
-    ("INDEX_4", ELEMENT, "const i 3", "const i 4"),
-    ("INDEX_LESS", ELEMENT, "const i 3", "const i -1"),
-    (
-        "UNSET",
-        IDLE,
-        "block b0\ncall s idle\n",
-        "local f fn/0\nblock b0\nicall s f\n",
-    ),
-    ("R_257", DEEP, "const n 256", "const n 257"),
-    ("PLAIN", DEEP, "call r down n", "call r idle"),
-    ("ENDLESS", IDLE, "ret z", "jump b0"),
     ("BAD", CALLS, "blocks 2\n", "blocks 3\n0001005C bad\n"),
     ("LAST", BLOB, "f558a5", "f558a4"),
     (
