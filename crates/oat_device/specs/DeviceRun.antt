@@ -1,13 +1,14 @@
 -- The run that a device has made so far, in the words of the measured run (docs/DEFINITIONS.md, "Measured run").
-use Rattle.std.specs.Prelude.{◌≡◌, ℕ, List, [], ◌∷◌, ◌++◌}
+use Rattle.std.specs.Prelude.{◌≡◌, ◌<◌, ℕ, ℤ, List, [], ◌∷◌, ◌++◌, length}
 use Rattle.oat_blob.specs.Body.{Body}
 use Rattle.oat_case.specs.declared.case.Case.{Case}
+use Rattle.oat_case.specs.declared.case.Write.{Write}
 use Rattle.oat_image.specs.declared.image.Image.{Image}
 use Rattle.oat_map.specs.Rows.{BeginsAt}
 use Rattle.oat_measure.specs.declared.opening.Opening.{Opening}
 use Rattle.oat_measure.specs.Measurement.{sealed}
 use Rattle.oat_measure.specs.Monitored.{Monitored, state_at}
-use Rattle.oat_measure.specs.Shelving.{body_of, sealed_bodies}
+use Rattle.oat_measure.specs.Shelving.{IsFirstWindow, body_of, sealed_bodies}
 use Rattle.oat_journal.specs.Measured.{HasBody, ReportsSoundness, Run, TellsItsWindow, dev, opening_of}
 
 -- A device is an image, a case, the address of the SVC that opens its windows, and a number of instructions: it has made the measured run of so many of them, or of all where that ended.
@@ -63,3 +64,12 @@ pub record HasRun (device : DeviceRun) (given : Image) (asked : Case) : Type 0 w
 abbrev pub StepsMakeTheRun : Type 0
 StepsMakeTheRun =
     (given : Image) (asked : Case) (old new : DeviceRun) → IsAtStart old given asked → new ≡ record old { turns = old.case.steps } → HasRun new given asked
+
+-- A run whose last window has sealed has all the bodies that its session calls for, and any other run has fewer.
+pub record CountsItsWindows (o : Opening) (run : Run) : Type 0 where
+  pub all : IsSealed run → length (sealed_bodies o run.measurements) ≡ o.calls
+  pub fewer : (IsSealed run → ⊥) → length (sealed_bodies o run.measurements) < o.calls
+
+-- Each run of a session does, whatever is given and written.
+abbrev pub WindowsAreCounted : Type 0
+WindowsAreCounted = (image : Image) (o : Opening) (inputs : List ℤ) (writes : List Write) (n : ℕ) → IsFirstWindow o → CountsItsWindows o (dev image o inputs writes n)
