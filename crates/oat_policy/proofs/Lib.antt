@@ -5,3 +5,4 @@ mod InTurn
 mod Standings
 mod Loop
 mod Spacing
+mod SplitLines

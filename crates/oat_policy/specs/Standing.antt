@@ -45,7 +45,7 @@ standing flow path rule = record { count = counted flow rule path; broken = firs
 abbrev pub standings : Map → List Edge → List PolicyRule → List Standing
 standings flow path policy = map (λ rule. standing flow path rule.rule) policy
 
-pub record StandsFor (watch : Watch) (policy : List PolicyRule) (flow : Map) (path : List Edge) : Type 0 where
+pub record HasSeen (watch : Watch) (policy : List PolicyRule) (flow : Map) (path : List Edge) : Type 0 where
   pub same_policy : watch.policy.now ≡ policy
   pub same_map : watch.map.now ≡ flow
   pub given : watch.given ≡ length path

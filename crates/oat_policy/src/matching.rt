@@ -6,7 +6,7 @@ ghost use Rattle.std.specs.Str.{bytes_eq};
 ghost use Rattle.std.specs.Fmt.{decimal};
 ghost use Rattle.oat_map.specs.EdgeName.{place_name, block_name, function_below, site, call_site};
 ghost use Rattle.oat_report.specs.PathLine.{name_in, place_text, site_text, bit_text, address_digits};
-ghost use Rattle.oat_policy.specs.Behind.{rest_behind, is_whole};
+ghost use Rattle.oat_policy.specs.Behind.{rest_behind, rest_behind_three, is_whole};
 ghost use Rattle.oat_policy.specs.EdgeWords.{meets, meets_each, matches};
 
 use crate::policy::Pattern;
@@ -51,7 +51,7 @@ fn rest_behind_three<'a>(
     third: &[u8],
     text: &'a [u8],
 ) -> Option<&'a [u8]>
-    ensures { option_copied result ≡ option_and_then (rest_behind third.now) (option_and_then (rest_behind second.now) (rest_behind first.now text.now)) }
+    ensures { option_copied result ≡ rest_behind_three first.now second.now third.now text.now }
 {
     let rest = rest_behind(first, text)?;
     let rest = rest_behind(second, rest)?;
@@ -97,7 +97,7 @@ fn rest_behind_numbered<'a>(
     number: usize,
     text: &'a [u8],
 ) -> Option<&'a [u8]>
-    ensures { option_copied result ≡ option_and_then (rest_behind (decimal number)) (option_and_then (rest_behind (codes "#")) (rest_behind (place_text (option_and_then (place_name map.now) place)) text.now)) }
+    ensures { option_copied result ≡ rest_behind_three (place_text (option_and_then (place_name map.now) place)) (codes "#") (decimal number) text.now }
 {
     let rest = rest_behind_some_place(map, place, text)?;
     let rest = rest_behind(b"#", rest)?;

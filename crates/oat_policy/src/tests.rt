@@ -98,7 +98,7 @@ fn the_first_broken_rule_is_told(rt: HostRuntime) -> Result<(), Fail> {
             "in {text:?}"
         );
     }
-    laws::words_make_the_line();
+    laws::words_of_lines();
     Ok(())
 }
 

@@ -22,12 +22,12 @@ impl<'a> Watch<'a> {
     ghost use Rattle.oat_map.specs.declared.map.Map.{Map};
     ghost use Rattle.oat_map.specs.declared.edge.Edge.{Edge};
     ghost use Rattle.oat_policy.specs.declared.policy.PolicyRule.{PolicyRule};
-    ghost use Rattle.oat_policy.specs.Standing.{StandsFor};
+    ghost use Rattle.oat_policy.specs.Standing.{HasSeen};
     ghost use Rattle.oat_policy.specs.Verdict.{verdict_of};
 
     /// Takes all the memory that watching needs.
     pub fn new(alloc: Global, policy: &'a Policy, map: &'a Map) -> Result<Watch<'a>, AllocError>
-        ensures { IfOk result (λ watch. StandsFor watch policy.now map.now []) }
+        ensures { IfOk result (λ watch. HasSeen watch policy.now map.now []) }
     {
         let start = Standing {
             count: 0,
@@ -44,8 +44,8 @@ impl<'a> Watch<'a> {
     /// Takes the path's next edge.
     pub fn edge(&mut self, edge: &Edge)
         requires room { self.old.given < 4194304 }
-        ensures { (policy : List PolicyRule) (flow : Map) (path : List Edge) → StandsFor self.old policy flow path
-            → StandsFor self.new policy flow (path ++ edge.now ∷ []) }
+        ensures { (policy : List PolicyRule) (flow : Map) (path : List Edge) → HasSeen self.old policy flow path
+            → HasSeen self.new policy flow (path ++ edge.now ∷ []) }
     {
         self.given += 1;
         follow(
@@ -59,7 +59,7 @@ impl<'a> Watch<'a> {
 
     /// The verdict on the edges that were given.
     pub fn finish(self) -> PolicyVerdict
-        ensures { (policy : List PolicyRule) (flow : Map) (path : List Edge) → StandsFor self.entry policy flow path → result ≡ verdict_of flow policy path }
+        ensures { (policy : List PolicyRule) (flow : Map) (path : List Edge) → HasSeen self.entry policy flow path → result ≡ verdict_of flow policy path }
     {
         first_broken(
             self.policy.as_slice(),
