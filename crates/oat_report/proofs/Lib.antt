@@ -1,5 +1,5 @@
 mod Places
-mod Splitting
+pub mod Splitting
 mod Listing
-mod Sites
-mod SameLines
+pub mod Sites
+pub mod SameLines

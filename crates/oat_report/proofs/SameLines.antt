@@ -39,7 +39,7 @@ word_of text name =
     (and_parts (ltb 0 (length text) && ltb (length text) 33) (list_all is_name_byte text) a.0).1
 
 module _ (image : Image) (formed : IsWellFormedImage image) where
-  function_fits : (f : Function) → Contains image.map.functions f → IsFunction f
+  pub function_fits : (f : Function) → Contains image.map.functions f → IsFunction f
   function_fits f has = All-contains IsFunction image.map.functions f (All-from_recursion IsFunction image.map.functions formed.functions.each) has
 
   block_fits : (b : Block) → Contains image.map.blocks b → IsBlock b
@@ -55,7 +55,7 @@ module _ (image : Image) (formed : IsWellFormedImage image) where
       from None is = refl
       from (Some f) is = let last = last_found (λ g. nat_lt g.entry place) image.map.functions f is in word_of f.name (function_fits f (last.0, last.1, last.2)).name
 
-  place_word : (place : ℕ) → IsPlaceWord (place_name image.map place)
+  pub place_word : (place : ℕ) → IsPlaceWord (place_name image.map place)
   place_word place = from (place_name image.map place) refl
     where
       word : (name : PlaceName) → IsNamed image.map place name → IsPlaceWord (Some name)
@@ -77,7 +77,7 @@ module _ (image : Image) (formed : IsWellFormedImage image) where
       let few = formed.rows.limited in
       (found_word (place_of image.map address), omega (arith, count_by-le-length (is_numbered_before image.map address) image.map.rows))
 
-  name_word : (edge : Edge) → IsEdgeOf image.map edge → IsNameWord (name_of image.map edge)
+  pub name_word : (edge : Edge) → IsEdgeOf image.map edge → IsNameWord (name_of image.map edge)
   name_word (edges.Jump from to) is = (site_word from, place_word to)
   name_word (edges.Branch from bit to) is = (site_word from, place_word to)
   name_word (edges.Call from to) is = (site_word from, place_word to)

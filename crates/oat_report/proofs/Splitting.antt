@@ -21,7 +21,7 @@ use Rattle.oat_report.specs.PathLine.{name_in, place_text, site_text, bit_text, 
 
 -- ---- lists of bytes that pass a test
 
-all_weaker : (test weaker : ℕ → Bool) → ((c : ℕ) → test c ≡ true → weaker c ≡ true) → (text : List ℕ)
+pub all_weaker : (test weaker : ℕ → Bool) → ((c : ℕ) → test c ≡ true → weaker c ≡ true) → (text : List ℕ)
     → list_all test text ≡ true → list_all weaker text ≡ true
 all_weaker test weaker from [] all = refl
 all_weaker test weaker from (c ∷ text) all =
@@ -80,7 +80,7 @@ abbrev pub IsPlaceWord : Option PlaceName → Type 0
 IsPlaceWord None = Unit {0}
 IsPlaceWord (Some place) = IsWord place.function × IsBlockWord place.block
 
-abbrev is_place_byte : ℕ → Bool
+abbrev pub is_place_byte : ℕ → Bool
 is_place_byte c = is_name_byte c || eqb c 46 || eqb c 45
 
 of_place : (c : ℕ) → is_name_byte c ≡ true → is_place_byte c ≡ true
@@ -92,7 +92,7 @@ name_bytes function (Some block) word words =
     rw (regrouped function 46 block) (all_joined is_place_byte function (46 ∷ block) (all_weaker is_name_byte is_place_byte of_place function word)
     (all_weaker is_name_byte is_place_byte of_place block words))
 
-place_bytes : (place : Option PlaceName) → IsPlaceWord place → list_all is_place_byte (place_text place) ≡ true
+pub place_bytes : (place : Option PlaceName) → IsPlaceWord place → list_all is_place_byte (place_text place) ≡ true
 place_bytes None words = refl
 place_bytes (Some place) words = name_bytes place.function place.block words.0 words.1
 
@@ -125,13 +125,13 @@ one_place_text (Some p) (Some q) word other same =
 abbrev pub IsSiteWord : Site → Type 0
 IsSiteWord site = IsPlaceWord site.place × (site.number < 2 ^ 64)
 
-place_visible : (c : ℕ) → is_place_byte c ≡ true → is_visible c ≡ true
+pub place_visible : (c : ℕ) → is_place_byte c ≡ true → is_visible c ≡ true
 place_visible c passes = grind (arith, nat_tests)
 
-digit_visible : (c : ℕ) → is_decimal_digit c ≡ true → is_visible c ≡ true
+pub digit_visible : (c : ℕ) → is_decimal_digit c ≡ true → is_visible c ≡ true
 digit_visible c passes = grind (arith, nat_tests)
 
-site_visible : (site : Site) → IsSiteWord site → list_all is_visible (site_text site) ≡ true
+pub site_visible : (site : Site) → IsSiteWord site → list_all is_visible (site_text site) ≡ true
 site_visible site words =
     rw (regrouped (place_text site.place) 35 (decimal site.number))
     (all_joined is_visible (place_text site.place) (35 ∷ decimal site.number)
@@ -169,7 +169,7 @@ one_bit false true p q words others same = let heads : Path ℕ 48 49 = ap first
 
 -- ---- addresses
 
-abbrev is_nonzero_digit : ℕ → Bool
+abbrev pub is_nonzero_digit : ℕ → Bool
 is_nonzero_digit digit = not (eqb digit 48)
 
 one_more : (n : ℕ) → 1 + n ≡ suc n
@@ -185,7 +185,7 @@ zeros_skipped (suc m) (d ∷ ds) =
       | inr other ↦ rw other refl
     ]
 
-position_bound : (xs : List ℕ) → position_or_len is_nonzero_digit xs ≤ length xs
+pub position_bound : (xs : List ℕ) → position_or_len is_nonzero_digit xs ≤ length xs
 position_bound [] = omega arith
 position_bound (x ∷ xs) =
     elim (cases_Bool (eqb x 48)) [
@@ -193,7 +193,7 @@ position_bound (x ∷ xs) =
       | inr other ↦ rw other (omega arith)
     ]
 
-place_of_nonzero : (xs : List ℕ) (n : ℕ) → length xs ≡ n → unwrap_or (position is_nonzero_digit xs) n ≡ position_or_len is_nonzero_digit xs
+pub place_of_nonzero : (xs : List ℕ) (n : ℕ) → length xs ≡ n → unwrap_or (position is_nonzero_digit xs) n ≡ position_or_len is_nonzero_digit xs
 place_of_nonzero xs n many =
     elim (cases_lt (position_or_len is_nonzero_digit xs) (length xs)) [
       | inl within ↦ rw (lt-ltb (position_or_len is_nonzero_digit xs) (length xs) within) refl
@@ -212,7 +212,7 @@ address_value n low =
 hexadecimal_visible : (c : ℕ) → is_hexadecimal_digit c ≡ true → is_visible c ≡ true
 hexadecimal_visible c passes = grind (arith, nat_tests)
 
-address_visible : (n : ℕ) → list_all is_visible (address_digits n) ≡ true
+pub address_visible : (n : ℕ) → list_all is_visible (address_digits n) ≡ true
 address_visible n = all_behind is_visible _ (hexadecimal 16 n) (all_weaker is_hexadecimal_digit is_visible hexadecimal_visible (hexadecimal 16 n) (hexadecimal_digits 16 n))
 
 one_address : (m n : ℕ) → m < 2 ^ 64 → n < 2 ^ 64 → address_digits m ≡ address_digits n → m ≡ n

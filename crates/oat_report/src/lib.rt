@@ -8,6 +8,8 @@ mod source;
 mod text;
 mod verdict;
 
-pub use line::path_line;
+pub use line::{call_of, path_line};
+pub use place::{block_at, function_at, last_below, number_in_place, place_at_or_below};
 pub use source::source_line;
+pub use text::without_zeros;
 pub use verdict::verdict_line;

@@ -62,7 +62,7 @@ fn is_returned_to(row: &Row, back: u64) -> bool
 }
 
 /// The address of the call that is returned to at `back`, or `back` where there is none.
-fn call_of(rows: &[Row], back: u64) -> u64
+pub fn call_of(rows: &[Row], back: u64) -> u64
     ensures { result ≡ unwrap_or (option_map address_of (find (is_returned_to back) rows.now)) back }
 {
     match rows.iter().find(|row| is_returned_to(row, back)) {

@@ -20,7 +20,7 @@ fn zeros_in_front(digits: &[u8]) -> Option<usize>
 }
 
 /// The digits without the zeros in front of the last 8 of 16.
-fn without_zeros(digits: &[u8]) -> &[u8]
+pub fn without_zeros(digits: &[u8]) -> &[u8]
     requires { length digits.now ≡ 16 }
     ensures { result.now ≡ short_digits digits.now }
 {

@@ -1,0 +1,124 @@
+-- In the map of an image the words of an edge hold bytes and no blank, so that they are its line split at blanks.
+use Rattle.std.proofs.Common.{◌≡◌, ℕ, ◌^◌, ◌<◌, Bool, true, false, List, [], ◌∷◌, ◌++◌, length, take, drop, Option, Some, None, inl, inr, refl, sym, ap, subst, ◌∙◌, arith}
+use Rattle.std.specs.Prelude.{codes, position, unwrap_or, ◌⊎◌}
+use Rattle.std.specs.Fmt.{decimal}
+use Rattle.std.specs.List.{All, AllByRecursion, list_all}
+use Rattle.std.proofs.lemmas.Bool.{and_parts, ne_eqb, ltb-true}
+use Rattle.std.proofs.lemmas.Fmt.{decimal_nonempty}
+use Rattle.std.proofs.lemmas.List.{length-append, length-drop, length-take-le}
+use Rattle.std.proofs.lemmas.List.Elements.{All-from_recursion}
+use Rattle.std.proofs.lemmas.List.Splits.{slice_split_at, slice_split_none}
+use Rattle.oat_lines.specs.Decimal.{is_decimal_digit}
+use Rattle.oat_lines.specs.Fields.{spaced, is_visible, IsField}
+use Rattle.oat_lines.specs.Hexadecimal.{hexadecimal}
+use Rattle.oat_lines.specs.Lines.{words_of, is_blank, has_bytes}
+use Rattle.oat_lines.proofs.Decimals.{decimal_digits}
+use Rattle.oat_lines.proofs.Hexadecimals.{hexadecimal_length}
+use Rattle.oat_map.specs.declared.edge.Edge.{Edge}
+use Rattle.oat_map.specs.declared.edge.Edge.TheVariants as edges
+use Rattle.oat_map.specs.EdgeName.{PlaceName, Site, place_name}
+use Rattle.oat_image.specs.declared.image.Image.{Image}
+use Rattle.oat_image.specs.Grammar.{IsWellFormedImage}
+use Rattle.oat_report.specs.PathLine.{place_text, site_text, bit_text, address_digits}
+use Rattle.oat_report.specs.SameLines.{IsEdgeOf}
+use Rattle.oat_report.proofs.Sites.{IsNamed, named_by}
+use Rattle.oat_report.proofs.Splitting.{IsSiteWord, is_place_byte, is_nonzero_digit, all_weaker, place_bytes, place_visible, digit_visible, site_visible, address_visible, place_of_nonzero, position_bound}
+use Rattle.oat_report.proofs.SameLines.{function_fits, place_word, name_word}
+use Rattle.oat_policy.specs.EdgeWords.{edge_words}
+use Rattle.oat_policy.specs.Laws.{WordsSplitTheLine}
+use Rattle.oat_policy.proofs.Spacing.{words_make_the_line}
+
+-- ---- words with one space between two
+
+no_blank : (b : ℕ) → is_visible b ≡ true → is_blank b ≡ false
+no_blank b e =
+    let above : 32 < b = ltb-true 32 b e in
+    rw (ne_eqb b 32 (λ f. omega arith), ne_eqb b 9 (λ f. omega arith)) refl
+
+solid : (word : List ℕ) → list_all is_visible word ≡ true → AllByRecursion (λ b. is_blank b ≡ false) word
+solid [] e = tt
+solid (b ∷ bs) e = let p = and_parts (is_visible b) (list_all is_visible bs) e in (no_blank b p.0, solid bs p.1)
+
+some_bytes : (word : List ℕ) → 0 < length word → has_bytes word ≡ true
+some_bytes [] some = absurd (omega arith)
+some_bytes (b ∷ bs) some = refl
+
+all_solid : (word : List ℕ) → IsField word → All (λ b. is_blank b ≡ false) word
+all_solid word field = All-from_recursion (λ b. is_blank b ≡ false) word (solid word field.visible)
+
+words_spaced : (words : List (List ℕ)) → AllByRecursion IsField words → words_of (spaced words) ≡ words
+unfolding words_of
+words_spaced [] fields = refl
+words_spaced (word ∷ []) fields =
+    rw (slice_split_none is_blank word (all_solid word fields.0), some_bytes word fields.0.nonempty) refl
+words_spaced (word ∷ next ∷ words) fields =
+    rw (slice_split_at is_blank word 32 (spaced (next ∷ words)) (all_solid word fields.0) refl, some_bytes word fields.0.nonempty)
+    (ap (λ (rest : List (List ℕ)). word ∷ rest) (words_spaced (next ∷ words) fields.1))
+
+-- ---- the words of an edge
+
+some_joined : (front : List ℕ) (byte : ℕ) (rest : List ℕ) → 0 < length ((front ++ byte ∷ []) ++ rest)
+some_joined front byte rest =
+    let whole = length-append (front ++ byte ∷ []) rest in
+    let part = length-append front (byte ∷ []) in
+    omega (arith, whole, part)
+
+some_name : (image : Image) → IsWellFormedImage image → (place : ℕ) (name : PlaceName) → IsNamed image.map place name → 0 < length (place_text (Some name))
+some_name image formed place name (inl (f, has, at, same)) =
+    let begun = (function_fits image formed f has).name.begun in
+    subst (λ (n : PlaceName). 0 < length (place_text (Some n))) (sym same) (omega (arith, begun))
+some_name image formed place name (inr (b, has, at, same)) =
+    subst (λ (n : PlaceName). 0 < length (place_text (Some n))) (sym same) (some_joined _ 46 b.label)
+
+some_place : (image : Image) → IsWellFormedImage image → (place : ℕ) (o : Option PlaceName) → place_name image.map place ≡ o → 0 < length (place_text o)
+some_place image formed place None is = omega arith
+some_place image formed place (Some name) is = some_name image formed place name (named_by image.map place name is)
+
+place_field : (image : Image) → IsWellFormedImage image → (place : ℕ) → IsField (place_text (place_name image.map place))
+place_field image formed place = record {
+  visible = all_weaker is_place_byte is_visible place_visible (place_text (place_name image.map place)) (place_bytes (place_name image.map place) (place_word image formed place));
+  nonempty = some_place image formed place (place_name image.map place) refl;
+}
+
+site_field : (site : Site) → IsSiteWord site → IsField (site_text site)
+site_field site words = record { visible = site_visible site words; nonempty = some_joined (place_text site.place) 35 (decimal site.number) }
+
+number_field : (n : ℕ) → n < 2 ^ 64 → IsField (decimal n)
+number_field n low = record { visible = all_weaker is_decimal_digit is_visible digit_visible (decimal n) (decimal_digits n low); nonempty = decimal_nonempty n low }
+
+bit_field : (bit : Bool) → IsField (bit_text bit)
+bit_field true = record { visible = refl; nonempty = omega arith }
+bit_field false = record { visible = refl; nonempty = omega arith }
+
+address_field : (n : ℕ) → IsField (address_digits n)
+address_field n =
+    let digits = hexadecimal 16 n in
+    let many : length digits ≡ 16 = hexadecimal_length 16 n in
+    let front : length (take 8 digits) ≡ 8 = length-take-le 8 digits (omega arith) in
+    let zeros = place_of_nonzero (take 8 digits) 8 front in
+    let few = position_bound (take 8 digits) in
+    let left = length-drop (unwrap_or (position is_nonzero_digit (take 8 digits)) 8) digits in
+    record { visible = address_visible n; nonempty = omega (arith, many, front, zeros, few, left) }
+
+keyword_field : (keyword : List ℕ) → list_all is_visible keyword ≡ true → 0 < length keyword → IsField keyword
+keyword_field keyword visible some = record { visible = visible; nonempty = some }
+
+fields : (image : Image) (formed : IsWellFormedImage image) (edge : Edge) → IsEdgeOf image.map edge → AllByRecursion IsField (edge_words image.map edge)
+fields image formed (edges.Jump from to) is =
+    (keyword_field (codes "jump") refl (omega arith), (site_field _ (name_word image formed (edges.Jump from to) is).0, (place_field image formed to, tt)))
+fields image formed (edges.Branch from bit to) is =
+    (keyword_field (codes "branch") refl (omega arith), (site_field _ (name_word image formed (edges.Branch from bit to) is).0, (bit_field bit, (place_field image formed to, tt))))
+fields image formed (edges.Call from to) is =
+    (keyword_field (codes "call") refl (omega arith), (site_field _ (name_word image formed (edges.Call from to) is).0, (place_field image formed to, tt)))
+fields image formed (edges.ICall from to) is =
+    (keyword_field (codes "icall") refl (omega arith), (site_field _ (name_word image formed (edges.ICall from to) is).0, (place_field image formed to, tt)))
+fields image formed (edges.Ret from to) is =
+    let words = name_word image formed (edges.Ret from to) is in
+    (keyword_field (codes "ret") refl (omega arith), (site_field _ words.0, (site_field _ words.1, tt)))
+fields image formed (edges.End op) is =
+    (keyword_field (codes "end") refl (omega arith), (number_field op (name_word image formed (edges.End op) is), tt))
+fields image formed (edges.Stray from to) is = (keyword_field (codes "stray") refl (omega arith), (address_field from, (address_field to, tt)))
+
+pub words_split_the_line : WordsSplitTheLine
+words_split_the_line image edge formed is =
+    sym (ap words_of (words_make_the_line image.map edge)) ∙ words_spaced (edge_words image.map edge) (fields image formed edge is)
