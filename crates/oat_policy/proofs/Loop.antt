@@ -1,5 +1,5 @@
 -- Reading a policy word by word and line by line, as loops do.
-use Rattle.std.proofs.Common.{◌≡◌, ℕ, ◌+◌, ◌≤◌, ◌<◌, Bool, true, false, eqb, List, [], ◌∷◌, ◌++◌, length, Option, Some, None, Result, Ok, Err, refl, sym, ap, subst, ◌∙◌, inl, inr, append_assoc, arith}
+use Rattle.std.proofs.Common.{◌≡◌, ℕ, ◌+◌, ◌≤◌, ◌<◌, eqb, List, [], ◌∷◌, ◌++◌, length, Option, Some, None, Result, Ok, Err, refl, sym, ap, ◌∙◌, inl, inr, append_assoc, arith}
 use Rattle.std.specs.Prelude.{option_map}
 use Rattle.std.specs.List.{slice_split, onto_first}
 use Rattle.std.proofs.lemmas.Bool.{cases_Bool}
@@ -8,7 +8,7 @@ use Rattle.oat_lines.specs.Fields.{cut}
 use Rattle.oat_lines.specs.Lines.{TextWord, lines_of, words_of}
 use Rattle.oat_lines.specs.Reading.{◌>>=◌}
 use Rattle.oat_lines.specs.declared.fault.Fault.{Fault}
-use Rattle.oat_lines.specs.Faults.{Fails, Gives}
+use Rattle.oat_lines.specs.Faults.{Fails}
 use Rattle.oat_lines.proofs.Cutting.{map_some, cut_takes}
 use Rattle.oat_lines.proofs.Steps.{fails_as, some_is}
 use Rattle.oat_policy.specs.declared.policy.PolicyRule.{PolicyRule}

@@ -1,5 +1,5 @@
 -- A pattern is met by as many words alone.
-use Rattle.std.proofs.Common.{◌≡◌, ◌≢◌, ℕ, Bool, true, false, ◌&&◌, List, [], ◌∷◌, length, refl, arith}
+use Rattle.std.proofs.Common.{◌≡◌, ◌≢◌, Bool, true, false, ◌&&◌, List, [], ◌∷◌, length, refl, arith}
 use Rattle.oat_lines.specs.Lines.{TextWord}
 use Rattle.oat_policy.specs.EdgeWords.{meets, meets_each}
 

@@ -1,7 +1,6 @@
 -- The words of an edge with one space between two are its line.
 use Rattle.std.proofs.Common.{◌≡◌, ℕ, List, [], ◌∷◌, ◌++◌, refl, sym, ◌∙◌, append_assoc}
 use Rattle.std.specs.Prelude.{codes}
-use Rattle.std.specs.Fmt.{decimal}
 use Rattle.oat_lines.specs.Fields.{spaced}
 use Rattle.oat_map.specs.EdgeName.{EdgeName, jump, branch, call, icall, return, finish, stray, name_of}
 use Rattle.oat_report.specs.PathLine.{place_text, site_text, bit_text, address_digits, name_text}

@@ -1,5 +1,5 @@
 -- The standings of a policy's rules, one behind the other.
-use Rattle.std.proofs.Common.{◌≡◌, ℕ, ◌+◌, ◌≤◌, ◌<◌, List, [], ◌∷◌, ◌++◌, length, map, take, drop, set, get_or, replicate, Option, Some, None, refl, sym, ap, ◌∙◌, arith}
+use Rattle.std.proofs.Common.{◌≡◌, ℕ, ◌+◌, ◌≤◌, ◌<◌, List, [], ◌∷◌, ◌++◌, length, take, drop, set, get_or, replicate, Option, Some, None, refl, sym, ap, ◌∙◌, arith}
 use Rattle.std.proofs.lemmas.List.{drop_more, drop_all, take_all, take_more_set, map_more, drop-set-lt, length-map, get_or-map, get_or_default}
 use Rattle.oat_map.specs.declared.map.Map.{Map}
 use Rattle.oat_map.specs.declared.edge.Edge.{Edge}

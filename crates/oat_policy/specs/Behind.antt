@@ -1,5 +1,5 @@
 -- What stands behind the bytes with which a text begins.
-use Rattle.std.specs.Prelude.{ℕ, Bool, true, false, ◌==◌, List, [], ◌∷◌, length, Option, Some, None, if◌then◌else◌}
+use Rattle.std.specs.Prelude.{ℕ, Bool, false, ◌==◌, List, [], ◌∷◌, length, Option, Some, None, if◌then◌else◌}
 use Rattle.std.specs.Option.{option_and_then}
 
 unfoldable pub rest_behind : List ℕ → List ℕ → Option (List ℕ)

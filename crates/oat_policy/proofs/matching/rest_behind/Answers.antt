@@ -1,5 +1,4 @@
-use Rattle.std.proofs.Common.{◌≡◌, false, true, ◌∙◌, sym, arith}
-use Rattle.std.specs.Str.{bytes_eq}
+use Rattle.std.proofs.Common.{◌∙◌, sym}
 use Rattle.oat_policy.proofs.Behind.{too_short, found_behind, other_front}
 use Rattle.oat_policy.proofs.matching.rest_behind.Goals as goal
 

@@ -1,7 +1,7 @@
 use Rattle.std.proofs.Common.{◌∷◌, [], ℕ, Option, ap, ◌∙◌}
 use Rattle.std.specs.Fmt.{decimal}
 use Rattle.std.specs.Option.{option_and_then}
-use Rattle.oat_map.specs.EdgeName.{Site, place_of, place_name}
+use Rattle.oat_map.specs.EdgeName.{place_of, place_name}
 use Rattle.oat_report.specs.PathLine.{place_text, site_text}
 use Rattle.oat_policy.specs.Behind.{rest_behind}
 use Rattle.oat_policy.proofs.Behind.{three}

@@ -1,4 +1,4 @@
-use Rattle.std.proofs.Common.{◌≡◌, ◌<◌, ◌≤◌, length, Some, None, sym, ◌∙◌, arith}
+use Rattle.std.proofs.Common.{◌<◌, ◌≤◌, length, sym, ◌∙◌, arith}
 use Rattle.oat_policy.specs.Verdict.{verdict_of}
 use Rattle.oat_policy.proofs.Standings.{stands_at, as_many, breaks_on, holds_there, all_hold}
 use Rattle.oat_policy.proofs.rules.first_broken.Goals as goal
