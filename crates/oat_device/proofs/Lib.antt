@@ -6,4 +6,4 @@ mod Runs
 pub mod Whole
 mod Telling
 mod Bodies
-mod Counting
+pub mod Counting

@@ -1,6 +1,8 @@
 -- The room of `device`: where its work stops and goes on, that it has one answer, and what its statuses say.
-use Rattle.std.proofs.Common.{◌≡◌, ◌↔◌, ◌<◌, ◌+◌, ◌++◌, ◌∙◌, ℕ, zero, suc, length, take, List, [], ◌∷◌, Some, inl, inr, refl, sym, ap, subst, codes, arith}
-use Rattle.std.specs.List.{slice_get}
+use Rattle.std.proofs.Common.{◌≡◌, ◌↔◌, ◌<◌, ◌≤◌, ◌+◌, ◌++◌, ◌∙◌, ℕ, zero, suc, length, take, List, [], ◌∷◌, Option, Some, None, option_map, inl, inr, refl, sym, ap, subst, codes, arith}
+use Rattle.std.specs.Prelude.{IfSome, IsTrue, MatchOption, nat_le, unwrap_or}
+use Rattle.std.specs.List.{AllZip, slice_get}
+use Rattle.std.proofs.lemmas.Bool.{and_parts, leb-true}
 use Rattle.std.proofs.lemmas.List.{take_more}
 use Rattle.std.proofs.lemmas.Option.{get_or_from_slice_get}
 use Rattle.oat_world.specs.Outside.{Contents}
@@ -9,12 +11,13 @@ use Rattle.oat_blob.specs.Body.{Body}
 use Rattle.oat_measure.specs.declared.opening.Opening.{Opening}
 use Rattle.oat_image.specs.declared.image.Image.{Image}
 use Rattle.oat_case.specs.declared.case.Case.{Case}
+use Rattle.oat_case.specs.Limits.{calls_fit}
 use Rattle.oat_shape.specs.MapRules.{S7}
 use Rattle.oat_shape.specs.Shape.{Everywhere}
 use Rattle.oat_journal.specs.Measured.{Run, opening_of}
 use Rattle.oat_device.specs.DeviceRun.{DeviceRun, HasRun, IsSealed, bodies_so_far}
+use Rattle.oat_device.proofs.Counting.{windows_are_counted}
 use Rattle.oat_measure.specs.Shelving.{sealed_bodies}
-use Rattle.std.specs.List.{AllZip}
 use Rattle.oat_shape.proofs.Laid.{opens_once}
 use Rattle.oat_first.specs.First.{IsOne}
 use Rattle.oat_tool.specs.declared.page.Stop.{Stop}
@@ -116,6 +119,11 @@ statuses o key run a (unsealed none blobs all shown) =
     as_told (as_outcome a) (as_outcome (shows Unsealed (run_and_blobs run blobs) (line (codes "no blob")))) (IsSealed run) (ap as_outcome shown)
     ((λ zeroth. absurd (omega (arith, zeroth)), λ all. absurd (none all)), (λ seven. none, λ is. refl))
 
+-- a case's session begins with the first window that it calls for
+first_window : (calls : Option ℕ) → IfSome calls (λ k. IsTrue (calls_fit k)) → MatchOption (option_map (λ (k : ℕ). 0) calls) (unwrap_or calls 1 ≡ 1) (λ (serial : ℕ). (serial ≡ 0) × (1 ≤ unwrap_or calls 1))
+first_window None fit = refl
+first_window (Some k) fit = (refl, leb-true 1 k (and_parts (nat_le 1 k) (nat_le k 1024) fit).0)
+
 run_shown : (words : List (List ℕ)) (contents : Contents) (files : List File) (a : Answer) → AreLoaded contents (files_of words Device) files
     → Runs files a → IsDone (as_outcome a).status → IsMeasuredRun words contents (as_outcome a)
 run_shown words contents [] a held none is_done = absurd none
@@ -135,6 +143,8 @@ run_shown words contents (image ∷ case ∷ []) a held runs is_done =
       is = refl;
       seals = told.0;
       leaves_unsealed = told.1;
+      counted = windows_are_counted through.i (opening_of through.i through.c.session through.after.begin_at) through.c.inputs through.c.writes through.c.steps
+          (first_window through.c.session.calls through.admitted.case_read.limits.calls);
     }
 run_shown words contents (image ∷ case ∷ other ∷ files) a held none is_done = absurd none
 

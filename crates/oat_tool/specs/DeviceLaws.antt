@@ -3,7 +3,8 @@ use Rattle.std.specs.Prelude.{◌≡◌, ◌≢◌, ◌↔◌, ℕ, List, [], �
 use Rattle.oat_world.specs.Outside.{Contents}
 use Rattle.oat_image.specs.declared.image.Image.{Image}
 use Rattle.oat_case.specs.declared.case.Case.{Case}
-use Rattle.oat_device.specs.DeviceRun.{IsSealed}
+use Rattle.oat_journal.specs.Measured.{opening_of}
+use Rattle.oat_device.specs.DeviceRun.{CountsItsWindows, IsSealed}
 use Rattle.oat_first.specs.First.{IsOne}
 use Rattle.oat_tool.specs.declared.command.Command.TheVariants.{Device}
 use Rattle.oat_tool.specs.Outcome.{Outcome}
@@ -16,7 +17,8 @@ use Rattle.oat_tool.specs.DefinedLaws.{IsOfWork}
 use Rattle.oat_tool.specs.Device.{Runs, RunsCase, run_of}
 
 -- The files that the words name hold a shaped image and a case for one of its operations, and the outcome is what is
--- defined of the case's measured run on the image: with status 0 where its last window sealed, and else with status 7.
+-- defined of the case's measured run on the image: with status 0 where its last window sealed, and else with status 7. So
+-- status 7 comes exactly where fewer windows sealed than the case calls for.
 pub record IsMeasuredRun (words : List (List ℕ)) (contents : Contents) (o : Outcome) : Type 0 where
   pub image : File
   pub case : File
@@ -29,6 +31,7 @@ pub record IsMeasuredRun (words : List (List ℕ)) (contents : Contents) (o : Ou
   pub is : o ≡ as_outcome answer
   pub seals : o.status ≡ 0 ↔ IsSealed (run_of i c runs.begin_at)
   pub leaves_unsealed : o.status ≡ 7 ↔ ¬ IsSealed (run_of i c runs.begin_at)
+  pub counted : CountsItsWindows (opening_of i c.session runs.begin_at) (run_of i c runs.begin_at)
 
 -- A status of work is that of the measured run.
 abbrev pub RunIsShown : Type 0
