@@ -15,4 +15,4 @@ pub use Rattle.oat_frames.proofs.Slots.{stack-opens, global-opens, slot-opens, s
 pub use Rattle.oat_frames.proofs.LowCode.{low-code}
 -- The lines of a block, what a line begins with, and its end where it has a result.
 pub use Rattle.oat_frames.proofs.Blocks.{lines-stand, words-add-up}
-pub use Rattle.oat_frames.proofs.Landing.{scratched, here-opens, can-slot, number-of, number-small, loads-number, assigns, comes-within}
+pub use Rattle.oat_frames.proofs.Landing.{scratched, here-opens, can-slot, number-of, number-small, loads-number, by-registers, assigns, comes-within}
