@@ -1,6 +1,5 @@
 -- The terminators jump, branch and halt.
-use Rattle.std.proofs.Common.{◌≡◌, ◌+◌, ◌*◌, ◌<◌, ◌≤◌, inl, inr, ℕ, Bool, true, false, cond, not, List, [], ◌∷◌, Some, None, find, Contains, refl, sym, ap, subst, ◌∙◌, arith, eq-eqb, ne_eqb}
-use Rattle.std.proofs.lemmas.List.Elements.{Contains-append_right}
+use Rattle.std.proofs.Common.{◌≡◌, ◌+◌, ◌*◌, ◌<◌, ◌≤◌, inl, inr, ℕ, true, false, not, List, [], ◌∷◌, Some, None, Contains, refl, sym, ap, subst, arith, eq-eqb, ne_eqb}
 use Rattle.oat_a64.specs.declared.inst.Inst.TheVariants.{Svc}
 use Rattle.oat_map.specs.declared.edge.Edge.TheVariants as edges
 use Rattle.oat_map.specs.declared.map.Map.{Map}
@@ -17,7 +16,7 @@ use Rattle.oat_frames.specs.Frames.{World, IsWorld, IsSlotted, IsAt, HoldsState,
 use Rattle.oat_frames.specs.Lines.{IsNumberLocal}
 use Rattle.oat_frames.specs.Reaching.{RunsTo, inst_makes, next_moment, jumped}
 use Rattle.oat_frames.proofs.Kit.{thence, with_x, b, cbnz-leads, cbnz-falls, svc-bit, svc-halt}
-use Rattle.oat_frames.proofs.FrameLaws.{loads-number, scratched}
+use Rattle.oat_frames.proofs.FrameLaws.{found-contains, loads-number, scratched}
 use Rattle.oat_locals.specs.Code.{jump_code, branch_code, halt_code}
 use Rattle.oat_locals.specs.Terminators.{BlockBegins, in_block, JumpsLead, TakenBranchesLead, OtherBranchesLead, BranchesAreApart, HaltsEnd}
 
@@ -123,16 +122,6 @@ other-branches-lead w ok f callers globals x first second taken other m r this n
       behind pc p l a e = omega arith
 
 -- ---- blocks lie apart from groups
-
-found-contains : (test : Row → Bool) (all : List Row) (r : Row) → find test all ≡ Some r → Contains all r
-found-contains test [] r h = absurd (cc)
-found-contains test (y ∷ ys) r h = by (λ rest. found-contains test ys r rest) (test y) refl where
-  first : (s t : Row) → Some s ≡ Some t → s ≡ t
-  first s t e = cc
-
-  by : (find test ys ≡ Some r → Contains ys r) → (t : Bool) → test y ≡ t → Contains (y ∷ ys) r
-  by rest true e = (0, omega arith, first y r (sym (ap (λ (t : Bool). cond t (Some y) (find test ys)) e) ∙ h))
-  by rest false e = Contains-append_right (y ∷ []) ys r (rest (sym (ap (λ (t : Bool). cond t (Some y) (find test ys)) e) ∙ h))
 
 pub branches-are-apart : BranchesAreApart
 branches-are-apart w f x taken other shaped code e =
