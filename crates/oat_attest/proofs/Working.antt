@@ -14,7 +14,7 @@ use Rattle.oat_a64.specs.declared.inst.Inst.TheVariants.{Movz, Movk, Ldr, Svc}
 use Rattle.oat_mem.specs.DataMemory.{word_in}
 use Rattle.oat_attest.proofs.Lists.{get_contains}
 use Rattle.oat_attest.proofs.Stretches.{none_read, read_cons}
-use Rattle.oat_attest.proofs.CellCrossings.{loads_use}
+use Rattle.oat_attest.proofs.Accesses.{loads_use}
 use Rattle.oat_attest.specs.Worked.{two_uses, two_uses_map, made_at, use_at, both_passed, cells_used, TwoUses, three_calls, SecondIsFalse}
 
 -- ---- two uses
@@ -110,8 +110,8 @@ group_read : (memory : ℕ → ℕ) (at : ℕ) (rest : List Entry) → Contains 
 group_read memory at rest among all =
     read_cons two_uses (made_at memory at (Movz 11 0 0)) _ (λ c v u. cc)
     (read_cons two_uses (made_at memory (at + 4) (Movk 11 1 0x4000)) _ (λ c v u. cc)
-    (loads_use two_uses (rows.UseCell at 0) (made_at memory (at + 8) (Ldr 10 11 0)) (made_at memory (at + 12) (Movz 9 0 0)) (made_at memory (at + 16) (Svc 7)) rest
-    0 (word_in memory 0x40000000) 0 among refl refl refl refl refl refl (refl, refl, refl) (omega arith) refl all))
+    (loads_use two_uses (rows.UseCell at 0) (made_at memory (at + 8) (Ldr 10 11 0)) (made_at memory (at + 12) (Movz 9 0 0) ∷ []) (made_at memory (at + 16) (Svc 7)) rest
+    0 (word_in memory 0x40000000) 0 among (refl, refl, (refl, refl, tt)) refl refl refl refl (refl, refl, refl) (omega arith) refl all))
 
 own_load : (memory : ℕ → ℕ) → AllReadByLoad two_uses (use_at memory 0x10008 ++ use_at memory 0x1001C)
 own_load memory =
