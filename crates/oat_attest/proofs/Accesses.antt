@@ -121,6 +121,6 @@ loads_use image row load way call rest cell value index among quiet used has nam
             stands = refl;
             words = suc (length way);
             apart = apart ∙ ap (λ (x : Entry). x.found.regs.pc) same;
-            behind = sym place;
+            behind = (let last : k ≡ suc (length way) = place in omega arith);
           }
     ]

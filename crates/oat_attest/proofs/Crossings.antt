@@ -44,7 +44,7 @@ next_at p q is low =
     mod-eq_of_lt small ∙ sym is
 
 -- the edge of a transfer whose row and place are known
-edge_is : (flow : Map) (over row : Option Row) (p q to : ℕ) (edge : Option Edge) → over ≡ row → q ≡ to → edge_over flow row p to ≡ edge → edge_over flow over p q ≡ edge
+pub edge_is : (flow : Map) (over row : Option Row) (p q to : ℕ) (edge : Option Edge) → over ≡ row → q ≡ to → edge_over flow row p to ≡ edge → edge_over flow over p q ≡ edge
 edge_is flow over row p q to edge one two is = ap₂ (λ (o : Option Row) (x : ℕ). edge_over flow o p x) one two ∙ is
 
 -- an instruction in front that makes no call and shows no edge
@@ -195,7 +195,7 @@ skips image op p q to number q_is to_is low r es i stands trap dry none false le
     (λ m. leaves m ∙ ap (moved_to r) (next_at p q q_is (omega arith))) runs in
     absurd (stuck image.code op r q number trap a.rest a.runs)
 
-if_leads : (t : Bool) (a b : Effect) (r : Regs) (p q : ℕ) → a.machine.regs ≡ moved_to r p → b.machine.regs ≡ moved_to r q → (cond t a b).machine.regs ≡ moved_to r (cond t p q)
+pub if_leads : (t : Bool) (a b : Effect) (r : Regs) (p q : ℕ) → a.machine.regs ≡ moved_to r p → b.machine.regs ≡ moved_to r q → (cond t a b).machine.regs ≡ moved_to r (cond t p q)
 if_leads true a b r p q x y = x
 if_leads false a b r p q x y = y
 

@@ -4,8 +4,7 @@ use Rattle.std.specs.List.{slice_get}
 use Rattle.std.proofs.lemmas.Bool.{cases_lt, le-leb}
 use Rattle.oat_a64.specs.declared.inst.Inst.{Inst}
 use Rattle.oat_a64.specs.declared.inst.Inst.TheVariants.{AddReg, SubsReg, Movz, Movk, BCond, LdrReg, StrReg, Svc, Brk}
-use Rattle.oat_a64.specs.Step.{Regs, holds, branch_target, next_pc, with_reg, with_flags, shifted_left, wrap}
-use Rattle.oat_bits.specs.Words.{difference}
+use Rattle.oat_a64.specs.Step.{Regs, holds, branch_target, next_pc, with_reg, with_flags, difference, shifted_left, wrap}
 use Rattle.oat_mem.specs.DataMemory.{word_in, global_address}
 use Rattle.oat_map.specs.declared.edge.Edge.{Edge}
 use Rattle.oat_map.specs.declared.row.Row.{Row}
@@ -15,7 +14,8 @@ use Rattle.oat_image.specs.declared.image.Image.{Image}
 use Rattle.oat_measure.specs.declared.call.MonitorCall.{MonitorCall}
 use Rattle.oat_measure.specs.declared.call.MonitorCall.TheVariants as svc
 use Rattle.oat_shape.specs.Groups.{Stands, MovesAddress, TestsElement}
-use Rattle.oat_shape.specs.Laid.{IsLaid}
+use Rattle.oat_shape.specs.Laid.{IsLaid, IsElement}
+use Rattle.oat_shape.proofs.Laid.{elements_have_cells}
 use Rattle.oat_journal.specs.Run.{Entry}
 use Rattle.oat_journal.specs.Window.{edge_over}
 use Rattle.oat_attest.specs.Headline.{AllReadByLoad}
@@ -81,9 +81,6 @@ cross_test image op at len index row short few low (length_is, test, skip, trap)
 element_address : (x index v : ℕ) → x ≡ global_address index → index + v ≤ 65535 → wrap (x + 8 * v) ≡ global_address (index + v)
 element_address x index v is low = omega arith
 
-read_address : (x index v : ℕ) → x ≡ global_address index → x + 8 * v ≡ global_address (index + v)
-read_address x index v is = omega arith
-
 element_cell : (cell v : ℕ) → cell ≤ 65535 → v ≤ 4096 → wrap (cell + shifted_left v 0) ≡ cell + v
 element_cell cell v low few = omega arith
 
@@ -118,14 +115,14 @@ last_four at call = plain (at + 24) ∷ plain (at + 28) ∷ plain (at + 32) ∷ 
 
 -- the load, the number of the cell and the call
 read_element : (image : Image) (op at cell len index : ℕ) (r : Regs) (es : List Entry) → Contains image.map.rows (rows.UseAt at cell len) → at < 2 ^ 33 → cell ≤ 65535 → r.x 12 ≤ 4096
-    → r.x 12 < len → slice_get image.cells (cell + r.x 12) ≡ Some (index + r.x 12) → index + r.x 12 ≤ 65535 → r.x 11 ≡ global_address index
+    → r.x 12 < len → IsElement image.cells cell index (r.x 12) → r.x 11 ≡ global_address index
     → Stands image.code (at + 24) (LdrReg 10 11 12) → Stands image.code (at + 28) (Movz 9 0 cell) → Stands image.code (at + 32) (AddReg 9 9 12 0) → Stands image.code (at + 36) (Svc 7)
     → Runs image.code op (moved_to r (at + 24)) es → (value : ℕ) × Crossed image op es (last_four at (svc.Use (cell + r.x 12) value)) [] (at + 40)
-read_element image op at cell len index r es among short small few below has low address load move add call runs =
+read_element image op at cell len index r es among short small few below element address load move add call runs =
     let v = r.x 12 in
     let place = index + v in
     let a = lead image op (LdrReg 10 11 12) r (at + 24) (at + 28) (λ m. with_reg r 10 (word_in m (global_address place))) es load refl (λ o h. cc)
-    (loaded r _ place (at + 24) (at + 28) (element_address (r.x 11) index v address low) low (next_at (at + 24) (at + 28) (omega arith) (omega arith))) runs in
+    (loaded r _ place (at + 24) (at + 28) (element_address (r.x 11) index v address element.within) element.within (next_at (at + 24) (at + 28) (omega arith) (omega arith))) runs in
     let value = word_in a.memory (global_address place) in
     let r1 = with_reg r 10 value in
     let r2 = with_cell r1 cell in
@@ -149,8 +146,8 @@ read_element image op at cell len index r es among short small few below has low
         places = refl;
         shows = refl;
         loads = λ all. subst (AllReadByLoad image) (sym whole)
-            (loads_use image (rows.UseAt at cell len) e1 (e2 ∷ e3 ∷ []) e4 c.rest (cell + v) value place among (refl, refl, (refl, refl, (refl, refl, tt))) refl has (v, below, refl) refl
-            (refl, refl, read_address (r.x 11) index v address) apart refl all);
+            (loads_use image (rows.UseAt at cell len) e1 (e2 ∷ e3 ∷ []) e4 c.rest (cell + v) value place among (refl, refl, (refl, refl, (refl, refl, tt))) refl element.own (v, below, refl) refl
+            (refl, refl, ap (λ (base : ℕ). base + 8 * v) address ∙ sym element.behind) apart refl all);
       },
     )
 
@@ -165,23 +162,22 @@ cross_use_at image laid op at cell len has r es runs =
     (laid.over row (at + 8) has (omega arith, omega arith)) (λ pc next. refl) r es runs in
     let v = t.regs.x 12 in
     let below : v < len = t.below in
-    let there = elements.consecutive v below in
-    let u = read_element image op at cell len index t.regs t.rest has (omega arith) fits_row.1 (omega arith) below there (laid.cell (index + v) (contains_get image.cells (cell + v) (index + v) there))
-    t.address load move add call t.runs in
+    let u = read_element image op at cell len index t.regs t.rest has (omega arith) fits_row.1 (omega arith) below (elements_have_cells image cell len index v laid elements below) t.address load move add call t.runs in
     record { element = v; below = below; value = u.0; crossed = t.joins (last_four at (svc.Use (cell + v) u.0)) (at + 40) u.1 }
 
 -- ---- defines
 
 -- the number of the cell, the store and the call
-write_element : (image : Image) (op at cell index : ℕ) (r : Regs) (es : List Entry) → at < 2 ^ 33 → cell ≤ 65535 → r.x 12 ≤ 4096 → index + r.x 12 ≤ 65535 → r.x 11 ≡ global_address index
+write_element : (image : Image) (op at cell index : ℕ) (r : Regs) (es : List Entry) → at < 2 ^ 33 → cell ≤ 65535 → r.x 12 ≤ 4096
+    → IsElement image.cells cell index (r.x 12) → r.x 11 ≡ global_address index
     → Stands image.code (at + 24) (Movz 9 0 cell) → Stands image.code (at + 28) (AddReg 9 9 12 0) → Stands image.code (at + 32) (StrReg 10 11 12) → Stands image.code (at + 36) (Svc 6)
     → Runs image.code op (moved_to r (at + 24)) es → Crossed image op es (last_four at (svc.Define (cell + r.x 12) (r.x 10))) [] (at + 40)
-write_element image op at cell index r es short small few low address move add store call runs =
+write_element image op at cell index r es short small few element address move add store call runs =
     let v = r.x 12 in
     let r1 = with_cell r cell in
     let a = names image op (at + 24) (at + 28) (at + 32) cell (omega arith) (omega arith) (omega arith) move add r es small few runs in
     let b = lead image op (StrReg 10 11 12) r1 (at + 32) (at + 36) (λ _. r1) a.1.rest store refl (λ o h. cc)
-    (stored r1 _ (index + v) (at + 32) (at + 36) (element_address (r.x 11) index v address low) low (next_at (at + 32) (at + 36) (omega arith) (omega arith))) a.1.runs in
+    (stored r1 _ (index + v) (at + 32) (at + 36) (element_address (r.x 11) index v address element.within) element.within (next_at (at + 32) (at + 36) (omega arith) (omega arith))) a.1.runs in
     let c = lead image op (Svc 6) r1 (at + 36) (at + 40) (λ _. r1) b.rest call refl (λ o h. cc)
     (λ _. ap (moved_to r1) (next_at (at + 36) (at + 40) (omega arith) (omega arith))) b.runs in
     silent image op a.0 _ _ refl refl (silent image op a.1 _ _ refl refl (silent image op b _ _ refl refl
@@ -199,7 +195,5 @@ cross_define_at image laid op at cell len has r es runs =
     (laid.over row (at + 8) has (omega arith, omega arith)) (λ pc next. refl) r es runs in
     let v = t.regs.x 12 in
     let below : v < len = t.below in
-    let there = elements.consecutive v below in
-    let d = write_element image op at cell index t.regs t.rest (omega arith) fits_row.1 (omega arith) (laid.cell (index + v) (contains_get image.cells (cell + v) (index + v) there))
-    t.address move add store call t.runs in
+    let d = write_element image op at cell index t.regs t.rest (omega arith) fits_row.1 (omega arith) (elements_have_cells image cell len index v laid elements below) t.address move add store call t.runs in
     record { element = v; below = below; value = t.regs.x 10; crossed = t.joins (last_four at (svc.Define (cell + v) (t.regs.x 10))) (at + 40) d }
