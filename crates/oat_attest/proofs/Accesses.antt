@@ -3,7 +3,7 @@ use Rattle.std.proofs.Common.{◌≡◌, ℕ, zero, suc, ◌+◌, ◌*◌, ◌/�
 use Rattle.std.specs.List.{slice_get}
 use Rattle.std.proofs.lemmas.Bool.{eq-eqb, le-leb, and_from, or_left}
 use Rattle.oat_a64.specs.declared.inst.Inst.TheVariants.{Movz, Movk}
-use Rattle.oat_a64.specs.Step.{Regs, Effect, next_pc, with_reg, with_bits, shifted_left, wrap, loads as loads_from, stores as stores_to}
+use Rattle.oat_a64.specs.Step.{Regs, Effect, next_pc, with_reg, with_bits, shifted_left, loads as loads_from, stores as stores_to}
 use Rattle.oat_mem.specs.DataMemory.{can_access, fits, word_in, global_base, global_size, global_address}
 use Rattle.oat_map.specs.declared.row.Row.{Row}
 use Rattle.oat_image.specs.declared.image.Image.{Image}
@@ -55,7 +55,7 @@ addresses image op p q to index q_is to_is small low first second r es runs =
     let a = lead image op (Movz 11 0 (first_move index)) r p q (λ _. r1) es first refl (λ o h. cc) (λ _. ap (moved_to r1) (next_at p q q_is (omega arith))) runs in (
       a,
       lead image op (Movk 11 1 (second_move index)) r1 q to (λ _. with_address r index) a.rest second refl (λ o h. cc)
-      (λ _. ap₂ (λ (v to : ℕ). moved_to (with_reg r1 11 v) to) (moved_address (global_address index) (omega arith)) (next_at q to (omega arith) small)) a.runs,
+          (λ _. ap₂ (λ (v to : ℕ). moved_to (with_reg r1 11 v) to) (moved_address (global_address index) (omega arith)) (next_at q to (omega arith) small)) a.runs,
     )
 
 -- ---- registers that loads and stores leave

@@ -1,12 +1,9 @@
 -- What a run makes in the group of a row that uses or defines an element of an array.
-use Rattle.std.proofs.Common.{◌≡◌, ℕ, pos, ◌+◌, ◌*◌, ◌^◌, ◌<◌, ◌≤◌, Bool, true, false, not, leb, List, [], ◌∷◌, ◌++◌, map, Contains, Option, Some, None, refl, sym, ap, ap₂, subst, ◌∙◌, inl, inr, arith}
-use Rattle.std.specs.List.{slice_get}
+use Rattle.std.proofs.Common.{◌≡◌, ℕ, pos, ◌+◌, ◌*◌, ◌^◌, ◌<◌, ◌≤◌, true, false, not, leb, List, [], ◌∷◌, ◌++◌, map, Contains, Some, None, refl, sym, ap, ap₂, subst, ◌∙◌, inl, inr, arith}
 use Rattle.std.proofs.lemmas.Bool.{cases_lt, le-leb}
-use Rattle.oat_a64.specs.declared.inst.Inst.{Inst}
-use Rattle.oat_a64.specs.declared.inst.Inst.TheVariants.{AddReg, SubsReg, Movz, Movk, BCond, LdrReg, StrReg, Svc, Brk}
+use Rattle.oat_a64.specs.declared.inst.Inst.TheVariants.{AddReg, SubsReg, Movz, Movk, BCond, LdrReg, StrReg, Svc}
 use Rattle.oat_a64.specs.Step.{Regs, holds, branch_target, next_pc, with_reg, with_flags, difference, shifted_left, wrap}
 use Rattle.oat_mem.specs.DataMemory.{word_in, global_address}
-use Rattle.oat_map.specs.declared.edge.Edge.{Edge}
 use Rattle.oat_map.specs.declared.row.Row.{Row}
 use Rattle.oat_map.specs.declared.row.Row.TheVariants as rows
 use Rattle.oat_map.specs.Rows.{row_over}
@@ -97,7 +94,7 @@ names image op p q to cell q_is to_is small move add r es low few runs =
     (λ _. ap₂ (λ (v to : ℕ). moved_to (with_reg r 9 v) to) (shifted_zero cell (omega arith)) (next_at p q q_is (omega arith))) runs in (
       a,
       lead image op (AddReg 9 9 12 0) r1 q to (λ _. with_cell r cell) a.rest add refl (λ o h. cc)
-      (λ _. ap₂ (λ (v to : ℕ). moved_to (with_reg r1 9 v) to) (element_cell cell (r.x 12) low few) (next_at q to (omega arith) small)) a.runs,
+          (λ _. ap₂ (λ (v to : ℕ). moved_to (with_reg r1 9 v) to) (element_cell cell (r.x 12) low few) (next_at q to (omega arith) small)) a.runs,
     )
 
 -- what a run makes in the whole group, with the monitor call for a cell and a value
