@@ -47,10 +47,10 @@ first_move index = global_address index % 2 ^ 16
 abbrev pub second_move : ℕ → ℕ
 second_move index = global_address index / 2 ^ 16
 
-pub addresses : (image : Image) (op p q to index : ℕ) → q ≡ p + 4 → to ≡ p + 8 → to < 2 ^ 64 → index ≤ 65535
+pub moves_address : (image : Image) (op p q to index : ℕ) → q ≡ p + 4 → to ≡ p + 8 → to < 2 ^ 64 → index ≤ 65535
     → Stands image.code p (Movz 11 0 (first_move index)) → Stands image.code q (Movk 11 1 (second_move index)) → (r : Regs) (es : List Entry) → Runs image.code op (moved_to r p) es
     → (a : Led image op (Movz 11 0 (first_move index)) r p q (λ _. with_half r index) es) × Led image op (Movk 11 1 (second_move index)) (with_half r index) q to (λ _. with_address r index) a.rest
-addresses image op p q to index q_is to_is small low first second r es runs =
+moves_address image op p q to index q_is to_is small low first second r es runs =
     let r1 = with_half r index in
     let a = lead image op (Movz 11 0 (first_move index)) r p q (λ _. r1) es first refl (λ o h. cc) (λ _. ap (moved_to r1) (next_at p q q_is (omega arith))) runs in (
       a,

@@ -21,7 +21,7 @@ use Rattle.oat_attest.proofs.Lists.{contains_get}
 use Rattle.oat_shape.specs.Laid.{IsLaid}
 use Rattle.oat_attest.proofs.Stretches.{Runs, last, more, moved_to, entry_by, inst_is, none_read, read_cons, Crossed, arrives, crossed_cons}
 use Rattle.oat_attest.proofs.Crossings.{lead, next_at, silent}
-use Rattle.oat_attest.proofs.Accesses.{shifted_zero, with_address, addresses, loaded, stored, loads_use}
+use Rattle.oat_attest.proofs.Accesses.{shifted_zero, with_address, moves_address, loaded, stored, loads_use}
 
 -- ---- uses
 
@@ -82,7 +82,7 @@ cross_use image laid op at cell has r es runs =
     let (index, cell_is, (moves, load, move, call)) = laid.group (rows.UseCell at cell) has in
     let (fits_row, short, closes) = laid.low (rows.UseCell at cell) has in
     let low = laid.cell index (contains_get image.cells cell index cell_is) in
-    let a = addresses image op at (at + 4) (at + 8) index refl refl (omega arith) low moves.0 moves.1 r es runs in
+    let a = moves_address image op at (at + 4) (at + 8) index refl refl (omega arith) low moves.0 moves.1 r es runs in
     let used = cross_load image op at cell index has low fits_row.1 (omega arith) cell_is load move call r a.1.rest a.1.runs in
     record {
       value = used.value;
@@ -107,7 +107,7 @@ cross_define image laid op at cell has r es runs =
     let small = fits_row.1 in
     let r1 = with_address r index in
     let r2 = with_reg r1 9 cell in
-    let a = addresses image op at (at + 4) (at + 8) index refl refl (omega arith) low moves.0 moves.1 r es runs in
+    let a = moves_address image op at (at + 4) (at + 8) index refl refl (omega arith) low moves.0 moves.1 r es runs in
     let b = lead image op (Movz 9 0 cell) r1 (at + 8) (at + 12) (λ _. r2) a.1.rest move refl (λ o h. cc)
     (λ _. ap₂ (λ (v q : ℕ). moved_to (with_reg r1 9 v) q) (shifted_zero cell (omega arith)) (next_at (at + 8) (at + 12) (omega arith) (omega arith))) a.1.runs in
     let c = lead image op (Str 10 11 0) r2 (at + 12) (at + 16) (λ _. r2) b.rest store refl (λ o h. cc)

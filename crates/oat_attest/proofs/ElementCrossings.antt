@@ -20,7 +20,7 @@ use Rattle.oat_attest.specs.Lockstep.{Placed, plain, calling, element_places}
 use Rattle.oat_attest.proofs.Lists.{contains_get}
 use Rattle.oat_attest.proofs.Stretches.{Runs, moved_to, entry_by, Crossed, arrives, crossed_cons}
 use Rattle.oat_attest.proofs.Crossings.{Led, lead, next_at, edge_is, silent, skips, if_leads}
-use Rattle.oat_attest.proofs.Accesses.{shifted_zero, with_address, second_move, addresses, loaded, stored, loads_use}
+use Rattle.oat_attest.proofs.Accesses.{shifted_zero, with_address, second_move, moves_address, loaded, stored, loads_use}
 
 -- ---- the test of an element's number, and the two moves
 
@@ -60,7 +60,7 @@ cross_test image op at len index row short few low (length_is, test, skip, trap)
     (λ _. ap (moved_to r2) (next_at (at + 4) (at + 8) (omega arith) (omega arith))) a.runs in
     let c = skips image op (at + 8) (at + 12) (at + 16) 2 (omega arith) (omega arith) (omega arith) r2 b.rest (BCond 3 (pos 2)) skip trap refl refl (holds 3 (moved_to r2 (at + 8)))
     (λ memory. if_leads (holds 3 (moved_to r2 (at + 8))) _ _ r2 (branch_target (at + 8) (pos 2)) (next_pc (at + 8)) refl refl) b.runs in
-    let d = addresses image op (at + 16) (at + 20) (at + 24) index (omega arith) (omega arith) (omega arith) low first
+    let d = moves_address image op (at + 16) (at + 20) (at + 24) index (omega arith) (omega arith) (omega arith) low first
     (subst (λ (p : ℕ). Stands image.code p (Movk 11 1 (second_move index))) behind second) r2 c.1.rest c.1.runs in
     record {
       rest = d.1.rest;
@@ -85,10 +85,10 @@ element_cell cell v low few = omega arith
 abbrev with_cell : Regs → ℕ → Regs
 with_cell r cell = with_reg (with_reg r 9 cell) 9 (cell + r.x 12)
 
-names : (image : Image) (op p q to cell : ℕ) → q ≡ p + 4 → to ≡ p + 8 → to < 2 ^ 64 → Stands image.code p (Movz 9 0 cell) → Stands image.code q (AddReg 9 9 12 0)
+names_element : (image : Image) (op p q to cell : ℕ) → q ≡ p + 4 → to ≡ p + 8 → to < 2 ^ 64 → Stands image.code p (Movz 9 0 cell) → Stands image.code q (AddReg 9 9 12 0)
     → (r : Regs) (es : List Entry) → cell ≤ 65535 → r.x 12 ≤ 4096 → Runs image.code op (moved_to r p) es
     → (a : Led image op (Movz 9 0 cell) r p q (λ _. with_reg r 9 cell) es) × Led image op (AddReg 9 9 12 0) (with_reg r 9 cell) q to (λ _. with_cell r cell) a.rest
-names image op p q to cell q_is to_is small move add r es low few runs =
+names_element image op p q to cell q_is to_is small move add r es low few runs =
     let r1 = with_reg r 9 cell in
     let a = lead image op (Movz 9 0 cell) r p q (λ _. r1) es move refl (λ o h. cc)
     (λ _. ap₂ (λ (v to : ℕ). moved_to (with_reg r 9 v) to) (shifted_zero cell (omega arith)) (next_at p q q_is (omega arith))) runs in (
@@ -123,7 +123,7 @@ read_element image op at cell len index r es among short small few below element
     let value = word_in a.memory (global_address place) in
     let r1 = with_reg r 10 value in
     let r2 = with_cell r1 cell in
-    let b = names image op (at + 28) (at + 32) (at + 36) cell (omega arith) (omega arith) (omega arith) move add r1 a.rest small few a.runs in
+    let b = names_element image op (at + 28) (at + 32) (at + 36) cell (omega arith) (omega arith) (omega arith) move add r1 a.rest small few a.runs in
     let c = lead image op (Svc 7) r2 (at + 36) (at + 40) (λ _. r2) b.1.rest call refl (λ o h. cc)
     (λ _. ap (moved_to r2) (next_at (at + 36) (at + 40) (omega arith) (omega arith))) b.1.runs in
     let e1 = entry_by (LdrReg 10 11 12) (moved_to r (at + 24)) a.memory in
@@ -172,7 +172,7 @@ write_element : (image : Image) (op at cell index : ℕ) (r : Regs) (es : List E
 write_element image op at cell index r es short small few element address move add store call runs =
     let v = r.x 12 in
     let r1 = with_cell r cell in
-    let a = names image op (at + 24) (at + 28) (at + 32) cell (omega arith) (omega arith) (omega arith) move add r es small few runs in
+    let a = names_element image op (at + 24) (at + 28) (at + 32) cell (omega arith) (omega arith) (omega arith) move add r es small few runs in
     let b = lead image op (StrReg 10 11 12) r1 (at + 32) (at + 36) (λ _. r1) a.1.rest store refl (λ o h. cc)
     (stored r1 _ (index + v) (at + 32) (at + 36) (element_address (r.x 11) index v address element.within) element.within (next_at (at + 32) (at + 36) (omega arith) (omega arith))) a.1.runs in
     let c = lead image op (Svc 6) r1 (at + 36) (at + 40) (λ _. r1) b.rest call refl (λ o h. cc)

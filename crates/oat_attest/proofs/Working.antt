@@ -15,7 +15,7 @@ use Rattle.oat_mem.specs.DataMemory.{word_in}
 use Rattle.oat_attest.proofs.Lists.{get_contains}
 use Rattle.oat_attest.proofs.Stretches.{none_read, read_cons}
 use Rattle.oat_attest.proofs.Accesses.{loads_use}
-use Rattle.oat_attest.specs.Worked.{two_uses, two_uses_map, made_at, use_at, both_passed, cells_used, TwoUses, one_element, made_for, use_element, OneElement, three_calls, SecondIsFalse}
+use Rattle.oat_attest.specs.Worked.{two_uses, two_uses_map, made_at, use_at, both_passed, cells_used, TwoUses, one_element, made_at_element, use_element, OneElement, three_calls, SecondIsFalse}
 
 -- ---- two uses
 
@@ -155,13 +155,13 @@ executed memory = (
 
 own_element : (memory : ℕ → ℕ) → AllReadByLoad one_element (use_element memory 1)
 own_element memory =
-    read_cons one_element (made_for memory 1 0x10008 (Movz 11 0 2)) _ (λ c v u. cc)
-    (read_cons one_element (made_for memory 1 0x1000C (SubsReg 31 12 11)) _ (λ c v u. cc)
-    (read_cons one_element (made_for memory 1 0x10010 (BCond 3 (pos 2))) _ (λ c v u. cc)
-    (read_cons one_element (made_for memory 1 0x10018 (Movz 11 0 0)) _ (λ c v u. cc)
-    (read_cons one_element (made_for memory 1 0x1001C (Movk 11 1 0x4000)) _ (λ c v u. cc)
-    (loads_use one_element (rows.UseAt 0x10008 0 2) (made_for memory 1 0x10020 (LdrReg 10 11 12)) (made_for memory 1 0x10024 (Movz 9 0 0) ∷ made_for memory 1 0x10028 (AddReg 9 9 12 0) ∷ [])
-    (made_for memory 1 0x1002C (Svc 7)) [] 1 (word_in memory 0x40000008) 1 (1, omega arith, refl) (refl, refl, (refl, refl, (refl, refl, tt))) refl refl (1, omega arith, refl) refl (refl, refl, refl) refl refl
+    read_cons one_element (made_at_element memory 1 0x10008 (Movz 11 0 2)) _ (λ c v u. cc)
+    (read_cons one_element (made_at_element memory 1 0x1000C (SubsReg 31 12 11)) _ (λ c v u. cc)
+    (read_cons one_element (made_at_element memory 1 0x10010 (BCond 3 (pos 2))) _ (λ c v u. cc)
+    (read_cons one_element (made_at_element memory 1 0x10018 (Movz 11 0 0)) _ (λ c v u. cc)
+    (read_cons one_element (made_at_element memory 1 0x1001C (Movk 11 1 0x4000)) _ (λ c v u. cc)
+    (loads_use one_element (rows.UseAt 0x10008 0 2) (made_at_element memory 1 0x10020 (LdrReg 10 11 12)) (made_at_element memory 1 0x10024 (Movz 9 0 0) ∷ made_at_element memory 1 0x10028 (AddReg 9 9 12 0) ∷ [])
+    (made_at_element memory 1 0x1002C (Svc 7)) [] 1 (word_in memory 0x40000008) 1 (1, omega arith, refl) (refl, refl, (refl, refl, (refl, refl, tt))) refl refl (1, omega arith, refl) refl (refl, refl, refl) refl refl
     (none_read one_element))))))
 
 -- the one row with uses

@@ -83,16 +83,16 @@ one_element = record {
 }
 
 -- an instruction that is made at an address, where X9 and X10 hold the number and the word of the second element's cell, X11 the address of the first one's word, and X12 a number
-abbrev pub made_for : (ℕ → ℕ) → ℕ → ℕ → Inst → Entry
-made_for memory number pc inst =
+abbrev pub made_at_element : (ℕ → ℕ) → ℕ → ℕ → Inst → Entry
+made_at_element memory number pc inst =
     made_with (λ k. if k == 9 then 1 else (if k == 10 then word_in memory 0x40000008 else (if k == 11 then 0x40000000 else (if k == 12 then number else 0)))) memory pc inst
 
 -- the group of its row, but for the trap, where the second element's cell is named
 abbrev pub use_element : (ℕ → ℕ) → ℕ → List Entry
 use_element memory number =
-    made_for memory number 0x10008 (Movz 11 0 2) ∷ made_for memory number 0x1000C (SubsReg 31 12 11) ∷ made_for memory number 0x10010 (BCond 3 (pos 2))
-    ∷ made_for memory number 0x10018 (Movz 11 0 0) ∷ made_for memory number 0x1001C (Movk 11 1 0x4000) ∷ made_for memory number 0x10020 (LdrReg 10 11 12)
-    ∷ made_for memory number 0x10024 (Movz 9 0 0) ∷ made_for memory number 0x10028 (AddReg 9 9 12 0) ∷ made_for memory number 0x1002C (Svc 7) ∷ []
+    made_at_element memory number 0x10008 (Movz 11 0 2) ∷ made_at_element memory number 0x1000C (SubsReg 31 12 11) ∷ made_at_element memory number 0x10010 (BCond 3 (pos 2))
+    ∷ made_at_element memory number 0x10018 (Movz 11 0 0) ∷ made_at_element memory number 0x1001C (Movk 11 1 0x4000) ∷ made_at_element memory number 0x10020 (LdrReg 10 11 12)
+    ∷ made_at_element memory number 0x10024 (Movz 9 0 0) ∷ made_at_element memory number 0x10028 (AddReg 9 9 12 0) ∷ made_at_element memory number 0x1002C (Svc 7) ∷ []
 
 pub record OneElement (memory : ℕ → ℕ) : Type 0 where
   -- the row is passed by its group without the trap, and it may use the second cell
