@@ -46,8 +46,8 @@ row_line (Begin at op) = spaced (codes "begin" ∷ hexadecimal 8 at ∷ decimal 
 row_line (End at op) = spaced (codes "end" ∷ hexadecimal 8 at ∷ decimal op ∷ [])
 row_line (UseCell at cell) = spaced (codes "use" ∷ hexadecimal 8 at ∷ decimal cell ∷ [])
 row_line (DefCell at cell) = spaced (codes "def" ∷ hexadecimal 8 at ∷ decimal cell ∷ [])
-row_line (UseAt at cell len) = []
-row_line (DefAt at cell len) = []
+row_line (UseAt at cell len) = spaced (codes "useat" ∷ hexadecimal 8 at ∷ decimal cell ∷ decimal len ∷ [])
+row_line (DefAt at cell len) = spaced (codes "defat" ∷ hexadecimal 8 at ∷ decimal cell ∷ decimal len ∷ [])
 row_line (Check at) = spaced (codes "check" ∷ hexadecimal 8 at ∷ [])
 
 -- ---- the text
@@ -106,8 +106,8 @@ IsRow (Begin at op) = IsAddress at × IsOperationNumber op
 IsRow (End at op) = IsAddress at × IsOperationNumber op
 IsRow (UseCell at cell) = IsAddress at × IsIndex cell
 IsRow (DefCell at cell) = IsAddress at × IsIndex cell
-IsRow (UseAt at cell len) = IsAddress at × IsIndex cell × IsLength len × ⊥
-IsRow (DefAt at cell len) = IsAddress at × IsIndex cell × IsLength len × ⊥
+IsRow (UseAt at cell len) = IsAddress at × IsIndex cell × IsLength len
+IsRow (DefAt at cell len) = IsAddress at × IsIndex cell × IsLength len
 IsRow (Check at) = IsAddress at
 
 -- so many items, each in its ranges

@@ -1,7 +1,7 @@
 -- What the lines of an image text say, with the first fault of a line, and the image or the fault of a whole
 -- text (docs/FORMATS.md). In a line a wrong word or spacing comes first, then a wrong number, then a count above its limit, then
 -- an index or address that doesn't rise.
-use Rattle.std.specs.Prelude.{ℕ, Bool, List, length, codes, Option, Some, None, ok_or, Result, Ok, Err, nat_lt, ◌==◌, bytes_eq, if◌then◌else◌}
+use Rattle.std.specs.Prelude.{ℕ, Bool, List, length, codes, Option, Some, None, ok_or, Result, Ok, nat_lt, ◌==◌, bytes_eq, if◌then◌else◌}
 use Rattle.oat_lines.specs.declared.fault.Fault.{Fault}
 use Rattle.oat_lines.specs.Faults.{at}
 use Rattle.oat_lines.specs.Reading.{◌>>=◌, guard, between}
@@ -13,17 +13,19 @@ use Rattle.oat_map.specs.declared.map.Map.{Map}
 use Rattle.oat_map.specs.declared.map.Function.{Function}
 use Rattle.oat_map.specs.declared.map.Block.{Block}
 use Rattle.oat_map.specs.declared.row.Row.{Row}
-use Rattle.oat_map.specs.declared.row.Row.TheVariants.{Jump, Branch, Call, ICall, Ret, Begin, End, UseCell, DefCell, Check}
+use Rattle.oat_map.specs.declared.row.Row.TheVariants.{Jump, Branch, Call, ICall, Ret, Begin, End, UseCell, DefCell, UseAt, DefAt, Check}
 use Rattle.oat_image.specs.declared.image.Image.{Image}
 use Rattle.oat_image.specs.declared.image.InitWord.{InitWord}
 use Rattle.oat_image.specs.declared.fault.ImageFaultKind.{ImageFaultKind}
 use Rattle.oat_image.specs.declared.fault.ImageFaultKind.TheVariants.{Token, Number}
 use Rattle.oat_image.specs.declared.row.RowKind.{RowKind}
-use Rattle.oat_image.specs.declared.row.RowKind.TheVariants.{Edge, Point}
+use Rattle.oat_image.specs.declared.row.RowKind.TheVariants.{Edge, Point, Element}
 use Rattle.oat_image.specs.declared.row.EdgeKind.{EdgeKind}
 use Rattle.oat_image.specs.declared.row.EdgeKind.TheVariants as edges
 use Rattle.oat_image.specs.declared.row.PointKind.{PointKind}
 use Rattle.oat_image.specs.declared.row.PointKind.TheVariants as points
+use Rattle.oat_image.specs.declared.element.ElementKind.{ElementKind}
+use Rattle.oat_image.specs.declared.element.ElementKind.TheVariants as elements
 use Rattle.oat_image.specs.Reading.{Remainder, section_at, fixed_at}
 
 -- ---- words
@@ -110,7 +112,9 @@ kind_of word =
     if bytes_eq word (codes "end") then Some (Point points.End) else
     if bytes_eq word (codes "use") then Some (Point points.UseCell) else
     if bytes_eq word (codes "def") then Some (Point points.DefCell) else
-    if bytes_eq word (codes "check") then Some (Point points.Check) else None
+    if bytes_eq word (codes "check") then Some (Point points.Check) else
+    if bytes_eq word (codes "useat") then Some (Element elements.UseAt) else
+    if bytes_eq word (codes "defat") then Some (Element elements.DefAt) else None
 
 unfoldable pub sole_address : List ℕ → Result ℕ ImageFaultKind
 sole_address fields = do
@@ -143,6 +147,19 @@ address_and_number least most fields = do
   n ← number_in least most words.1
   Ok (address, n)
 
+-- an address, and an array by the number of its first cell and its length
+unfoldable pub array_of : List ℕ → List ℕ → List ℕ → Result (ℕ × ℕ × ℕ) ImageFaultKind
+array_of one two three = do
+  address ← eight_digits one
+  cell ← number_in 0 65535 two
+  len ← number_in 1 4096 three
+  Ok (address, cell, len)
+
+unfoldable pub address_and_array : List ℕ → Result (ℕ × ℕ × ℕ) ImageFaultKind
+address_and_array fields = do
+  words ← ok_or (three_fields fields) Token
+  array_of words.0 words.1 words.2
+
 unfoldable pub edge_row : EdgeKind → List ℕ → Result Row ImageFaultKind
 edge_row edges.Jump fields = two_addresses fields >>= λ p. Ok (Jump p.0 p.1)
 edge_row edges.Branch fields = three_addresses fields >>= λ p. Ok (Branch p.0 p.1 p.2)
@@ -157,9 +174,14 @@ point_row points.UseCell fields = address_and_number 0 65535 fields >>= λ p. Ok
 point_row points.DefCell fields = address_and_number 0 65535 fields >>= λ p. Ok (DefCell p.0 p.1)
 point_row points.Check fields = sole_address fields >>= λ a. Ok (Check a)
 
+unfoldable pub element_row : ElementKind → List ℕ → Result Row ImageFaultKind
+element_row elements.UseAt fields = address_and_array fields >>= λ p. Ok (UseAt p.0 p.1 p.2)
+element_row elements.DefAt fields = address_and_array fields >>= λ p. Ok (DefAt p.0 p.1 p.2)
+
 abbrev pub row_with : RowKind → List ℕ → Result Row ImageFaultKind
 row_with (Edge kind) fields = edge_row kind fields
 row_with (Point kind) fields = point_row kind fields
+row_with (Element kind) fields = element_row kind fields
 
 unfoldable pub row_of : List ℕ → Result Row ImageFaultKind
 row_of line = do

@@ -1,6 +1,7 @@
 //! Images: code, initial words, cells and map, and the text that spells them.
 #![tactic(auto)]
 
+mod element;
 mod fault;
 mod image;
 pub mod laws;

@@ -5,11 +5,12 @@ ghost use Rattle.oat_image.specs.Printing.{Takes};
 ghost use Rattle.oat_image.specs.Grammar.{row_line, IsRow};
 ghost use Rattle.oat_image.specs.ImageReading.{kind_of, sole_address, two_addresses, addresses_of, three_addresses, address_and_number, edge_row, point_row, row_with, row_of, no_key};
 
+use crate::element::{ElementKind, is_length, put_element, read_element};
 use crate::fault::ImageFaultKind;
 use crate::line::{is_address, read_address, read_number};
 use crate::receiver::Receiver;
 use crate::text::Form;
-use crate::words::{address_digits, put_four, put_line, put_three, put_two};
+use crate::words::{address_digits, put_four, put_three, put_two};
 use itoa::Buffer;
 use oat_lines::{read_field, read_one_field, read_three_fields, read_two_fields};
 use oat_map::Row;
@@ -39,6 +40,7 @@ pub(crate) enum PointKind {
 pub(crate) enum RowKind {
     Edge(EdgeKind),
     Point(PointKind),
+    Element(ElementKind),
 }
 
 pub(crate) struct RowLine;
@@ -66,6 +68,10 @@ fn read_kind(word: &[u8]) -> Option<RowKind>
         Some(RowKind::Point(PointKind::DefCell))
     } else if word == b"check".as_slice() {
         Some(RowKind::Point(PointKind::Check))
+    } else if word == b"useat".as_slice() {
+        Some(RowKind::Element(ElementKind::UseAt))
+    } else if word == b"defat".as_slice() {
+        Some(RowKind::Element(ElementKind::DefAt))
     } else {
         None
     }
@@ -200,6 +206,7 @@ fn read_row(kind: RowKind, fields: &[u8]) -> Result<Row, ImageFaultKind>
     match kind {
         RowKind::Edge(kind) => read_edge(kind, fields),
         RowKind::Point(kind) => read_point(kind, fields),
+        RowKind::Element(kind) => read_element(kind, fields),
     }
 }
 
@@ -261,7 +268,10 @@ impl Form for RowLine {
                 let _cell = *cell;
                 is_address(*at)
             }
-            Row::UseAt { .. } | Row::DefAt { .. } => false,
+            Row::UseAt { at, cell, len } | Row::DefAt { at, cell, len } => {
+                let _cell = *cell;
+                is_address(*at) && is_length(*len)
+            }
         }
     }
 
@@ -282,7 +292,8 @@ impl Form for RowLine {
             Row::End { at, op } => put_numbered(out, b"end", *at, *op),
             Row::UseCell { at, cell } => put_numbered(out, b"use", *at, *cell),
             Row::DefCell { at, cell } => put_numbered(out, b"def", *at, *cell),
-            Row::UseAt { .. } | Row::DefAt { .. } => put_line(out, b""),
+            Row::UseAt { at, cell, len } => put_element(out, b"useat", *at, *cell, *len),
+            Row::DefAt { at, cell, len } => put_element(out, b"defat", *at, *cell, *len),
             Row::Check { at } => put_two(out, b"check", &address_digits(*at)),
         }
     }
