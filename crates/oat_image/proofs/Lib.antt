@@ -2,6 +2,7 @@ mod Loop
 mod Names
 mod Sections
 mod Forms
+mod Versions
 mod RowForms
 mod Images
 pub mod ImageTexts

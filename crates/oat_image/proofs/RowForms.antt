@@ -2,7 +2,7 @@
 use Rattle.std.proofs.Common.{◌≡◌, ℕ, ◌≤◌, ◌<◌, ◌^◌, Bool, true, false, List, [], ◌∷◌, ◌++◌, Option, Some, Result, Ok, refl, sym, ap, subst, ◌∙◌, arith}
 use Rattle.std.specs.Prelude.{if◌then◌else◌, ok_or, bytes_eq, decimal, codes}
 use Rattle.std.specs.List.{list_all}
-use Rattle.oat_lines.specs.Reading.{◌>>=◌}
+use Rattle.oat_lines.specs.Reading.{◌>>=◌, guard}
 use Rattle.oat_lines.specs.Hexadecimal.{hexadecimal}
 use Rattle.oat_lines.specs.Fields.{one_field, field_and_rest, two_fields, three_fields, spaced, IsField}
 use Rattle.oat_lines.proofs.Cutting.{one_takes, field_takes, two_take, three_take, one_again, field_again, two_again, three_again, within_field, within_spaced, two_within, three_within, is_within_line}
@@ -16,8 +16,9 @@ use Rattle.oat_image.specs.declared.element.ElementKind.TheVariants as elements
 use Rattle.oat_image.specs.declared.fault.ImageFaultKind.{ImageFaultKind}
 use Rattle.oat_image.specs.declared.fault.ImageFaultKind.TheVariants.{Token}
 use Rattle.oat_image.specs.Grammar.{row_line, IsRow, IsLength}
-use Rattle.oat_image.specs.ImageReading.{kind_of, sole_address, two_addresses, addresses_of, three_addresses, address_and_number, number_in, eight_digits, array_of, address_and_array, edge_row, point_row, element_row, row_with, row_of}
-use Rattle.oat_lines.proofs.Steps.{bind_ok, ok_is, or_ok, some_is}
+use Rattle.oat_image.specs.ImageReading.{is_kind_in, kind_in, kind_of, sole_address, two_addresses, addresses_of, three_addresses, address_and_number, number_in, eight_digits, array_of, address_and_array, edge_row, point_row, element_row, row_with, row_of}
+use Rattle.oat_lines.proofs.Steps.{bind_ok, guarded_ok, ok_is, or_ok, some_is}
+use Rattle.oat_image.proofs.Versions.{IsRowIn}
 use Rattle.oat_image.proofs.Sections.{IsForm, bytes_take, decimal_field}
 use Rattle.oat_image.proofs.Forms.{address_takes, address_again, address_field, number_takes, number_again}
 
@@ -211,62 +212,69 @@ element_again a c l la lc ll =
 
 -- ---- rows
 
--- the line is that of the row
-abbrev Spells : List ℕ → List ℕ → Row → Type 0
-Spells keyword fields r = (keyword ++ 32 ∷ fields ≡ row_line r) × IsRow r
+-- the line is that of the row, which is one of the version
+abbrev Spells : Bool → List ℕ → List ℕ → Row → Type 0
+Spells second keyword fields r = (keyword ++ 32 ∷ fields ≡ row_line r) × IsRowIn second r
 
-made : {X : Type 0} (read : Result X ImageFaultKind) (make : X → Row) (keyword fields : List ℕ) (r : Row)
-    → ((x : X) → read ≡ Ok x → Spells keyword fields (make x)) → (read >>= λ x. Ok (make x)) ≡ Ok r → Spells keyword fields r
-made read make keyword fields r spelled e =
+made : {X : Type 0} (second : Bool) (read : Result X ImageFaultKind) (make : X → Row) (keyword fields : List ℕ) (r : Row)
+    → ((x : X) → read ≡ Ok x → Spells second keyword fields (make x)) → (read >>= λ x. Ok (make x)) ≡ Ok r → Spells second keyword fields r
+made second read make keyword fields r spelled e =
     let a = bind_ok read (λ x. Ok (make x)) r e in
-    subst (λ (q : Row). Spells keyword fields q) (ok_is (make a.0) r a.2) (spelled a.0 a.1)
+    subst (λ (q : Row). Spells second keyword fields q) (ok_is (make a.0) r a.2) (spelled a.0 a.1)
 
-with_takes : (k : RowKind) (fields : List ℕ) (r : Row) → row_with k fields ≡ Ok r → Spells (keyword_of k) fields r
+with_takes : (second : Bool) (k : RowKind) (fields : List ℕ) (r : Row) → is_kind_in second k ≡ true → row_with k fields ≡ Ok r → Spells second (keyword_of k) fields r
 unfolding edge_row point_row element_row
-with_takes (Edge edges.Jump) fields r e = made (two_addresses fields) (λ x. Jump x.0 x.1) (codes "jump") fields r (λ x is. (let n = pair_takes fields x is in (ap (λ (t : List ℕ). codes "jump" ++ 32 ∷ t) n.0, (n.1, n.2)))) e
-with_takes (Edge edges.Branch) fields r e = made (three_addresses fields) (λ x. Branch x.0 x.1 x.2) (codes "branch") fields r (λ x is. (let n = triple_takes fields x is in (ap (λ (t : List ℕ). codes "branch" ++ 32 ∷ t) n.0, (n.1, n.2, n.3)))) e
-with_takes (Edge edges.Call) fields r e = made (two_addresses fields) (λ x. Call x.0 x.1) (codes "call") fields r (λ x is. (let n = pair_takes fields x is in (ap (λ (t : List ℕ). codes "call" ++ 32 ∷ t) n.0, (n.1, n.2)))) e
-with_takes (Edge edges.ICall) fields r e = made (address_and_number 0 4 fields) (λ x. ICall x.0 x.1) (codes "icall") fields r (λ x is. (let n = numbered_takes 0 4 fields x (omega arith) is in (ap (λ (t : List ℕ). codes "icall" ++ 32 ∷ t) n.0, (n.1, n.3)))) e
-with_takes (Edge edges.Ret) fields r e = made (sole_address fields) (λ x. Ret x) (codes "ret") fields r (λ x is. (let n = sole_takes fields x is in (ap (λ (t : List ℕ). codes "ret" ++ 32 ∷ t) n.0, n.1))) e
-with_takes (Point points.Begin) fields r e = made (address_and_number 1 65535 fields) (λ x. Begin x.0 x.1) (codes "begin") fields r (λ x is. (let n = numbered_takes 1 65535 fields x (omega arith) is in (ap (λ (t : List ℕ). codes "begin" ++ 32 ∷ t) n.0, (n.1, (n.2, n.3))))) e
-with_takes (Point points.End) fields r e = made (address_and_number 1 65535 fields) (λ x. End x.0 x.1) (codes "end") fields r (λ x is. (let n = numbered_takes 1 65535 fields x (omega arith) is in (ap (λ (t : List ℕ). codes "end" ++ 32 ∷ t) n.0, (n.1, (n.2, n.3))))) e
-with_takes (Point points.UseCell) fields r e = made (address_and_number 0 65535 fields) (λ x. UseCell x.0 x.1) (codes "use") fields r (λ x is. (let n = numbered_takes 0 65535 fields x (omega arith) is in (ap (λ (t : List ℕ). codes "use" ++ 32 ∷ t) n.0, (n.1, n.3)))) e
-with_takes (Point points.DefCell) fields r e = made (address_and_number 0 65535 fields) (λ x. DefCell x.0 x.1) (codes "def") fields r (λ x is. (let n = numbered_takes 0 65535 fields x (omega arith) is in (ap (λ (t : List ℕ). codes "def" ++ 32 ∷ t) n.0, (n.1, n.3)))) e
-with_takes (Point points.Check) fields r e = made (sole_address fields) (λ x. Check x) (codes "check") fields r (λ x is. (let n = sole_takes fields x is in (ap (λ (t : List ℕ). codes "check" ++ 32 ∷ t) n.0, n.1))) e
-with_takes (Element elements.UseAt) fields r e = made (address_and_array fields) (λ x. UseAt x.0 x.1 x.2) (codes "useat") fields r (λ x is. (let n = element_takes fields x is in (ap (λ (t : List ℕ). codes "useat" ++ 32 ∷ t) n.0, (n.1, n.2, n.3)))) e
-with_takes (Element elements.DefAt) fields r e = made (address_and_array fields) (λ x. DefAt x.0 x.1 x.2) (codes "defat") fields r (λ x is. (let n = element_takes fields x is in (ap (λ (t : List ℕ). codes "defat" ++ 32 ∷ t) n.0, (n.1, n.2, n.3)))) e
+with_takes second (Edge edges.Jump) fields r known e = made second (two_addresses fields) (λ x. Jump x.0 x.1) (codes "jump") fields r (λ x is. (let n = pair_takes fields x is in (ap (λ (t : List ℕ). codes "jump" ++ 32 ∷ t) n.0, ((n.1, n.2), refl)))) e
+with_takes second (Edge edges.Branch) fields r known e = made second (three_addresses fields) (λ x. Branch x.0 x.1 x.2) (codes "branch") fields r (λ x is. (let n = triple_takes fields x is in (ap (λ (t : List ℕ). codes "branch" ++ 32 ∷ t) n.0, ((n.1, n.2, n.3), refl)))) e
+with_takes second (Edge edges.Call) fields r known e = made second (two_addresses fields) (λ x. Call x.0 x.1) (codes "call") fields r (λ x is. (let n = pair_takes fields x is in (ap (λ (t : List ℕ). codes "call" ++ 32 ∷ t) n.0, ((n.1, n.2), refl)))) e
+with_takes second (Edge edges.ICall) fields r known e = made second (address_and_number 0 4 fields) (λ x. ICall x.0 x.1) (codes "icall") fields r (λ x is. (let n = numbered_takes 0 4 fields x (omega arith) is in (ap (λ (t : List ℕ). codes "icall" ++ 32 ∷ t) n.0, ((n.1, n.3), refl)))) e
+with_takes second (Edge edges.Ret) fields r known e = made second (sole_address fields) (λ x. Ret x) (codes "ret") fields r (λ x is. (let n = sole_takes fields x is in (ap (λ (t : List ℕ). codes "ret" ++ 32 ∷ t) n.0, (n.1, refl)))) e
+with_takes second (Point points.Begin) fields r known e = made second (address_and_number 1 65535 fields) (λ x. Begin x.0 x.1) (codes "begin") fields r (λ x is. (let n = numbered_takes 1 65535 fields x (omega arith) is in (ap (λ (t : List ℕ). codes "begin" ++ 32 ∷ t) n.0, ((n.1, (n.2, n.3)), refl)))) e
+with_takes second (Point points.End) fields r known e = made second (address_and_number 1 65535 fields) (λ x. End x.0 x.1) (codes "end") fields r (λ x is. (let n = numbered_takes 1 65535 fields x (omega arith) is in (ap (λ (t : List ℕ). codes "end" ++ 32 ∷ t) n.0, ((n.1, (n.2, n.3)), refl)))) e
+with_takes second (Point points.UseCell) fields r known e = made second (address_and_number 0 65535 fields) (λ x. UseCell x.0 x.1) (codes "use") fields r (λ x is. (let n = numbered_takes 0 65535 fields x (omega arith) is in (ap (λ (t : List ℕ). codes "use" ++ 32 ∷ t) n.0, ((n.1, n.3), refl)))) e
+with_takes second (Point points.DefCell) fields r known e = made second (address_and_number 0 65535 fields) (λ x. DefCell x.0 x.1) (codes "def") fields r (λ x is. (let n = numbered_takes 0 65535 fields x (omega arith) is in (ap (λ (t : List ℕ). codes "def" ++ 32 ∷ t) n.0, ((n.1, n.3), refl)))) e
+with_takes second (Point points.Check) fields r known e = made second (sole_address fields) (λ x. Check x) (codes "check") fields r (λ x is. (let n = sole_takes fields x is in (ap (λ (t : List ℕ). codes "check" ++ 32 ∷ t) n.0, (n.1, refl)))) e
+with_takes second (Element elements.UseAt) fields r known e = made second (address_and_array fields) (λ x. UseAt x.0 x.1 x.2) (codes "useat") fields r (λ x is. (let n = element_takes fields x is in (ap (λ (t : List ℕ). codes "useat" ++ 32 ∷ t) n.0, ((n.1, n.2, n.3), known)))) e
+with_takes second (Element elements.DefAt) fields r known e = made second (address_and_array fields) (λ x. DefAt x.0 x.1 x.2) (codes "defat") fields r (λ x is. (let n = element_takes fields x is in (ap (λ (t : List ℕ). codes "defat" ++ 32 ∷ t) n.0, ((n.1, n.2, n.3), known)))) e
 
-row_takes : (line : List ℕ) (r : Row) → row_of line ≡ Ok r → (line ≡ row_line r) × IsRow r
+kind_stands : (second : Bool) (word : List ℕ) (k : RowKind) → kind_in second word ≡ Ok k → (word ≡ keyword_of k) × (is_kind_in second k ≡ true)
+unfolding kind_in
+kind_stands second word k e =
+    let a = bind_ok (ok_or (kind_of word) Token) (λ kind. guard (is_kind_in second kind) Token >>= λ known. Ok kind) k e in
+    let b = guarded_ok (is_kind_in second a.0) Token (λ known. Ok a.0) k a.2 in
+    subst (λ (q : RowKind). (word ≡ keyword_of q) × (is_kind_in second q ≡ true)) (ok_is a.0 k b.1) (kind_takes word a.0 (or_ok (kind_of word) Token a.0 a.1), b.0)
+
+row_takes : (second : Bool) (line : List ℕ) (r : Row) → row_of second line ≡ Ok r → (line ≡ row_line r) × IsRowIn second r
 unfolding row_of
-row_takes line r e =
-    let a = bind_ok (ok_or (field_and_rest line) Token) (λ parts. ok_or (kind_of parts.0) Token >>= λ kind. row_with kind parts.1) r e in
-    let b = bind_ok (ok_or (kind_of a.0.0) Token) (λ kind. row_with kind a.0.1) r a.2 in
-    let word : a.0.0 ≡ keyword_of b.0 = kind_takes a.0.0 b.0 (or_ok (kind_of a.0.0) Token b.0 b.1) in
-    let row = with_takes b.0 a.0.1 r b.2 in
-    (field_takes line a.0 (or_ok (field_and_rest line) Token a.0 a.1) ∙ ap (λ (w : List ℕ). w ++ 32 ∷ a.0.1) word ∙ row.0, row.1)
+row_takes second line r e =
+    let a = bind_ok (ok_or (field_and_rest line) Token) (λ parts. kind_in second parts.0 >>= λ kind. row_with kind parts.1) r e in
+    let b = bind_ok (kind_in second a.0.0) (λ kind. row_with kind a.0.1) r a.2 in
+    let kind = kind_stands second a.0.0 b.0 b.1 in
+    let row = with_takes second b.0 a.0.1 r kind.1 b.2 in
+    (field_takes line a.0 (or_ok (field_and_rest line) Token a.0 a.1) ∙ ap (λ (w : List ℕ). w ++ 32 ∷ a.0.1) kind.0 ∙ row.0, row.1)
 
 -- the keyword sends the rest of the line to its kind
-row_step : (k : RowKind) (keyword fields : List ℕ) → keyword ≡ keyword_of k → row_of (keyword ++ 32 ∷ fields) ≡ row_with k fields
-unfolding row_of
-row_step k keyword fields is =
+row_step : (second : Bool) (k : RowKind) (keyword fields : List ℕ) → keyword ≡ keyword_of k → is_kind_in second k ≡ true → row_of second (keyword ++ 32 ∷ fields) ≡ row_with k fields
+unfolding row_of kind_in
+row_step second k keyword fields is known =
     let field : IsField keyword = subst (λ (w : List ℕ). IsField w) (sym is) (keyword_field k) in
     let kind : kind_of keyword ≡ Some k = ap kind_of is ∙ kind_again k in
-    rw (field_again keyword fields field) (ap (λ (o : Option RowKind). ok_or o Token >>= λ r. row_with r fields) kind)
+    rw (field_again keyword fields field, kind, known) refl
 
-row_again : (r : Row) → IsRow r → row_of (row_line r) ≡ Ok r
+row_again : (second : Bool) (r : Row) → IsRowIn second r → row_of second (row_line r) ≡ Ok r
 unfolding edge_row point_row element_row
-row_again (Jump a b) fits = row_step (Edge edges.Jump) (codes "jump") (spaced (hexadecimal 8 a ∷ hexadecimal 8 b ∷ [])) refl ∙ rw (pair_again a b fits.0 fits.1) refl
-row_again (Branch a b d) fits = row_step (Edge edges.Branch) (codes "branch") (spaced (hexadecimal 8 a ∷ hexadecimal 8 b ∷ hexadecimal 8 d ∷ [])) refl ∙ rw (triple_again a b d fits.0 fits.1 fits.2) refl
-row_again (Call a b) fits = row_step (Edge edges.Call) (codes "call") (spaced (hexadecimal 8 a ∷ hexadecimal 8 b ∷ [])) refl ∙ rw (pair_again a b fits.0 fits.1) refl
-row_again (ICall a n) fits = row_step (Edge edges.ICall) (codes "icall") (spaced (hexadecimal 8 a ∷ decimal n ∷ [])) refl ∙ rw (numbered_again 0 4 a n fits.0 (omega arith) fits.1 (omega arith)) refl
-row_again (Ret a) fits = row_step (Edge edges.Ret) (codes "ret") (hexadecimal 8 a) refl ∙ rw (sole_again a fits) refl
-row_again (Begin a n) fits = row_step (Point points.Begin) (codes "begin") (spaced (hexadecimal 8 a ∷ decimal n ∷ [])) refl ∙ rw (numbered_again 1 65535 a n fits.0 fits.1.0 fits.1.1 (omega arith)) refl
-row_again (End a n) fits = row_step (Point points.End) (codes "end") (spaced (hexadecimal 8 a ∷ decimal n ∷ [])) refl ∙ rw (numbered_again 1 65535 a n fits.0 fits.1.0 fits.1.1 (omega arith)) refl
-row_again (UseCell a n) fits = row_step (Point points.UseCell) (codes "use") (spaced (hexadecimal 8 a ∷ decimal n ∷ [])) refl ∙ rw (numbered_again 0 65535 a n fits.0 (omega arith) fits.1 (omega arith)) refl
-row_again (DefCell a n) fits = row_step (Point points.DefCell) (codes "def") (spaced (hexadecimal 8 a ∷ decimal n ∷ [])) refl ∙ rw (numbered_again 0 65535 a n fits.0 (omega arith) fits.1 (omega arith)) refl
-row_again (UseAt a n l) fits = row_step (Element elements.UseAt) (codes "useat") (spaced (hexadecimal 8 a ∷ decimal n ∷ decimal l ∷ [])) refl ∙ rw (element_again a n l fits.0 fits.1 fits.2) refl
-row_again (DefAt a n l) fits = row_step (Element elements.DefAt) (codes "defat") (spaced (hexadecimal 8 a ∷ decimal n ∷ decimal l ∷ [])) refl ∙ rw (element_again a n l fits.0 fits.1 fits.2) refl
-row_again (Check a) fits = row_step (Point points.Check) (codes "check") (hexadecimal 8 a) refl ∙ rw (sole_again a fits) refl
+row_again second (Jump a b) fits = row_step second (Edge edges.Jump) (codes "jump") (spaced (hexadecimal 8 a ∷ hexadecimal 8 b ∷ [])) refl refl ∙ rw (pair_again a b fits.0.0 fits.0.1) refl
+row_again second (Branch a b d) fits = row_step second (Edge edges.Branch) (codes "branch") (spaced (hexadecimal 8 a ∷ hexadecimal 8 b ∷ hexadecimal 8 d ∷ [])) refl refl ∙ rw (triple_again a b d fits.0.0 fits.0.1 fits.0.2) refl
+row_again second (Call a b) fits = row_step second (Edge edges.Call) (codes "call") (spaced (hexadecimal 8 a ∷ hexadecimal 8 b ∷ [])) refl refl ∙ rw (pair_again a b fits.0.0 fits.0.1) refl
+row_again second (ICall a n) fits = row_step second (Edge edges.ICall) (codes "icall") (spaced (hexadecimal 8 a ∷ decimal n ∷ [])) refl refl ∙ rw (numbered_again 0 4 a n fits.0.0 (omega arith) fits.0.1 (omega arith)) refl
+row_again second (Ret a) fits = row_step second (Edge edges.Ret) (codes "ret") (hexadecimal 8 a) refl refl ∙ rw (sole_again a fits.0) refl
+row_again second (Begin a n) fits = row_step second (Point points.Begin) (codes "begin") (spaced (hexadecimal 8 a ∷ decimal n ∷ [])) refl refl ∙ rw (numbered_again 1 65535 a n fits.0.0 fits.0.1.0 fits.0.1.1 (omega arith)) refl
+row_again second (End a n) fits = row_step second (Point points.End) (codes "end") (spaced (hexadecimal 8 a ∷ decimal n ∷ [])) refl refl ∙ rw (numbered_again 1 65535 a n fits.0.0 fits.0.1.0 fits.0.1.1 (omega arith)) refl
+row_again second (UseCell a n) fits = row_step second (Point points.UseCell) (codes "use") (spaced (hexadecimal 8 a ∷ decimal n ∷ [])) refl refl ∙ rw (numbered_again 0 65535 a n fits.0.0 (omega arith) fits.0.1 (omega arith)) refl
+row_again second (DefCell a n) fits = row_step second (Point points.DefCell) (codes "def") (spaced (hexadecimal 8 a ∷ decimal n ∷ [])) refl refl ∙ rw (numbered_again 0 65535 a n fits.0.0 (omega arith) fits.0.1 (omega arith)) refl
+row_again second (UseAt a n l) fits = row_step second (Element elements.UseAt) (codes "useat") (spaced (hexadecimal 8 a ∷ decimal n ∷ decimal l ∷ [])) refl fits.1 ∙ rw (element_again a n l fits.0.0 fits.0.1 fits.0.2) refl
+row_again second (DefAt a n l) fits = row_step second (Element elements.DefAt) (codes "defat") (spaced (hexadecimal 8 a ∷ decimal n ∷ decimal l ∷ [])) refl fits.1 ∙ rw (element_again a n l fits.0.0 fits.0.1 fits.0.2) refl
+row_again second (Check a) fits = row_step second (Point points.Check) (codes "check") (hexadecimal 8 a) refl refl ∙ rw (sole_again a fits.0) refl
 
 numbered_within : (k : RowKind) (a n : ℕ) → n < 2 ^ 64 → list_all is_within_line (keyword_of k ++ 32 ∷ spaced (hexadecimal 8 a ∷ decimal n ∷ [])) ≡ true
 numbered_within k a n small = within_spaced (keyword_of k) (spaced (hexadecimal 8 a ∷ decimal n ∷ [])) (keyword_field k) (two_within (hexadecimal 8 a) (decimal n) (address_field a) (decimal_field n small))
@@ -298,5 +306,5 @@ row_whole (UseAt a n l) fits = element_within (Element elements.UseAt) a n l fit
 row_whole (DefAt a n l) fits = element_within (Element elements.DefAt) a n l fits.1 fits.2
 row_whole (Check a) fits = single_within (Point points.Check) a
 
-pub row_form : IsForm row_of row_line IsRow
-row_form = record { takes = row_takes; again = row_again; whole = row_whole }
+pub row_form : (second : Bool) → IsForm (row_of second) row_line (IsRowIn second)
+row_form second = record { takes = row_takes second; again = row_again second; whole = λ r fits. row_whole r fits.0 }

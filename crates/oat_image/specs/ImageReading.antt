@@ -1,7 +1,7 @@
 -- What the lines of an image text say, with the first fault of a line, and the image or the fault of a whole
 -- text (docs/FORMATS.md). In a line a wrong word or spacing comes first, then a wrong number, then a count above its limit, then
 -- an index or address that doesn't rise.
-use Rattle.std.specs.Prelude.{ℕ, Bool, List, length, codes, Option, Some, None, ok_or, Result, Ok, nat_lt, ◌==◌, bytes_eq, if◌then◌else◌}
+use Rattle.std.specs.Prelude.{ℕ, Bool, true, false, not, ◌||◌, List, length, codes, Option, Some, None, ok_or, Result, Ok, Err, nat_lt, ◌==◌, bytes_eq, if◌then◌else◌}
 use Rattle.oat_lines.specs.declared.fault.Fault.{Fault}
 use Rattle.oat_lines.specs.Faults.{at}
 use Rattle.oat_lines.specs.Reading.{◌>>=◌, guard, between}
@@ -26,7 +26,8 @@ use Rattle.oat_image.specs.declared.row.PointKind.{PointKind}
 use Rattle.oat_image.specs.declared.row.PointKind.TheVariants as points
 use Rattle.oat_image.specs.declared.element.ElementKind.{ElementKind}
 use Rattle.oat_image.specs.declared.element.ElementKind.TheVariants as elements
-use Rattle.oat_image.specs.Reading.{Remainder, section_at, fixed_at}
+use Rattle.oat_image.specs.Grammar.{version_line, has_elements}
+use Rattle.oat_image.specs.Reading.{Remainder, line_at, section_at, fixed_at}
 
 -- ---- words
 
@@ -183,10 +184,21 @@ row_with (Edge kind) fields = edge_row kind fields
 row_with (Point kind) fields = point_row kind fields
 row_with (Element kind) fields = element_row kind fields
 
-unfoldable pub row_of : List ℕ → Result Row ImageFaultKind
-row_of line = do
+-- rows of elements are of the second version alone
+abbrev pub is_kind_in : Bool → RowKind → Bool
+is_kind_in second (Element kind) = second
+is_kind_in second _ = true
+
+unfoldable pub kind_in : Bool → List ℕ → Result RowKind ImageFaultKind
+kind_in second word = do
+  kind ← ok_or (kind_of word) Token
+  known ← guard (is_kind_in second kind) Token
+  Ok kind
+
+unfoldable pub row_of : Bool → List ℕ → Result Row ImageFaultKind
+row_of second line = do
   parts ← ok_or (field_and_rest line) Token
-  kind ← ok_or (kind_of parts.0) Token
+  kind ← kind_in second parts.0
   row_with kind parts.1
 
 -- ---- texts
@@ -203,6 +215,18 @@ entry_key f = Some f.entry
 abbrev pub start_key : Block → Option ℕ
 start_key b = Some b.start
 
+-- whether the first line is that of the second version
+abbrev pub version_of : List ℕ → Result Bool ImageFaultKind
+version_of line =
+    if bytes_eq line (version_line false) then Ok false else
+    if bytes_eq line (version_line true) then Ok true else Err Token
+
+unfoldable pub version_at : Remainder → Result (Bool × Remainder) (Fault ImageFaultKind)
+version_at t = do
+  line ← line_at t
+  second ← at t.line (version_of line.0)
+  Ok (second, line.1)
+
 -- code, data and cells
 unfoldable pub memory_at : Remainder → Result (List ℕ × List InitWord × List ℕ × Remainder) (Fault ImageFaultKind)
 memory_at t = do
@@ -212,28 +236,29 @@ memory_at t = do
   Ok (code.0, words.0, cells.0, cells.1)
 
 -- functions, blocks and rows
-unfoldable pub map_at : Remainder → Result (Map × Remainder) (Fault ImageFaultKind)
-map_at t = do
+unfoldable pub map_at : Bool → Remainder → Result (Map × Remainder) (Fault ImageFaultKind)
+map_at second t = do
   functions ← section_at (codes "functions") 0 131072 function_of entry_key t
   blocks ← section_at (codes "blocks") 0 131072 block_of start_key functions.1
-  rows ← section_at (codes "rows") 0 131072 row_of no_key blocks.1
+  rows ← section_at (codes "rows") 0 131072 (row_of second) no_key blocks.1
   Ok (record { functions = functions.0; blocks = blocks.0; rows = rows.0 }, rows.1)
 
--- nothing stands behind the last line
-unfoldable pub ending_at : Remainder → Result (Unit {0}) (Fault ImageFaultKind)
-ending_at t = do
+-- the last line comes behind a row of an element, in the second version, and nothing stands behind it
+unfoldable pub ending_at : Bool → List Row → Remainder → Result (Unit {0}) (Fault ImageFaultKind)
+ending_at second rows t = do
+  due ← at t.line (guard (not second || has_elements rows) Token)
   last ← fixed_at (codes "end") t
   at last.line (guard (length last.rest == 0) Token)
 
-unfoldable pub parts_at : Remainder → Result Image (Fault ImageFaultKind)
-parts_at t = do
+unfoldable pub parts_at : Bool → Remainder → Result Image (Fault ImageFaultKind)
+parts_at second t = do
   memory ← memory_at t
-  flow ← map_at memory.3
-  ended ← ending_at flow.1
+  flow ← map_at second memory.3
+  ended ← ending_at second flow.0.rows flow.1
   Ok (record { code = memory.0; words = memory.1; cells = memory.2; map = flow.0 })
 
 -- the image of a whole text, or its first fault
 unfoldable pub image_at : List ℕ → Result Image (Fault ImageFaultKind)
 image_at text = do
-  begun ← fixed_at (codes "oat-image 1") (record { rest = text; line = 1 })
-  parts_at begun
+  version ← version_at (record { rest = text; line = 1 })
+  parts_at version.0 version.1

@@ -11,6 +11,7 @@ mod reading;
 mod receiver;
 mod row;
 mod text;
+mod version;
 mod well_formed;
 mod words;
 pub mod worked;

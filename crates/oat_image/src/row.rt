@@ -3,7 +3,7 @@ ghost use Rattle.oat_lines.specs.Fields.{spaced, ended};
 ghost use Rattle.oat_lines.specs.Hexadecimal.{hexadecimal};
 ghost use Rattle.oat_image.specs.Printing.{Takes};
 ghost use Rattle.oat_image.specs.Grammar.{row_line, IsRow};
-ghost use Rattle.oat_image.specs.ImageReading.{kind_of, sole_address, two_addresses, addresses_of, three_addresses, address_and_number, edge_row, point_row, row_with, row_of, no_key};
+ghost use Rattle.oat_image.specs.ImageReading.{is_kind_in, kind_in, kind_of, sole_address, two_addresses, addresses_of, three_addresses, address_and_number, edge_row, point_row, row_with, row_of, no_key};
 
 use crate::element::{ElementKind, is_length, put_element, read_element};
 use crate::fault::ImageFaultKind;
@@ -43,7 +43,8 @@ pub(crate) enum RowKind {
     Element(ElementKind),
 }
 
-pub(crate) struct RowLine;
+/// A row in a text of the second version, or of the first.
+pub(crate) struct RowLine<const SECOND: bool>;
 
 fn read_kind(word: &[u8]) -> Option<RowKind>
     ensures { result ≡ kind_of word.now }
@@ -74,6 +75,26 @@ fn read_kind(word: &[u8]) -> Option<RowKind>
         Some(RowKind::Element(ElementKind::DefAt))
     } else {
         None
+    }
+}
+
+fn is_kind_in(second: bool, kind: RowKind) -> bool
+    ensures { result ≡ is_kind_in second kind }
+{
+    match kind {
+        RowKind::Element(_) => second,
+        RowKind::Edge(_) | RowKind::Point(_) => true,
+    }
+}
+
+/// The kind of row that a keyword begins in a version of the text.
+#[tactic(auto, unfolding(crate::specs::ImageReading::kind_in))]
+fn read_kind_in(second: bool, word: &[u8]) -> Result<RowKind, ImageFaultKind>
+    ensures { result ≡ kind_in second word.now }
+{
+    match read_kind(word) {
+        Some(kind) if is_kind_in(second, kind) => Ok(kind),
+        _ => Err(ImageFaultKind::Token),
     }
 }
 
@@ -228,10 +249,10 @@ fn put_numbered<R: Receiver>(out: &mut R, keyword: &[u8], at: u64, number: u16)
     );
 }
 
-impl Form for RowLine {
+impl<const SECOND: bool> Form for RowLine<SECOND> {
     type Item = Row;
 
-    ghost reads = { row_of };
+    ghost reads = { row_of SECOND };
 
     ghost key = { no_key };
 
@@ -244,9 +265,7 @@ impl Form for RowLine {
         let Some((keyword, fields)) = read_field(line) else {
             return Err(ImageFaultKind::Token);
         };
-        let Some(kind) = read_kind(keyword) else {
-            return Err(ImageFaultKind::Token);
-        };
+        let kind = read_kind_in(SECOND, keyword)?;
         read_row(kind, fields)
     }
 
