@@ -16,7 +16,7 @@ use Rattle.oat_map.specs.declared.map.Block.{Block}
 use Rattle.oat_image.specs.declared.image.InitWord.{InitWord}
 use Rattle.oat_image.specs.declared.fault.ImageFaultKind.TheVariants.{Token, Number}
 use Rattle.oat_image.specs.Grammar.{code_line, data_line, cell_line, function_line, block_line, flag_text, IsWord, IsIndex, IsInitWord, IsFunction, IsBlock}
-use Rattle.oat_image.specs.ImageReading.{eight_digits, number_in, value_of, flag_of, spelled_name, code_of, data_of, cell_of, function_with, function_of, block_of}
+use Rattle.oat_image.specs.LineReading.{eight_digits, number_in, value_of, flag_of, spelled_name, code_of, data_of, cell_of, function_with, function_of, block_of}
 use Rattle.oat_map.proofs.NameTests.{name_from_test, test_from_name}
 use Rattle.oat_image.proofs.Names.{name_field}
 use Rattle.oat_lines.proofs.Steps.{chosen, bind_ok, ok_is, or_ok, guard_ok}

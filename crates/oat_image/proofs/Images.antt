@@ -18,9 +18,11 @@ use Rattle.oat_image.specs.declared.image.InitWord.{InitWord}
 use Rattle.oat_image.specs.declared.fault.ImageFaultKind.{ImageFaultKind}
 use Rattle.oat_image.specs.declared.fault.ImageFaultKind.TheVariants.{Token}
 use Rattle.oat_image.specs.Spelling.{section_text}
-use Rattle.oat_image.specs.Grammar.{has_elements, version_line, code_line, data_line, cell_line, function_line, block_line, row_line, image_text, IsWord, IsInitWord, IsIndex, IsFunction, IsBlock, IsRow, IsSection, IsWellFormedImage, IsImageText}
+use Rattle.oat_image.specs.Grammar.{has_elements, version_line, code_line, data_line, cell_line, function_line, block_line, row_line, image_text, IsWord, IsInitWord, IsIndex, IsFunction, IsBlock, IsSection, IsWellFormedImage, IsImageText}
 use Rattle.oat_image.specs.Reading.{Remainder, section_at, fixed_at}
-use Rattle.oat_image.specs.ImageReading.{code_of, data_of, cell_of, function_of, block_of, row_of, no_key, index_key, cell_key, entry_key, start_key, version_at, memory_at, map_at, ending_at, parts_at, image_at}
+use Rattle.oat_image.specs.LineReading.{code_of, data_of, cell_of, function_of, block_of, no_key, index_key, cell_key, entry_key, start_key}
+use Rattle.oat_image.specs.RowReading.{row_of}
+use Rattle.oat_image.specs.ImageReading.{version_at, memory_at, map_at, ending_at, parts_at, image_at}
 use Rattle.oat_lines.proofs.Steps.{bind_ok, ok_is, at_ok, guard_ok}
 use Rattle.oat_image.proofs.Sections.{section_takes, section_again, fixed_takes, fixed_again, rising_unkeyed, strict_from_rising, rising_from_strict}
 use Rattle.oat_image.proofs.Forms.{code_form, data_form, cell_form, function_form, block_form}

@@ -3,6 +3,7 @@ mod Names
 mod Sections
 mod Forms
 mod Versions
+mod Keywords
 mod RowForms
 mod Images
 pub mod ImageTexts

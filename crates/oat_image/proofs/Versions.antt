@@ -8,7 +8,6 @@ use Rattle.oat_lines.specs.Fields.{ended}
 use Rattle.oat_lines.proofs.Steps.{bind_ok, ok_is, at_ok}
 use Rattle.oat_lines.proofs.Cutting.{is_within_line}
 use Rattle.oat_map.specs.declared.row.Row.{Row}
-use Rattle.oat_image.specs.declared.fault.ImageFaultKind.{ImageFaultKind}
 use Rattle.oat_image.specs.declared.fault.ImageFaultKind.TheVariants.{Token}
 use Rattle.oat_image.specs.Grammar.{IsRow, is_of_element, has_elements, version_line}
 use Rattle.oat_image.specs.Reading.{Remainder, line_at, next_number}

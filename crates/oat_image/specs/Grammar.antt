@@ -66,7 +66,7 @@ abbrev pub version_line : Bool → List ℕ
 version_line true = codes "oat-image 2"
 version_line false = codes "oat-image 1"
 
--- it is of the second version where a row is of an element, and else of the first
+-- a text is of the second version where its image has a row of an element, and else of the first
 abbrev pub image_text : Image → List ℕ
 image_text image =
     ended (version_line (has_elements image.map.rows))

@@ -4,7 +4,7 @@ ghost use Rattle.oat_lines.specs.Fields.{spaced, ended};
 ghost use Rattle.oat_lines.specs.Hexadecimal.{hexadecimal};
 ghost use Rattle.oat_image.specs.Printing.{Takes};
 ghost use Rattle.oat_image.specs.Grammar.{IsLength};
-ghost use Rattle.oat_image.specs.ImageReading.{array_of, address_and_array, element_row};
+ghost use Rattle.oat_image.specs.RowReading.{array_of, address_and_array, element_row};
 
 use crate::fault::ImageFaultKind;
 use crate::line::{read_address, read_number};
@@ -27,7 +27,7 @@ pub(crate) fn is_length(len: u16) -> bool
     1 <= len && len <= 4096
 }
 
-#[tactic(auto, unfolding(crate::specs::ImageReading::array_of))]
+#[tactic(auto, unfolding(crate::specs::RowReading::array_of))]
 fn read_array(first: &[u8], second: &[u8], third: &[u8]) -> Result<(u64, u64, u64), ImageFaultKind>
     ensures value { result ≡ array_of first.now second.now third.now }
     ensures cell { IfOk result (λ p. p.1 ≤ 65535) }
@@ -39,7 +39,7 @@ fn read_array(first: &[u8], second: &[u8], third: &[u8]) -> Result<(u64, u64, u6
     Ok((address, cell, len))
 }
 
-#[tactic(auto, unfolding(crate::specs::ImageReading::address_and_array))]
+#[tactic(auto, unfolding(crate::specs::RowReading::address_and_array))]
 fn read_address_and_array(fields: &[u8]) -> Result<(u64, u64, u64), ImageFaultKind>
     ensures value { result ≡ address_and_array fields.now }
     ensures cell { IfOk result (λ p. p.1 ≤ 65535) }
@@ -51,7 +51,7 @@ fn read_address_and_array(fields: &[u8]) -> Result<(u64, u64, u64), ImageFaultKi
     read_array(first, second, third)
 }
 
-#[tactic(auto, unfolding(crate::specs::ImageReading::element_row))]
+#[tactic(auto, unfolding(crate::specs::RowReading::element_row))]
 pub(crate) fn read_element(kind: ElementKind, fields: &[u8]) -> Result<Row, ImageFaultKind>
     ensures { result ≡ element_row kind fields.now }
 {

@@ -4,6 +4,7 @@
 mod element;
 mod fault;
 mod image;
+mod keyword;
 pub mod laws;
 mod line;
 mod printing;

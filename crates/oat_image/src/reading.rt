@@ -1,7 +1,9 @@
 ghost use Rattle.std.specs.Prelude.{◌≡◌, ◌≤◌, codes, length, IfOk, Ok};
 ghost use Rattle.oat_image.specs.Grammar.{IsImageText};
 ghost use Rattle.oat_lines.specs.Faults.{Gives};
-ghost use Rattle.oat_image.specs.ImageReading.{memory_at, map_at, ending_at, parts_at, image_at, no_key, row_of};
+ghost use Rattle.oat_image.specs.LineReading.{no_key};
+ghost use Rattle.oat_image.specs.RowReading.{row_of};
+ghost use Rattle.oat_image.specs.ImageReading.{memory_at, map_at, ending_at, parts_at, image_at};
 ghost use Rattle.oat_image.specs.Reading.{section_at};
 ghost use Rattle.oat_image.specs.Seen.{seen};
 

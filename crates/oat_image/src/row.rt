@@ -3,10 +3,12 @@ ghost use Rattle.oat_lines.specs.Fields.{spaced, ended};
 ghost use Rattle.oat_lines.specs.Hexadecimal.{hexadecimal};
 ghost use Rattle.oat_image.specs.Printing.{Takes};
 ghost use Rattle.oat_image.specs.Grammar.{row_line, IsRow};
-ghost use Rattle.oat_image.specs.ImageReading.{is_kind_in, kind_in, kind_of, sole_address, two_addresses, addresses_of, three_addresses, address_and_number, edge_row, point_row, row_with, row_of, no_key};
+ghost use Rattle.oat_image.specs.LineReading.{no_key};
+ghost use Rattle.oat_image.specs.RowReading.{sole_address, two_addresses, addresses_of, three_addresses, address_and_number, edge_row, point_row, row_with, row_of};
 
-use crate::element::{ElementKind, is_length, put_element, read_element};
+use crate::element::{is_length, put_element, read_element};
 use crate::fault::ImageFaultKind;
+use crate::keyword::{EdgeKind, PointKind, RowKind, read_kind_in};
 use crate::line::{is_address, read_address, read_number};
 use crate::receiver::Receiver;
 use crate::text::Form;
@@ -15,90 +17,10 @@ use itoa::Buffer;
 use oat_lines::{read_field, read_one_field, read_three_fields, read_two_fields};
 use oat_map::Row;
 
-/// A row where the flow may turn.
-#[derive(Clone, Copy, Debug, PartialEq, Eq)]
-pub(crate) enum EdgeKind {
-    Jump,
-    Branch,
-    Call,
-    ICall,
-    Ret,
-}
-
-/// A row that the flow passes, or where it is measured from or to.
-#[derive(Clone, Copy, Debug, PartialEq, Eq)]
-pub(crate) enum PointKind {
-    Begin,
-    End,
-    UseCell,
-    DefCell,
-    Check,
-}
-
-/// What kind of row a line's keyword begins.
-#[derive(Clone, Copy, Debug, PartialEq, Eq)]
-pub(crate) enum RowKind {
-    Edge(EdgeKind),
-    Point(PointKind),
-    Element(ElementKind),
-}
-
 /// A row in a text of the second version, or of the first.
 pub(crate) struct RowLine<const SECOND: bool>;
 
-fn read_kind(word: &[u8]) -> Option<RowKind>
-    ensures { result ≡ kind_of word.now }
-{
-    if word == b"jump".as_slice() {
-        Some(RowKind::Edge(EdgeKind::Jump))
-    } else if word == b"branch".as_slice() {
-        Some(RowKind::Edge(EdgeKind::Branch))
-    } else if word == b"call".as_slice() {
-        Some(RowKind::Edge(EdgeKind::Call))
-    } else if word == b"icall".as_slice() {
-        Some(RowKind::Edge(EdgeKind::ICall))
-    } else if word == b"ret".as_slice() {
-        Some(RowKind::Edge(EdgeKind::Ret))
-    } else if word == b"begin".as_slice() {
-        Some(RowKind::Point(PointKind::Begin))
-    } else if word == b"end".as_slice() {
-        Some(RowKind::Point(PointKind::End))
-    } else if word == b"use".as_slice() {
-        Some(RowKind::Point(PointKind::UseCell))
-    } else if word == b"def".as_slice() {
-        Some(RowKind::Point(PointKind::DefCell))
-    } else if word == b"check".as_slice() {
-        Some(RowKind::Point(PointKind::Check))
-    } else if word == b"useat".as_slice() {
-        Some(RowKind::Element(ElementKind::UseAt))
-    } else if word == b"defat".as_slice() {
-        Some(RowKind::Element(ElementKind::DefAt))
-    } else {
-        None
-    }
-}
-
-fn is_kind_in(second: bool, kind: RowKind) -> bool
-    ensures { result ≡ is_kind_in second kind }
-{
-    match kind {
-        RowKind::Element(_) => second,
-        RowKind::Edge(_) | RowKind::Point(_) => true,
-    }
-}
-
-/// The kind of row that a keyword begins in a version of the text.
-#[tactic(auto, unfolding(crate::specs::ImageReading::kind_in))]
-fn read_kind_in(second: bool, word: &[u8]) -> Result<RowKind, ImageFaultKind>
-    ensures { result ≡ kind_in second word.now }
-{
-    match read_kind(word) {
-        Some(kind) if is_kind_in(second, kind) => Ok(kind),
-        _ => Err(ImageFaultKind::Token),
-    }
-}
-
-#[tactic(auto, unfolding(crate::specs::ImageReading::sole_address))]
+#[tactic(auto, unfolding(crate::specs::RowReading::sole_address))]
 fn read_sole_address(fields: &[u8]) -> Result<u64, ImageFaultKind>
     ensures { result ≡ sole_address fields.now }
 {
@@ -108,7 +30,7 @@ fn read_sole_address(fields: &[u8]) -> Result<u64, ImageFaultKind>
     read_address(word)
 }
 
-#[tactic(auto, unfolding(crate::specs::ImageReading::two_addresses))]
+#[tactic(auto, unfolding(crate::specs::RowReading::two_addresses))]
 fn read_two_addresses(fields: &[u8]) -> Result<(u64, u64), ImageFaultKind>
     ensures { result ≡ two_addresses fields.now }
 {
@@ -120,7 +42,7 @@ fn read_two_addresses(fields: &[u8]) -> Result<(u64, u64), ImageFaultKind>
     Ok((first, second))
 }
 
-#[tactic(auto, unfolding(crate::specs::ImageReading::addresses_of))]
+#[tactic(auto, unfolding(crate::specs::RowReading::addresses_of))]
 fn read_addresses(
     first: &[u8],
     second: &[u8],
@@ -134,7 +56,7 @@ fn read_addresses(
     Ok((first, second, third))
 }
 
-#[tactic(auto, unfolding(crate::specs::ImageReading::three_addresses))]
+#[tactic(auto, unfolding(crate::specs::RowReading::three_addresses))]
 fn read_three_addresses(fields: &[u8]) -> Result<(u64, u64, u64), ImageFaultKind>
     ensures { result ≡ three_addresses fields.now }
 {
@@ -144,7 +66,7 @@ fn read_three_addresses(fields: &[u8]) -> Result<(u64, u64, u64), ImageFaultKind
     read_addresses(first, second, third)
 }
 
-#[tactic(auto, unfolding(crate::specs::ImageReading::address_and_number))]
+#[tactic(auto, unfolding(crate::specs::RowReading::address_and_number))]
 fn read_address_and_number(
     least: u64,
     most: u64,
@@ -162,7 +84,7 @@ fn read_address_and_number(
     Ok((address, number))
 }
 
-#[tactic(auto, unfolding(crate::specs::ImageReading::edge_row))]
+#[tactic(auto, unfolding(crate::specs::RowReading::edge_row))]
 fn read_edge(kind: EdgeKind, fields: &[u8]) -> Result<Row, ImageFaultKind>
     ensures { result ≡ edge_row kind fields.now }
 {
@@ -191,7 +113,7 @@ fn read_edge(kind: EdgeKind, fields: &[u8]) -> Result<Row, ImageFaultKind>
     }
 }
 
-#[tactic(auto, unfolding(crate::specs::ImageReading::point_row))]
+#[tactic(auto, unfolding(crate::specs::RowReading::point_row))]
 fn read_point(kind: PointKind, fields: &[u8]) -> Result<Row, ImageFaultKind>
     ensures { result ≡ point_row kind fields.now }
 {
@@ -260,7 +182,7 @@ impl<const SECOND: bool> Form for RowLine<SECOND> {
 
     ghost fits = { IsRow };
 
-    #[tactic(auto, unfolding(crate::specs::ImageReading::row_of))]
+    #[tactic(auto, unfolding(crate::specs::RowReading::row_of))]
     fn read(line: &[u8]) -> Result<Row, ImageFaultKind> {
         let Some((keyword, fields)) = read_field(line) else {
             return Err(ImageFaultKind::Token);

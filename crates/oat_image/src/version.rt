@@ -25,7 +25,11 @@ pub(crate) fn has_elements(rows: &[Row]) -> bool
 pub(crate) fn version_line(second: bool) -> &'static [u8]
     ensures { result.now ≡ version_line second }
 {
-    if second { b"oat-image 2" } else { b"oat-image 1" }
+    if second {
+        b"oat-image 2"
+    } else {
+        b"oat-image 1"
+    }
 }
 
 fn version_of(line: &[u8]) -> Result<bool, ImageFaultKind>
