@@ -17,7 +17,8 @@ pub(crate) fn use_at_stands(code: &[u32], cells: &[u32], at: u64, cell: u16, len
 {
     match word_of_cell(cells, cell) {
         Some(index) => {
-            are_elements(cells, cell, len, index) && use_of_element_stands(code, at, cell, len, index)
+            are_elements(cells, cell, len, index)
+                && use_of_element_stands(code, at, cell, len, index)
         }
         None => false,
     }
@@ -96,7 +97,7 @@ fn tests_element(code: &[u32], at: u64, len: u16) -> bool
 
 // Whether two instructions at `at` put the number of an element's cell into X9.
 fn names_element(code: &[u32], at: u64, cell: u16) -> bool
-    requires low { at < 2 ^ 32 + 28 }
+    requires low { at < 2 ^ 32 + 64 }
     ensures { IsTrue result ↔ (Stands code.now at (Movz 9 0 cell) × Stands code.now (at + 4) (AddReg 9 9 12 0)) }
 {
     let first = Inst::Movz {
@@ -123,8 +124,5 @@ fn are_elements(cells: &[u32], cell: u16, len: u16, index: u32) -> bool
     let Some(words) = cells.get(first..first + usize::from(len)) else {
         return false;
     };
-    words
-        .iter()
-        .enumerate()
-        .all(|(element, word)| *word as usize == index as usize + element)
+    words.iter().enumerate().all(|(element, word)| *word as usize == index as usize + element)
 }
