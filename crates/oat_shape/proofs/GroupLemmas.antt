@@ -1,5 +1,5 @@
 -- Instructions at an address, and the groups of cells.
-use Rattle.std.proofs.Common.{◌≡◌, ℕ, ◌≤◌, Bool, false, List, Option, Some, None, sym, ◌∙◌, ap, subst, eqb, eqb-true, eq-eqb}
+use Rattle.std.proofs.Common.{◌≡◌, ℕ, ◌≤◌, Bool, false, List, Some, None, sym, ◌∙◌, ap, subst, eqb, eqb-true, eq-eqb}
 use Rattle.std.specs.Prelude.{IsTrue, ◌↔◌}
 use Rattle.std.specs.List.{slice_get}
 use Rattle.std.specs.Option.{option_and_then}
@@ -27,8 +27,8 @@ stands_iff code address word encoded inst found is =
     )
 
 -- the word of a cell is one of the first 65,536
-pub cell_within : (cells : List ℕ) (cell index : ℕ) (found : Option ℕ) → AreIndices cells → found ≡ slice_get cells cell → found ≡ Some index → index ≤ 65535
-cell_within cells cell index found within is some = within index (contains_at cells cell index (sym is ∙ some))
+pub cell_within : (cells : List ℕ) (cell index : ℕ) → AreIndices cells → slice_get cells cell ≡ Some index → index ≤ 65535
+cell_within cells cell index within found = within index (contains_at cells cell index found)
 
 -- a cell's group, of this kind for the word of global data that the cell is
 pub cell_iff : (cells : List ℕ) (cell index : ℕ) (Group : ℕ → Type 0) (whole : Bool) → slice_get cells cell ≡ Some index

@@ -1,5 +1,5 @@
 // Groups of elements of critical arrays.
-ghost use Rattle.std.specs.Prelude.{◌≡◌, ◌↔◌, ◌+◌, ◌<◌, ◌≤◌, ◌^◌, ℕ, IsTrue, Some, slice_get};
+ghost use Rattle.std.specs.Prelude.{◌≡◌, ◌↔◌, ◌+◌, ◌<◌, ◌≤◌, ◌^◌, ℕ, IsTrue, MatchOption, Some, slice_get};
 ghost use Rattle.oat_a64.specs.declared.inst.Inst.TheVariants.{AddReg, Movz};
 ghost use Rattle.oat_map.specs.declared.row.Row.TheVariants.{DefAt, UseAt};
 ghost use Rattle.oat_shape.specs.Groups.{AreElements, IsDefineAtGroup, IsGroup, IsUseAtGroup, Stands, TestsElement};
@@ -15,11 +15,8 @@ pub(crate) fn use_at_stands(code: &[u32], cells: &[u32], at: u64, cell: u16, len
     requires indices { AreIndices cells.now }
     ensures { IsTrue result ↔ IsGroup code.now cells.now (UseAt at cell len) }
 {
-    match word_of_cell(cells, cell) {
-        Some(index) => {
-            are_elements(cells, cell, len, index)
-                && use_of_element_stands(code, at, cell, len, index)
-        }
+    match word_of_array(cells, cell, len) {
+        Some(index) => use_of_element_stands(code, at, cell, len, index),
         None => false,
     }
 }
@@ -47,11 +44,8 @@ pub(crate) fn define_at_stands(code: &[u32], cells: &[u32], at: u64, cell: u16, 
     requires indices { AreIndices cells.now }
     ensures { IsTrue result ↔ IsGroup code.now cells.now (DefAt at cell len) }
 {
-    match word_of_cell(cells, cell) {
-        Some(index) => {
-            are_elements(cells, cell, len, index)
-                && define_of_element_stands(code, at, cell, len, index)
-        }
+    match word_of_array(cells, cell, len) {
+        Some(index) => define_of_element_stands(code, at, cell, len, index),
         None => false,
     }
 }
@@ -112,6 +106,19 @@ fn names_element(code: &[u32], at: u64, cell: u16) -> bool
         amount: 0,
     };
     stands(code, at, &first) && stands(code, at + 4, &sum)
+}
+
+// The word of an array's first cell, where the array's cells are there with consecutive words.
+fn word_of_array(cells: &[u32], cell: u16, len: u16) -> Option<u32>
+    requires indices { AreIndices cells.now }
+    ensures { MatchOption result ((index : ℕ) → AreElements cells.now cell len index → ⊥) (λ index. AreElements cells.now cell len index) }
+{
+    let index = word_of_cell(cells, cell)?;
+    if are_elements(cells, cell, len, index) {
+        Some(index)
+    } else {
+        None
+    }
 }
 
 // Whether the cells of an array are there, with consecutive words from the first one's on.

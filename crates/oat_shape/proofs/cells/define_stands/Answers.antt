@@ -5,7 +5,7 @@ use Rattle.oat_shape.proofs.cells.define_stands.Goals as goal
 
 pub define_of_word_stands-requires-clause-index : goal.define_of_word_stands-requires-clause-index
 define_of_word_stands-requires-clause-index c =
-    cell_within c.args.cells.now c.args.cell c.in-Some.index c.word_of_cell.result c.requires.indices c.word_of_cell.ensures c.in-Some.is
+    cell_within c.args.cells.now c.args.cell c.in-Some.index c.requires.indices (sym c.word_of_cell.ensures ∙ c.in-Some.is)
 
 pub returns-in-Some : goal.returns-in-Some
 returns-in-Some c =

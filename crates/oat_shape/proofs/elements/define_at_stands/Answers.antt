@@ -3,4 +3,4 @@ use Rattle.oat_shape.proofs.elements.define_at_stands.Goals as goal
 
 pub define_of_element_stands-requires-clause-index : goal.define_of_element_stands-requires-clause-index
 define_of_element_stands-requires-clause-index c =
-    cell_within c.args.cells.now c.args.cell c.in-Some.index c.word_of_cell.result c.requires.indices c.word_of_cell.ensures c.in-Some.is
+    cell_within c.args.cells.now c.args.cell c.in-Some.index c.requires.indices c.in-Some.ensures.first
