@@ -1,4 +1,5 @@
 mod Allowed
+mod Ending
 mod MainNumber
 mod Making
 mod Passing
