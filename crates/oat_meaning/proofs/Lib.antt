@@ -1,5 +1,6 @@
 mod Allowed
 mod Ending
+mod Kept
 mod MainNumber
 mod Making
 mod Passing

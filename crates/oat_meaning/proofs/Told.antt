@@ -1,5 +1,5 @@
 -- What the record of a run tells of it.
-use Rattle.std.proofs.Common.{◌≡◌, ◌+◌, ◌<◌, ◌≤◌, ◌||◌, ℕ, Bool, true, false, cond, ltb, List, [], ◌∷◌, ◌++◌, length, take, Some, None, refl, sym, ap, subst, ◌∙◌, inl, inr, arith, append_assoc, append-nil}
+use Rattle.std.proofs.Common.{◌≡◌, ◌+◌, ◌<◌, ◌≤◌, ◌||◌, ℕ, Bool, true, false, cond, ltb, List, [], ◌∷◌, ◌++◌, length, Some, None, refl, sym, ap, subst, ◌∙◌, inl, inr, arith, append_assoc, append-nil}
 use Rattle.std.specs.Prelude.{is_some, slice_get}
 use Rattle.std.specs.List.{fold, list_any}
 use Rattle.std.proofs.lemmas.Bool.{cases_order, lt-ltb, le-ltb, ltb-true, ltb-false, false≢true}
@@ -15,13 +15,8 @@ use Rattle.oat_meaning.specs.declared.interpreter.Interpreter.{Interpreter}
 use Rattle.oat_meaning.specs.Made.{HasReached}
 use Rattle.oat_meaning.specs.Recording.{Recorded, calls_end, nothing_recorded}
 use Rattle.oat_meaning.specs.SourceRun.{SourceRun, calls_so_far, completed_so_far, events_so_far, loads_so_far, outputs_so_far, path_so_far}
-use Rattle.oat_meaning.proofs.Recordings.{Events, Holds, IsPart, edges_append, edges_in, joined, kept_of_call, loads_append, loads_in, opened, outputs_recorded, recorded_holds}
-
--- ---- a part of what is recorded, found by its ends
-
-pub part_at : {X : Type 0} (all kept part : List X) (start start_is end end_is : ℕ) → IsPart all start_is end_is part → kept ≡ all → start ≡ start_is → end ≡ end_is → IsPart kept start end part
-part_at all kept part start start_is end end_is is same starts ends =
-    subst (λ (n : ℕ). IsPart kept n end part) (sym starts) (subst (λ (n : ℕ). IsPart kept start_is n part) (sym ends) (subst (λ xs. IsPart xs start_is end_is part) (sym same) is))
+use Rattle.oat_meaning.proofs.Kept.{Events, IsPart, joined, kept_of_call, opened}
+use Rattle.oat_meaning.proofs.Recordings.{Holds, edges_append, edges_in, loads_append, loads_in, outputs_recorded, recorded_holds}
 
 -- ---- a call that is on its way
 
