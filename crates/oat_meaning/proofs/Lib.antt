@@ -1,6 +1,6 @@
 mod Allowed
+mod CallItems
 mod Ending
-mod Kept
 mod MainNumber
 mod Making
 mod Passing

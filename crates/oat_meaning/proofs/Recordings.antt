@@ -15,7 +15,7 @@ use Rattle.oat_check.specs.Naming.{written_edge}
 use Rattle.oat_check.specs.Steps.{LineEdge, finishes}
 use Rattle.oat_meaning.specs.Recording.{Recorded, completed, nothing_recorded, when_entered, when_left, edge_added, event_added, events_added, load_added}
 use Rattle.oat_check.specs.Shown.{written_load}
-use Rattle.oat_meaning.proofs.Kept.{Events, Keeps, keeps_call, keeps_more, nothing_kept, opened}
+use Rattle.oat_meaning.proofs.CallItems.{Events, FromCalls, from_calls_ended, from_calls_more, from_no_calls, opened}
 
 -- ---- outputs
 
@@ -61,8 +61,8 @@ module _ (p : Program) (op : ℕ) where
   pub record Holds (r : Recorded) (closed : List Events) (going : Option Events) : Type 0 where
     pub op_is : r.op ≡ op
     pub inside : r.inside ≡ is_some going
-    pub edges : Keeps edges_in edges_append r.edges r.path_ends closed (opened going)
-    pub loads : Keeps loads_in loads_append r.loads r.load_ends closed (opened going)
+    pub edges : FromCalls edges_in edges_append r.edges r.path_ends closed (opened going)
+    pub loads : FromCalls loads_in loads_append r.loads r.load_ends closed (opened going)
 
   -- an event inside a call that doesn't end it
   grown : (r after : Recorded) (closed : List Events) (es : Events) (e : SourceEvent LineEdge) → Holds r closed (Some es)
@@ -72,11 +72,11 @@ module _ (p : Program) (op : ℕ) where
     op_is = same_op ∙ h.op_is;
     inside = inside;
     edges =
-        subst (λ ends. Keeps edges_in edges_append after.edges ends closed (es ++ e ∷ [])) (sym path_ends_are)
-        (keeps_more edges_in edges_append r.edges after.edges r.path_ends closed es e h.edges edges_are);
+        subst (λ ends. FromCalls edges_in edges_append after.edges ends closed (es ++ e ∷ [])) (sym path_ends_are)
+        (from_calls_more edges_in edges_append r.edges after.edges r.path_ends closed es e h.edges edges_are);
     loads =
-        subst (λ ends. Keeps loads_in loads_append after.loads ends closed (es ++ e ∷ [])) (sym load_ends_are)
-        (keeps_more loads_in loads_append r.loads after.loads r.load_ends closed es e h.loads loads_are);
+        subst (λ ends. FromCalls loads_in loads_append after.loads ends closed (es ++ e ∷ [])) (sym load_ends_are)
+        (from_calls_more loads_in loads_append r.loads after.loads r.load_ends closed es e h.loads loads_are);
   }
 
   -- the event that ends it
@@ -86,9 +86,9 @@ module _ (p : Program) (op : ℕ) where
     op_is = h.op_is;
     inside = refl;
     edges =
-        keeps_call edges_in edges_append r.edges (r.edges ++ End r.op ∷ []) r.path_ends (length r.edges + 1) closed es e h.edges (ap (λ xs. r.edges ++ xs) (sym edge))
+        from_calls_ended edges_in edges_append r.edges (r.edges ++ End r.op ∷ []) r.path_ends (length r.edges + 1) closed es e h.edges (ap (λ xs. r.edges ++ xs) (sym edge))
         (sym (length-append r.edges (End r.op ∷ [])));
-    loads = keeps_call loads_in loads_append r.loads r.loads r.load_ends (length r.loads) closed es e h.loads (sym (append-nil r.loads) ∙ ap (λ xs. r.loads ++ xs) (sym load)) refl;
+    loads = from_calls_ended loads_in loads_append r.loads r.loads r.load_ends (length r.loads) closed es e h.loads (sym (append-nil r.loads) ∙ ap (λ xs. r.loads ++ xs) (sym load)) refl;
   }
 
   -- ---- event by event
@@ -159,4 +159,4 @@ module _ (p : Program) (op : ℕ) where
 
   pub recorded_holds : (es : Events) → Holds (events_added p (nothing_recorded op) es) (cut_of es).closed (cut_of es).going
   recorded_holds es = all_more es (nothing_recorded op) (record { closed = []; going = None })
-      (record { op_is = refl; inside = refl; edges = nothing_kept edges_in edges_append refl; loads = nothing_kept loads_in loads_append refl })
+      (record { op_is = refl; inside = refl; edges = from_no_calls edges_in edges_append refl; loads = from_no_calls loads_in loads_append refl })

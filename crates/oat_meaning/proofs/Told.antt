@@ -15,7 +15,7 @@ use Rattle.oat_meaning.specs.declared.interpreter.Interpreter.{Interpreter}
 use Rattle.oat_meaning.specs.Made.{HasReached}
 use Rattle.oat_meaning.specs.Recording.{Recorded, calls_end, nothing_recorded}
 use Rattle.oat_meaning.specs.SourceRun.{SourceRun, calls_so_far, completed_so_far, events_so_far, loads_so_far, outputs_so_far, path_so_far}
-use Rattle.oat_meaning.proofs.Kept.{Events, IsPart, joined, kept_of_call, opened}
+use Rattle.oat_meaning.proofs.CallItems.{Events, IsPart, joined, part_of_call, opened}
 use Rattle.oat_meaning.proofs.Recordings.{Holds, edges_append, edges_in, loads_append, loads_in, outputs_recorded, recorded_holds}
 
 -- ---- a call that is on its way
@@ -101,10 +101,10 @@ module _ (m : Interpreter) (run : SourceRun) (s : HasReached m run) where
         cut_at call ∙ ap (λ b. cond b (Some (stretch run.op call (events_so_far run))) None) (counted call ∙ lt-ltb call (calls_so_far run) low)
 
     pub path_told : IsPart m.kept.recorded.edges (calls_end m.kept.recorded.path_ends call) (calls_end m.kept.recorded.path_ends (call + 1)) (path_so_far run call)
-    path_told = kept_of_call (edges_in run.program run.op) (edges_append run.program run.op) _ _ cut.closed (opened cut.going) call (stretch run.op call (events_so_far run)) holds.edges call_there
+    path_told = part_of_call (edges_in run.program run.op) (edges_append run.program run.op) _ _ cut.closed (opened cut.going) call (stretch run.op call (events_so_far run)) holds.edges call_there
 
     pub loads_told : IsPart m.kept.recorded.loads (calls_end m.kept.recorded.load_ends call) (calls_end m.kept.recorded.load_ends (call + 1)) (loads_so_far run call)
-    loads_told = kept_of_call (loads_in run.program run.op) (loads_append run.program run.op) _ _ cut.closed (opened cut.going) call (stretch run.op call (events_so_far run)) holds.loads call_there
+    loads_told = part_of_call (loads_in run.program run.op) (loads_append run.program run.op) _ _ cut.closed (opened cut.going) call (stretch run.op call (events_so_far run)) holds.loads call_there
 
   -- ---- of the first one, where none has completed
 

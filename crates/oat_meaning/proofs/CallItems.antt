@@ -1,4 +1,4 @@
--- What calls have left of one kind of items, the items of one call behind those of the other.
+-- Items of calls, those of one call behind those of the other, and the part of them that is of one call.
 use Rattle.std.proofs.Common.{◌≡◌, ◌+◌, ◌<◌, ◌≤◌, ◌⊎◌, ◌-◌, ℕ, zero, suc, List, [], ◌∷◌, ◌++◌, length, get_or, take, drop, Option, Some, None, refl, sym, ap, subst, ◌∙◌, inl, inr, arith, append_assoc, append-nil, drop-cons}
 use Rattle.std.specs.Prelude.{slice_get}
 use Rattle.std.specs.List.{flat_map, slice_range}
@@ -52,34 +52,34 @@ part_at all kept part start start_is end end_is is same starts ends =
 
 -- ---- items of one kind
 
--- What events have of one kind of items: what they have together is what the first ones have and then what the others have.
+-- A function gives the items of events: those of the first ones, and then those of the others.
 module _ {X : Type 0} (f : Events → List X) (appends : (xs ys : Events) → f (xs ++ ys) ≡ f xs ++ f ys) where
-  -- The items have come from these calls and this one on its way, and so many of them are those of the first so many calls.
-  pub record Keeps (items : List X) (ends : List ℕ) (closed : List Events) (going : Events) : Type 0 where
+  -- The items are those of the calls that are closed and of one on its way, and it is told where those of each closed call end.
+  pub record FromCalls (items : List X) (ends : List ℕ) (closed : List Events) (going : Events) : Type 0 where
     pub all : items ≡ f (joined closed ++ going)
     pub count : length ends ≡ length closed
     pub each : (n : ℕ) → n ≤ length closed → calls_end ends n ≡ length (f (joined (take n closed)))
 
   -- before the first event
-  pub nothing_kept : [] ≡ f [] → Keeps [] [] [] []
-  nothing_kept none = record { all = none; count = refl; each = λ n l. by n l } where
+  pub from_no_calls : [] ≡ f [] → FromCalls [] [] [] []
+  from_no_calls none = record { all = none; count = refl; each = λ n l. by n l } where
     by : (n : ℕ) → n ≤ 0 → calls_end [] n ≡ length (f (joined (take n [])))
     by zero l = ap length none
     by (suc n) l = absurd (omega (arith, l))
 
   -- an event inside a call that doesn't end it
-  pub keeps_more : (items more : List X) (ends : List ℕ) (closed : List Events) (es : Events) (e : SourceEvent LineEdge) → Keeps items ends closed es
-      → more ≡ items ++ f (e ∷ []) → Keeps more ends closed (es ++ e ∷ [])
-  keeps_more items more ends closed es e k is = record {
+  pub from_calls_more : (items more : List X) (ends : List ℕ) (closed : List Events) (es : Events) (e : SourceEvent LineEdge) → FromCalls items ends closed es
+      → more ≡ items ++ f (e ∷ []) → FromCalls more ends closed (es ++ e ∷ [])
+  from_calls_more items more ends closed es e k is = record {
     all = is ∙ ap (λ xs. xs ++ f (e ∷ [])) k.all ∙ sym (appends (joined closed ++ es) (e ∷ [])) ∙ ap f (append_assoc (joined closed) es (e ∷ []));
     count = k.count;
     each = k.each;
   }
 
   -- the event that ends it
-  pub keeps_call : (items more : List X) (ends : List ℕ) (end : ℕ) (closed : List Events) (es : Events) (e : SourceEvent LineEdge) → Keeps items ends closed es
-      → more ≡ items ++ f (e ∷ []) → end ≡ length more → Keeps more (ends ++ end ∷ []) (closed ++ (es ++ e ∷ []) ∷ []) []
-  keeps_call items more ends end closed es e k is last = record {
+  pub from_calls_ended : (items more : List X) (ends : List ℕ) (end : ℕ) (closed : List Events) (es : Events) (e : SourceEvent LineEdge) → FromCalls items ends closed es
+      → more ≡ items ++ f (e ∷ []) → end ≡ length more → FromCalls more (ends ++ end ∷ []) (closed ++ (es ++ e ∷ []) ∷ []) []
+  from_calls_ended items more ends end closed es e k is last = record {
     all = whole ∙ ap f (sym (append-nil (joined calls)));
     count = longer ∙ ap (λ n. n + 1) k.count ∙ sym long;
     each = λ n l. by n l (cases_lt (length closed) n);
@@ -109,10 +109,10 @@ module _ {X : Type 0} (f : Events → List X) (appends : (xs ys : Events) → f 
         get_or_append_left (0 ∷ ends) (end ∷ []) 0 n (let count = k.count in omega (arith, count, low)) ∙ k.each n low
         ∙ ap (λ cs. length (f (joined cs))) (sym (take-append-le n closed ((es ++ e ∷ []) ∷ []) low))
 
-  -- what has come from one of the calls
-  pub kept_of_call : (items : List X) (ends : List ℕ) (closed : List Events) (going : Events) (s : ℕ) (call : Events) → Keeps items ends closed going → slice_get closed s ≡ Some call
+  -- the items of one of the calls
+  pub part_of_call : (items : List X) (ends : List ℕ) (closed : List Events) (going : Events) (s : ℕ) (call : Events) → FromCalls items ends closed going → slice_get closed s ≡ Some call
       → IsPart items (calls_end ends s) (calls_end ends (s + 1)) (f call)
-  kept_of_call items ends closed going s call k is =
+  part_of_call items ends closed going s call k is =
       between items (f before) (f call) (f behind) _ _ (k.all ∙ ap f split ∙ appends before (call ++ behind) ∙ ap (λ xs. f before ++ xs) (appends call behind))
       (k.each s (omega (arith, low))) (k.each (s + 1) (omega (arith, low)) ∙ ap length (ap f front ∙ appends before call)) where
         low : s < length closed
@@ -136,5 +136,5 @@ module _ {X : Type 0} (f : Events → List X) (appends : (xs ys : Events) → f 
             ap (λ (calls : List Events). joined calls ++ going)
             (sym (take-append-drop s closed) ∙ ap (λ (calls : List Events). take s closed ++ calls) (drop-cons closed s call low ∙ ap (λ (es : Events). es ∷ drop (suc s) closed) own))
             ∙ ap (λ (es : Events). es ++ going) (flat_map-append (λ (es : Events). es) (take s closed) (call ∷ drop (suc s) closed))
-            ∙ append_assoc before (call ++ joined (drop (suc s) closed)) (going)
-            ∙ ap (λ xs. before ++ xs) (append_assoc call (joined (drop (suc s) closed)) (going))
+            ∙ append_assoc before (call ++ joined (drop (suc s) closed)) going
+            ∙ ap (λ xs. before ++ xs) (append_assoc call (joined (drop (suc s) closed)) going)
