@@ -122,10 +122,12 @@ ending_takes : (second : Bool) (rows : List Row) (t : Remainder) (u : Unit {0}) 
 unfolding ending_at
 ending_takes second rows t u e =
     let due : Bool = not second || has_elements rows in
-    let h = bind_ok (at t.line (guard due Token)) (λ due. fixed_at (codes "end") t >>= λ last. at last.line (guard (length last.rest == 0) Token)) u e in
-    let a = bind_ok (fixed_at (codes "end") t) (λ last. at last.line (guard (length last.rest == 0) Token)) u h.2 in
-    let none : a.0.rest ≡ [] = nil_from_length a.0.rest (eqb-true (length a.0.rest) 0 (guard_ok (length a.0.rest == 0) Token u (at_ok a.0.line (guard (length a.0.rest == 0) Token) u a.2))) in
-    (guard_ok due Token h.0 (at_ok t.line (guard due Token) h.0 h.1), fixed_takes (codes "end") t a.0 a.1 ∙ ap (λ (r : List ℕ). ended (codes "end") ++ r) none ∙ append-nil (ended (codes "end")))
+    let a = bind_ok (fixed_at (codes "end") t) (λ last. at t.line (guard due Token) >>= λ due. at last.line (guard (length last.rest == 0) Token)) u e in
+    let b = bind_ok (at t.line (guard due Token)) (λ due. at a.0.line (guard (length a.0.rest == 0) Token)) u a.2 in
+    let none : a.0.rest ≡ [] = nil_from_length a.0.rest (eqb-true (length a.0.rest) 0 (guard_ok (length a.0.rest == 0) Token u (at_ok a.0.line (guard (length a.0.rest == 0) Token) u b.2))) in (
+      guard_ok due Token b.0 (at_ok t.line (guard due Token) b.0 b.1),
+      fixed_takes (codes "end") t a.0 a.1 ∙ ap (λ (r : List ℕ). ended (codes "end") ++ r) none ∙ append-nil (ended (codes "end")),
+    )
 
 -- ---- the whole text
 
@@ -205,8 +207,7 @@ map_again second flow rest n functions_fit functions_rise blocks_fit blocks_rise
 
 ending_again : (rows : List Row) (n : ℕ) → ending_at (has_elements rows) rows (record { rest = ended (codes "end"); line = n }) ≡ Ok tt
 unfolding ending_at
-ending_again rows n =
-    rw (is_due (has_elements rows)) (ap (λ (r : Result Remainder (Fault ImageFaultKind)). r >>= λ last. at last.line (guard (length last.rest == 0) Token)) (fixed_again (codes "end") [] n refl))
+ending_again rows n = rw (fixed_again (codes "end") [] n refl, is_due (has_elements rows)) refl
 
 pub image_again : (image : Image) → IsWellFormedImage image → image_at (image_text image) ≡ Ok image
 unfolding image_at parts_at

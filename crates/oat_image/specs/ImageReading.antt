@@ -42,11 +42,11 @@ map_at second t = do
   rows ← section_at (codes "rows") 0 131072 (row_of second) no_key blocks.1
   Ok (record { functions = functions.0; blocks = blocks.0; rows = rows.0 }, rows.1)
 
--- the last line comes behind a row of an element, in the second version, and nothing stands behind it
+-- the last line, which is none in the second version without a row of an element; nothing stands behind it
 unfoldable pub ending_at : Bool → List Row → Remainder → Result (Unit {0}) (Fault ImageFaultKind)
 ending_at second rows t = do
-  due ← at t.line (guard (not second || has_elements rows) Token)
   last ← fixed_at (codes "end") t
+  due ← at t.line (guard (not second || has_elements rows) Token)
   at last.line (guard (length last.rest == 0) Token)
 
 unfoldable pub parts_at : Bool → Remainder → Result Image (Fault ImageFaultKind)

@@ -72,10 +72,11 @@ fn read_map(alloc: Global, second: bool, text: &mut Text<'_>) -> Result<Map, Ima
 fn read_ending(second: bool, rows: &[Row], text: &mut Text<'_>) -> Result<(), ImageFault>
     ensures { Gives (λ _. tt) result (ending_at second rows.now (seen text.old)) }
 {
-    if second && !has_elements(rows) {
-        return Err(ImageFault::At(text.line, ImageFaultKind::Token));
-    }
+    let number = text.line;
     read_fixed(text, b"end")?;
+    if second && !has_elements(rows) {
+        return Err(ImageFault::At(number, ImageFaultKind::Token));
+    }
     if !text.rest.is_empty() {
         return Err(ImageFault::At(text.line, ImageFaultKind::Token));
     }
