@@ -85,7 +85,7 @@ class Steps:
                     fields[name] = self.register(*sources)
                     self.set(fields[name], number, *sources)
                     sources.append(fields[name])
-                    number = self.random.choice([self.number(), self.number(), number, number + 1, number - 1, -number]) & ONES
+                    number = self.random.choice([self.number(), self.number(), number, number + 1, number - 1, -number, ONES]) & ONES
         self.put(form, **fields)
         if form in ("AddImm", "SubImm") and fields["rd"] == 31:
             self.sp = None
@@ -194,12 +194,12 @@ class Steps:
             self.random.choices([self.arithmetic, self.memory, self.input, self.nop, self.check], [50, 35, 5, 1, 9])[0]()
 
     def show_all(self):
-        """Outputs of each condition, each register and each word of memory that is often used."""
+        """Outputs of each register, each condition and each word of memory that is often used."""
+        for register in range(32):
+            self.show(register)
         for condition in CONDITIONS:
             self.put("Csinc", rd=0, rn=31, rm=31, cond=condition)
             self.put("Svc", imm16=9)
-        for register in range(32):
-            self.show(register)
         for address in self.hot:
             self.set(1, address)
             self.put("Ldr", rt=0, rn=1, imm12=0)
