@@ -1,8 +1,9 @@
-mod Giving
+pub mod Giving
 mod Loops
 mod Seen
 mod ItemWords
 mod Ranges
-mod LayoutLaws
-mod ExpansionProofs
-mod Standing
+pub mod LayoutLaws
+pub mod ExpansionProofs
+pub mod Standing
+pub mod StandingItems

@@ -23,6 +23,7 @@ ghost use Rattle.oat_asm.specs.ExpansionLaws.{
 };
 ghost use Rattle.oat_asm.specs.NoteRows.{GroupsHaveTheWordsOfTheirRows};
 ghost use Rattle.oat_asm.specs.Standing.{GroupsAreThoseOfRows};
+ghost use Rattle.oat_asm.specs.StandingLaws.{ItemsStandInTwo, LaidItemsStand, LaidWordsEncode};
 
 use oat_a64::laws::fetches_by_the_table;
 
@@ -125,4 +126,21 @@ pub fn groups_have_the_words_of_their_rows()
 /// The group of a mark stands just where the group of its row stands.
 pub fn groups_are_those_of_rows()
     ensures { GroupsAreThoseOfRows }
+{}
+
+/// The items of a layout stand in the image that has its words.
+pub fn laid_items_stand()
+    ensures { LaidItemsStand }
+{
+    fetches_by_the_table();
+}
+
+/// Where two lists of items stand, each stands.
+pub fn items_stand_in_two()
+    ensures { ItemsStandInTwo }
+{}
+
+/// A layout has the words that its items need, and each is an instruction's.
+pub fn laid_words_encode()
+    ensures { LaidWordsEncode }
 {}

@@ -1,0 +1,59 @@
+-- Items that are laid out stand in the image that has their words, and their words are instructions' (docs/PROMISES.md).
+use Rattle.std.specs.Prelude.{◌≡◌, ◌+◌, ◌*◌, ◌≤◌, ℕ, List, ◌++◌, length, Contains}
+use Rattle.oat_a64.specs.declared.inst.Inst.{Inst}
+use Rattle.oat_a64.specs.Table.{IsInRange, word_of}
+use Rattle.oat_a64.specs.Step.{code_base}
+use Rattle.oat_image.specs.declared.image.Image.{Image}
+use Rattle.oat_asm.specs.declared.note.Note.{Note}
+use Rattle.oat_asm.specs.declared.item.Item.{Item}
+use Rattle.oat_asm.specs.declared.item.Item.TheVariants as item
+use Rattle.oat_asm.specs.Items.{words_needed, label_place, address, code_limit, StandsOnce, UsedLabelsStandOnce, NoMarkIsLeft, InstructionsAreInRange, BranchesAreInRange, AddressesHaveRegisters}
+use Rattle.oat_asm.specs.Layout.{layout}
+use Rattle.oat_asm.specs.NoteRows.{row_of}
+use Rattle.oat_asm.specs.Laws.{code_of}
+use Rattle.oat_asm.specs.Standing.{IsOver, ItemsStand}
+
+-- what the assembler asks of the items
+pub record CanBeAssembled (items : List Item) : Type 0 where
+  pub used : UsedLabelsStandOnce items
+  pub unmarked : NoMarkIsLeft items
+  pub instructions : InstructionsAreInRange items
+  pub branches : BranchesAreInRange items
+  pub registers : AddressesHaveRegisters items
+  pub few : words_needed items ≤ code_limit
+
+-- each label among the items stands once
+abbrev pub LabelsStandOnce : List Item → Type 0
+LabelsStandOnce items = (label : ℕ) → Contains items (item.Label label) → StandsOnce items label
+
+-- the address of the item at which a label stands
+abbrev pub label_address : List Item → ℕ → ℕ
+label_address items label = address code_base (label_place items label)
+
+-- the row of each note is the one over its group
+abbrev pub RowsAreOver : Image → List Item → Type 0
+RowsAreOver i items =
+    (note : Note) (at : ℕ) → Contains (layout items code_base).notes (record { note = note; at = at }) → IsOver i.map.rows (row_of (label_address items) at note)
+
+-- the items of a layout stand in the image that has its words, where each row is the one over its group
+abbrev pub LaidItemsStand : Type 0
+LaidItemsStand =
+    (i : Image) (items : List Item) → CanBeAssembled items → LabelsStandOnce items → i.code ≡ code_of items → RowsAreOver i items
+    → ItemsStand i (label_address items) code_base items
+
+-- where two lists of items stand, each stands, the second behind the words of the first
+abbrev pub ItemsStandInTwo : Type 0
+ItemsStandInTwo =
+    (i : Image) (label : ℕ → ℕ) (p : ℕ) (xs ys : List Item) → ItemsStand i label p (xs ++ ys)
+    → ItemsStand i label p xs × ItemsStand i label (p + 4 * words_needed xs) ys
+
+-- the word of an instruction
+pub record IsEncoded (word : ℕ) : Type 0 where
+  pub inst : Inst
+  pub range : IsInRange inst
+  pub is : word_of inst ≡ word
+
+-- a layout has as many words as its items need, and each is an instruction's
+abbrev pub LaidWordsEncode : Type 0
+LaidWordsEncode =
+    (items : List Item) → CanBeAssembled items → (length (code_of items) ≡ words_needed items) × ((word : ℕ) → Contains (code_of items) word → IsEncoded word)

@@ -1,0 +1,5 @@
+pub mod Symbols
+pub mod Parts
+pub mod Built
+pub mod Making
+pub mod Worked
