@@ -41,7 +41,7 @@ of_two label_place base =
 
 -- ---- the place of a label
 
-counted : (items : List Item) (k : ℕ) (label : ℕ) → slice_get items k ≡ Some (item.Label label) → 1 ≤ count_by (is_label label) items
+pub counted : (items : List Item) (k : ℕ) (label : ℕ) → slice_get items k ≡ Some (item.Label label) → 1 ≤ count_by (is_label label) items
 counted [] k label h = absurd cc
 counted (i ∷ items) zero label h =
     let e : i ≡ item.Label label = cc in

@@ -1,6 +1,6 @@
 pub mod Giving
 mod Loops
-mod Seen
+pub mod Seen
 mod ItemWords
 mod Ranges
 pub mod LayoutLaws

@@ -1,3 +1,12 @@
 mod Lists
 mod Orders
 mod WordBounds
+mod Views
+mod Spacing
+mod Assembling
+mod Grounds
+mod Rows
+mod Rules
+mod Naming
+mod Building
+mod Making

@@ -2,4 +2,3 @@ pub mod Symbols
 pub mod Parts
 pub mod Built
 pub mod Making
-pub mod Worked
