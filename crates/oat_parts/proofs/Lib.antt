@@ -1,12 +1,12 @@
-mod Lists
-mod Orders
+pub mod Lists
+pub mod Orders
 mod WordBounds
 mod Views
 mod Spacing
-mod Assembling
+pub mod Assembling
 mod Grounds
 mod Rows
 mod Rules
 mod Naming
-mod Building
-mod Making
+pub mod Building
+pub mod Making

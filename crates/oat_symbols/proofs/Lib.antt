@@ -1,0 +1,5 @@
+mod Distinct
+mod Globals
+mod Programs
+mod Places
+mod Codes

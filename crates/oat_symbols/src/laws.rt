@@ -1,0 +1,37 @@
+//! Laws of symbol tables and built images, each the contract of a function that does nothing.
+ghost use Rattle.oat_symbols.specs.Codes.{CodesAreOfTheProgram, CodesFollow, CodesStand, ProgramsAreBuilt};
+ghost use Rattle.oat_symbols.specs.Programs.{ProgramsHaveSymbols, ProgramsHaveTheirLabels};
+
+use oat_a64::laws::fetches_by_the_table;
+
+/// What an image has of a checked program is a symbol table.
+pub fn programs_have_symbols()
+    ensures { ProgramsHaveSymbols }
+{}
+
+/// The numbers of the program's functions and blocks are labels of it.
+pub fn programs_have_their_labels()
+    ensures { ProgramsHaveTheirLabels }
+{}
+
+/// Where each function has its code, the functions of the table have theirs.
+pub fn codes_are_of_the_program()
+    ensures { CodesAreOfTheProgram }
+{}
+
+/// The image that is built of the code of a checked program has the shape, and its items stand in it.
+pub fn programs_are_built()
+    ensures { ProgramsAreBuilt }
+{
+    fetches_by_the_table();
+}
+
+/// The code of each function and block stands at its label.
+pub fn codes_stand()
+    ensures { CodesStand }
+{}
+
+/// The code of each function stands behind that of the one before.
+pub fn codes_follow()
+    ensures { CodesFollow }
+{}
