@@ -34,6 +34,16 @@ module _ {X : Type 0} (size : X → ℕ) where
   before_within [] (suc k) = omega arith
   before_within (x ∷ xs) (suc k) = omega (arith, before_within xs k)
 
+  pub before_front : (xs ys : List X) (k : ℕ) → k ≤ length xs → words_before size (xs ++ ys) k ≤ words_in size xs
+  before_front xs ys zero within = omega arith
+  before_front [] ys (suc k) within = absurd (omega arith)
+  before_front (x ∷ xs) ys (suc k) within = omega (arith, before_front xs ys k (omega arith))
+
+  pub before_back : (xs ys : List X) (k j : ℕ) → k ≡ length xs + j → words_before size (xs ++ ys) k ≡ words_in size xs + words_before size ys j
+  before_back [] ys k j is = let e : k ≡ j = omega arith in let f = ap (words_before size ys) e in omega arith
+  before_back (x ∷ xs) ys zero j is = absurd (omega arith)
+  before_back (x ∷ xs) ys (suc k) j is = omega (arith, before_back xs ys k j (omega arith))
+
 -- ---- lists in two
 
 pub get_left : {A : Type 0} (xs ys : List A) (i : ℕ) (x : A) → slice_get xs i ≡ Some x → slice_get (xs ++ ys) i ≡ Some x

@@ -1,6 +1,6 @@
 -- The group of a mark is the group of its row.
-use Rattle.std.proofs.Common.{◌≡◌, ℕ, ◌+◌, List, [], ◌∷◌, sym, subst, Some, arith}
-use Rattle.std.specs.Prelude.{ℤ, slice_get}
+use Rattle.std.proofs.Common.{◌≡◌, ℕ, ◌+◌, List, [], ◌∷◌, sym, subst, arith}
+use Rattle.std.specs.Prelude.{ℤ}
 use Rattle.oat_a64.specs.declared.inst.Inst.{Inst}
 use Rattle.oat_image.specs.declared.image.Image.{Image}
 use Rattle.oat_asm.specs.declared.item.Item.{Item}

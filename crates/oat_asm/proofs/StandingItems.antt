@@ -1,21 +1,19 @@
 -- The items of a layout stand in the image that has its words.
-use Rattle.std.proofs.Common.{◌≡◌, ℕ, suc, ◌+◌, ◌*◌, ◌/◌, ◌%◌, ◌^◌, ◌≤◌, List, [], ◌∷◌, ◌++◌, length, refl, sym, ap, ◌∙◌, subst, Some, arith, inl, inr}
+use Rattle.std.proofs.Common.{◌≡◌, ℕ, suc, ◌+◌, ◌*◌, ◌/◌, ◌%◌, ◌^◌, List, [], ◌∷◌, ◌++◌, refl, sym, subst, Some, arith, inl, inr}
 use Rattle.std.specs.Prelude.{slice_get, Contains}
 use Rattle.std.specs.List.{position_or_len}
-use Rattle.std.proofs.lemmas.List.Elements.{Contains-push, Contains-push_cases}
+use Rattle.std.proofs.lemmas.List.Elements.{Contains-push_cases}
 use Rattle.std.proofs.lemmas.Option.{slice_get_within, get_or_from_slice_get}
 use Rattle.oat_a64.specs.declared.inst.Inst.{Inst}
 use Rattle.oat_a64.specs.declared.inst.Inst.TheVariants.{Movz, Movk}
 use Rattle.oat_a64.specs.Table.{IsInRange, word_of}
 use Rattle.oat_a64.specs.Laws.{FetchesByTheTable}
-use Rattle.oat_a64.specs.Step.{code_base, instruction_at}
+use Rattle.oat_a64.specs.Step.{code_base}
 use Rattle.oat_image.specs.declared.image.Image.{Image}
 use Rattle.oat_shape.specs.Groups.{Stands, Branches}
-use Rattle.oat_asm.specs.declared.branch_form.BranchForm.{BranchForm}
-use Rattle.oat_asm.specs.declared.note.Note.{Note}
 use Rattle.oat_asm.specs.declared.item.Item.{Item}
 use Rattle.oat_asm.specs.declared.item.Item.TheVariants as item
-use Rattle.oat_asm.specs.Items.{item_words, words_needed, place, label_place, is_label, code_limit}
+use Rattle.oat_asm.specs.Items.{item_words, words_needed, place, label_place, is_label}
 use Rattle.oat_asm.specs.Layout.{branch, distance, words_of_item}
 use Rattle.oat_asm.specs.Laws.{code_of, item_address}
 use Rattle.oat_asm.specs.Standing.{ItemsStand}

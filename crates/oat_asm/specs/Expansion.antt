@@ -1,5 +1,5 @@
 -- The expansion of items: each mark becomes the note of its row and the row's group (docs/FORMATS.md, the groups; the instructions are those of the Arm A64 manual).
-use Rattle.std.specs.Prelude.{ℕ, ◌+◌, ◌*◌, List, [], ◌∷◌, ◌++◌, map}
+use Rattle.std.specs.Prelude.{List, [], ◌∷◌, ◌++◌, map}
 use Rattle.std.specs.List.{flat_map}
 use Rattle.oat_mem.specs.DataMemory.{global_address}
 use Rattle.oat_a64.specs.declared.inst.Inst.TheVariants as inst

@@ -8,6 +8,7 @@ use Rattle.std.proofs.lemmas.List.Sums.{sum_by-cons, sum_by-append}
 use Rattle.oat_a64.specs.Table.{IsInRange}
 use Rattle.oat_asm.specs.declared.mark.Mark.{Mark}
 use Rattle.oat_asm.specs.declared.mark.Mark.TheVariants.{Jump, Branch, Call, Begin, End, UseCell, DefCell}
+use Rattle.oat_asm.specs.declared.note.Note.TheVariants.{Check}
 use Rattle.oat_asm.specs.declared.item.Item.{Item}
 use Rattle.oat_asm.specs.declared.item.Item.TheVariants as item
 use Rattle.oat_asm.specs.Items.{words_needed, is_label, code_limit, StandsOnce}
@@ -19,8 +20,8 @@ use Rattle.oat_asm.proofs.ExpansionProofs.{leaves_no_mark, keeps_labels, uses_on
 use Rattle.oat_image.specs.Grammar.{IsIndex}
 use Rattle.oat_parts.specs.Symbols.{SymbolTable, IsSymbolTable, AreDistinct, labels_of}
 use Rattle.oat_parts.specs.Parts.{CodePart, plain, label, reference, mark, check, items_of, all_items, IsMarkOf, IsCodePart, labels_in_part, labels_in, AreInParts}
-use Rattle.oat_parts.specs.Built.{CanBeExpanded, PartsCanBeExpanded}
-use Rattle.oat_parts.proofs.Lists.{not_in_none, first_in, later_in, cons_cases, in_get, all_get, all_in, of_flat_map}
+use Rattle.oat_parts.specs.Built.{CanBeExpanded, PartsCanBeExpanded, PartsHaveTheLabels}
+use Rattle.oat_parts.proofs.Lists.{not_in_none, only_in, in_flat_map, first_in, later_in, cons_cases, in_get, all_get, all_in, of_flat_map}
 use Rattle.oat_parts.proofs.Orders.{function_in_labels, block_in_labels}
 
 -- ---- each item
@@ -55,6 +56,7 @@ IsFine t (item.Inst i) = IsInRange i
 IsFine t (item.BranchTo form l) = ⊥
 IsFine t (item.AddressOf register l) = (register ≤ 30) × Contains (labels_of t) l
 IsFine t (item.Mark m) = IsMark m × ((l : ℕ) → LeadsTo m l → Contains (labels_of t) l)
+IsFine t (item.Note n) = n ≡ Check
 IsFine t _ = ⊤
 
 part_fine : (t : SymbolTable) (p : CodePart) → CellsFit t → IsCodePart t p → AllByRecursion (IsFine t) (items_of p)
@@ -62,7 +64,7 @@ part_fine t (plain i) cells is = (is.0, tt)
 part_fine t (label l) cells is = (tt, tt)
 part_fine t (reference register l) cells is = ((is.0, function_in_labels t.functions l is.1), tt)
 part_fine t (mark m) cells is = ((mark_range t m cells is, λ l leads. mark_leads t m l is leads), tt)
-part_fine t (check test number) cells is = (tt, (is.0, ((is.1, tt), tt)))
+part_fine t (check test number) cells is = (refl, (is.0, ((is.1, tt), tt)))
 
 fine : (t : SymbolTable) (ps : List CodePart) → CellsFit t → AllByRecursion (IsCodePart t) ps → (x : Item) → Contains (all_items ps) x → IsFine t x
 fine t ps cells each x has =
@@ -164,3 +166,21 @@ module _ (t : SymbolTable) (items : List Item) (table : IsSymbolTable t) (made :
 
 pub parts_can_be_expanded : PartsCanBeExpanded
 parts_can_be_expanded t items table made = can_be_expanded t items table made
+
+-- ---- labels
+
+label_of : (p : CodePart) (l : ℕ) → Contains (labels_in_part p) l → Contains (items_of p) (item.Label l)
+label_of (label k) l has = let same : k ≡ l = only_in k l has.0 has.1 has.2 in subst (λ (n : ℕ). Contains (item.Label k ∷ []) (item.Label n)) same (first_in (item.Label k) [])
+label_of _ l has = absurd (not_in_none l has)
+
+pub parts_have_the_labels : PartsHaveTheLabels
+parts_have_the_labels t items table made = record {
+  has = λ l has.
+      let r = of_flat_map labels_in_part made.parts l (subst (λ (ls : List ℕ). Contains ls l) (sym made.labelled) has) in
+      subst (λ (is : List Item). Contains is (item.Label l)) (sym made.are) (in_flat_map items_of made.parts r.0 r.1 (item.Label l) r.2 (label_of r.1 l r.3));
+  only = λ l has.
+      let at = in_get items (item.Label l) has in
+      counted_in (labels_of t) l (omega (arith, counted items at.0 l at.1, listed_count t items table made l));
+  once = labels_once t items table made;
+  checks = λ n has. item_fine t items table made (item.Note n) has;
+}

@@ -7,7 +7,10 @@ use Rattle.oat_map.specs.declared.row.Row.{Row}
 use Rattle.oat_map.specs.Rows.{IsOperation}
 use Rattle.oat_image.specs.declared.image.Image.{Image}
 use Rattle.oat_image.specs.Grammar.{IsWellFormedImage}
+use Rattle.oat_asm.specs.declared.note.Note.{Note}
+use Rattle.oat_asm.specs.declared.note.Note.TheVariants.{Check}
 use Rattle.oat_asm.specs.declared.item.Item.{Item}
+use Rattle.oat_asm.specs.declared.item.Item.TheVariants as item
 use Rattle.oat_asm.specs.declared.assembled.NoteAt.{NoteAt}
 use Rattle.oat_asm.specs.Items.{words_needed, code_limit, UsedLabelsStandOnce, InstructionsAreInRange, BranchesAreInRange, AddressesHaveRegisters}
 use Rattle.oat_asm.specs.Layout.{layout}
@@ -16,7 +19,7 @@ use Rattle.oat_asm.specs.Expansion.{expansion}
 use Rattle.oat_asm.specs.ExpansionLaws.{MarksAreInRange, MarkedLabelsStandOnce}
 use Rattle.oat_asm.specs.NoteRows.{row_of}
 use Rattle.oat_asm.specs.Standing.{ItemsStand}
-use Rattle.oat_asm.specs.StandingLaws.{label_address}
+use Rattle.oat_asm.specs.StandingLaws.{label_address, LabelsStandOnce}
 use Rattle.oat_shape.specs.Shape.{IsShaped}
 use Rattle.oat_parts.specs.Symbols.{SymbolTable, FunctionSymbol, IsSymbolTable, Rises, functions_of, blocks_of, operations_in, labels_of}
 use Rattle.oat_parts.specs.Parts.{AreInParts}
@@ -91,3 +94,13 @@ BuiltItemsStand =
 -- labels have addresses in the order of the table
 abbrev pub BuiltLabelsRise : Type 0
 BuiltLabelsRise = (t : SymbolTable) (items : List Item) → IsSymbolTable t → AreInParts t items → Rises (built_address items) (labels_of t)
+
+-- the items have just the labels of the table, each once, and no notes but those of checks
+pub record HasLabelsOf (t : SymbolTable) (items : List Item) : Type 0 where
+  pub has : (label : ℕ) → Contains (labels_of t) label → Contains items (item.Label label)
+  pub only : (label : ℕ) → Contains items (item.Label label) → Contains (labels_of t) label
+  pub once : LabelsStandOnce (expansion items)
+  pub checks : (note : Note) → Contains items (item.Note note) → note ≡ Check
+
+abbrev pub PartsHaveTheLabels : Type 0
+PartsHaveTheLabels = (t : SymbolTable) (items : List Item) → IsSymbolTable t → AreInParts t items → HasLabelsOf t items

@@ -1,5 +1,5 @@
 //! Laws of code in parts, each the contract of a function that does nothing.
-ghost use Rattle.oat_parts.specs.Built.{BuiltImagesAreShaped, BuiltItemsStand, BuiltLabelsRise, PartsCanBeExpanded};
+ghost use Rattle.oat_parts.specs.Built.{BuiltImagesAreShaped, BuiltItemsStand, BuiltLabelsRise, PartsCanBeExpanded, PartsHaveTheLabels};
 ghost use Rattle.oat_parts.specs.Making.{CodesAreInParts, CodesHaveTheirWords, PartsBehindLabel, PartsJoin, WordsAdd};
 
 use oat_a64::laws::fetches_by_the_table;
@@ -7,6 +7,11 @@ use oat_a64::laws::fetches_by_the_table;
 /// Items in parts are what the assembler and the expansion ask for.
 pub fn parts_can_be_expanded()
     ensures { PartsCanBeExpanded }
+{}
+
+/// Items in parts have the labels of their table.
+pub fn parts_have_the_labels()
+    ensures { PartsHaveTheLabels }
 {}
 
 /// The image that is built of parts is well formed and has the shape.

@@ -3,3 +3,8 @@ mod Globals
 mod Programs
 mod Places
 mod Codes
+mod Finding
+mod Names
+mod CallSites
+mod Counting
+mod Sites

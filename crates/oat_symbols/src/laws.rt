@@ -1,5 +1,6 @@
 //! Laws of symbol tables and built images, each the contract of a function that does nothing.
 ghost use Rattle.oat_symbols.specs.Codes.{CodesAreOfTheProgram, CodesFollow, CodesStand, ProgramsAreBuilt};
+ghost use Rattle.oat_symbols.specs.Names.{BuiltMapsHaveNames, CallSitesAreFound, SitesAreCounted};
 ghost use Rattle.oat_symbols.specs.Programs.{ProgramsHaveSymbols, ProgramsHaveTheirLabels};
 
 use oat_a64::laws::fetches_by_the_table;
@@ -34,4 +35,19 @@ pub fn codes_stand()
 /// The code of each function stands behind that of the one before.
 pub fn codes_follow()
     ensures { CodesFollow }
+{}
+
+/// Functions and blocks have their names in the map, and the place of an address is the last label at or below it.
+pub fn built_maps_have_names()
+    ensures { BuiltMapsHaveNames }
+{}
+
+/// A return site is named by its call.
+pub fn call_sites_are_found()
+    ensures { CallSitesAreFound }
+{}
+
+/// The number of a site counts the sites since the last label.
+pub fn sites_are_counted()
+    ensures { SitesAreCounted }
 {}
