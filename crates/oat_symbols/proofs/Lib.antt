@@ -8,3 +8,4 @@ mod Names
 mod CallSites
 mod Counting
 mod Sites
+mod Worked

@@ -2,6 +2,7 @@
 ghost use Rattle.oat_symbols.specs.Codes.{CodesAreOfTheProgram, CodesFollow, CodesStand, ProgramsAreBuilt};
 ghost use Rattle.oat_symbols.specs.Names.{BuiltMapsHaveNames, CallSitesAreFound, SitesAreCounted};
 ghost use Rattle.oat_symbols.specs.Programs.{ProgramsHaveSymbols, ProgramsHaveTheirLabels};
+ghost use Rattle.oat_symbols.specs.Worked.{IdleIsBuilt};
 
 use oat_a64::laws::fetches_by_the_table;
 
@@ -51,3 +52,10 @@ pub fn call_sites_are_found()
 pub fn sites_are_counted()
     ensures { SitesAreCounted }
 {}
+
+/// A worked program has all that the laws ask for, and is built.
+pub fn idle_is_built()
+    ensures { IdleIsBuilt }
+{
+    fetches_by_the_table();
+}
