@@ -3,7 +3,7 @@ use Rattle.std.proofs.Common.{◌≡◌, ℕ, refl, sym, ap, arith}
 use Rattle.std.specs.Prelude.{Some, slice_get}
 use Rattle.oat_bits.specs.Field.{field}
 use Rattle.oat_a64.specs.declared.inst.Inst.{Inst}
-use Rattle.oat_a64.specs.declared.inst.Inst.TheVariants.{AddImm, SubImm, SubsImm, AddReg, SubReg, SubsReg, AndReg, OrrReg, EorReg, Madd, Msub, Udiv, Sdiv, Lslv, Lsrv, Asrv, Movz, Movk, Csinc, Ldr, Str, B, Bl, BCond, Cbz, Cbnz, Blr, Ret, Svc, Brk, Nop}
+use Rattle.oat_a64.specs.declared.inst.Inst.TheVariants.{AddImm, SubImm, SubsImm, AddReg, SubReg, SubsReg, AndReg, OrrReg, EorReg, Madd, Msub, Udiv, Sdiv, Lslv, Lsrv, Asrv, Movz, Movk, Csinc, Ldr, Str, LdrReg, StrReg, B, Bl, BCond, Cbz, Cbnz, Blr, Ret, Svc, Brk, Nop}
 use Rattle.oat_a64.specs.Table.{Word}
 use Rattle.oat_a64.specs.Fetch.{candidates}
 use Rattle.oat_a64.proofs.Offsets.{below, signed_back, condition_below}
@@ -39,16 +39,18 @@ place (Movk _ _ _) = 17
 place (Csinc _ _ _ _) = 18
 place (Ldr _ _ _) = 19
 place (Str _ _ _) = 20
-place (B _) = 21
-place (Bl _) = 22
-place (BCond _ _) = 23
-place (Cbz _ _) = 24
-place (Cbnz _ _) = 25
-place (Blr _) = 26
-place (Ret _) = 27
-place (Svc _) = 28
-place (Brk _) = 29
-place Nop = 30
+place (LdrReg _ _ _) = 21
+place (StrReg _ _ _) = 22
+place (B _) = 23
+place (Bl _) = 24
+place (BCond _ _) = 25
+place (Cbz _ _) = 26
+place (Cbnz _ _) = 27
+place (Blr _) = 28
+place (Ret _) = 29
+place (Svc _) = 30
+place (Brk _) = 31
+place Nop = 32
 
 pub is_candidate : (i : Inst) (w : ℕ) → Word i w → slice_get (candidates w) (place i) ≡ Some i
 unfolding candidates
@@ -73,6 +75,8 @@ is_candidate (Movk rd hw imm) w h = ap Some (ap3 Movk (omega arith) (omega arith
 is_candidate (Csinc rd rn rm cond) w h = ap Some (ap4 Csinc (omega (arith, condition_below)) (omega (arith, condition_below)) (omega (arith, condition_below)) (omega (arith, condition_below)))
 is_candidate (Ldr rt rn imm) w h = ap Some (ap3 Ldr (omega arith) (omega arith) (omega arith))
 is_candidate (Str rt rn imm) w h = ap Some (ap3 Str (omega arith) (omega arith) (omega arith))
+is_candidate (LdrReg rt rn rm) w h = ap Some (ap3 LdrReg (omega arith) (omega arith) (omega arith))
+is_candidate (StrReg rt rn rm) w h = ap Some (ap3 StrReg (omega arith) (omega arith) (omega arith))
 is_candidate (B offset) w h = ap Some (ap B (sym (signed_back 26 33554432 (field 0 26 w) offset refl h.0.0 (omega (arith, below)))))
 is_candidate (Bl offset) w h = ap Some (ap Bl (sym (signed_back 26 33554432 (field 0 26 w) offset refl h.0.0 (omega (arith, below)))))
 is_candidate (BCond cond offset) w h = ap Some (ap2 BCond (omega (arith, below, condition_below)) (sym (signed_back 19 262144 (field 5 19 w) offset refl h.0.1.0 (omega (arith, below, condition_below)))))

@@ -2,7 +2,7 @@
 use Rattle.std.proofs.Common.{◌≡◌, ℕ, refl, arith}
 use Rattle.std.specs.Prelude.{Some, slice_get}
 use Rattle.oat_a64.specs.declared.inst.Inst.{Inst}
-use Rattle.oat_a64.specs.declared.inst.Inst.TheVariants.{AddImm, SubImm, SubsImm, AddReg, SubReg, SubsReg, AndReg, OrrReg, EorReg, Madd, Msub, Udiv, Sdiv, Lslv, Lsrv, Asrv, Movz, Movk, Csinc, Ldr, Str, B, Bl, BCond, Cbz, Cbnz, Blr, Ret, Svc, Brk, Nop}
+use Rattle.oat_a64.specs.declared.inst.Inst.TheVariants.{AddImm, SubImm, SubsImm, AddReg, SubReg, SubsReg, AndReg, OrrReg, EorReg, Madd, Msub, Udiv, Sdiv, Lslv, Lsrv, Asrv, Movz, Movk, Csinc, Ldr, Str, LdrReg, StrReg, B, Bl, BCond, Cbz, Cbnz, Blr, Ret, Svc, Brk, Nop}
 use Rattle.oat_a64.specs.Table.{Word}
 use Rattle.oat_a64.specs.Fetch.{candidates}
 use Rattle.oat_a64.proofs.Offsets.{below, condition_below}
@@ -30,6 +30,8 @@ same_place (Movk _ _ _) (Movk _ _ _) w h k = refl
 same_place (Csinc _ _ _ _) (Csinc _ _ _ _) w h k = refl
 same_place (Ldr _ _ _) (Ldr _ _ _) w h k = refl
 same_place (Str _ _ _) (Str _ _ _) w h k = refl
+same_place (LdrReg _ _ _) (LdrReg _ _ _) w h k = refl
+same_place (StrReg _ _ _) (StrReg _ _ _) w h k = refl
 same_place (B _) (B _) w h k = refl
 same_place (Bl _) (Bl _) w h k = refl
 same_place (BCond _ _) (BCond _ _) w h k = refl

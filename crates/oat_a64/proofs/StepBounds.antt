@@ -6,7 +6,7 @@ use Rattle.oat_bits.proofs.WordLemmas.{results_are_words}
 use Rattle.oat_mem.specs.DataMemory.{word_in, can_access}
 use Rattle.oat_mem.proofs.Words.{words_are_bounded, memory_stays_bytes}
 use Rattle.oat_a64.specs.declared.inst.Inst.{Inst}
-use Rattle.oat_a64.specs.declared.inst.Inst.TheVariants.{AddImm, SubImm, SubsImm, AddReg, SubReg, SubsReg, AndReg, OrrReg, EorReg, Madd, Msub, Udiv, Sdiv, Lslv, Lsrv, Asrv, Movz, Movk, Csinc, Ldr, Str, B, Bl, BCond, Cbz, Cbnz, Blr, Ret, Svc, Brk, Nop}
+use Rattle.oat_a64.specs.declared.inst.Inst.TheVariants.{AddImm, SubImm, SubsImm, AddReg, SubReg, SubsReg, AndReg, OrrReg, EorReg, Madd, Msub, Udiv, Sdiv, Lslv, Lsrv, Asrv, Movz, Movk, Csinc, Ldr, Str, LdrReg, StrReg, B, Bl, BCond, Cbz, Cbnz, Blr, Ret, Svc, Brk, Nop}
 use Rattle.oat_a64.specs.Fetch.{inst_of}
 use Rattle.oat_bits.specs.Words.{wrap, difference}
 use Rattle.oat_a64.specs.Step.{Machine, Effect, IsBounded, StepKeepsBounds, reg, reg_or_sp, set, with_reg, with_reg_or_sp, branch_target, next_pc, goes_on, jumps, jumps_if, links, subtracts, loads, stores, act, acts, decodes, step, word_at, holds}
@@ -90,6 +90,8 @@ act-bounded (Csinc rd rn rm c) m b =
     result m b rd _ (cond_both (holds c m.regs) (reg m.regs rn) (wrap (reg m.regs rm + 1)) (λ v. v < 2 ^ 64) (λ _. reg-lt m b rn) (λ _. omega arith))
 act-bounded (Ldr rt rn imm) m b = loaded m b rt _
 act-bounded (Str rt rn imm) m b = stored m b rt _
+act-bounded (LdrReg rt rn rm) m b = loaded m b rt _
+act-bounded (StrReg rt rn rm) m b = stored m b rt _
 act-bounded (B z) m b = moves m b _ (branch_target-lt m.regs.pc z)
 act-bounded (Bl z) m b = linked m b _ (branch_target-lt m.regs.pc z)
 act-bounded (BCond c z) m b = moves_if (holds c m.regs) m b _ (branch_target-lt m.regs.pc z)

@@ -3,7 +3,7 @@ use Rattle.std.specs.Prelude.{ℕ, suc, ◌-◌, ◌*◌, ◌^◌, ◌&&◌, nat
 use Rattle.std.specs.List.{list_all}
 use Rattle.oat_bits.specs.Field.{field}
 use Rattle.oat_a64.specs.declared.inst.Inst.{Inst}
-use Rattle.oat_a64.specs.declared.inst.Inst.TheVariants.{AddImm, SubImm, SubsImm, AddReg, SubReg, SubsReg, AndReg, OrrReg, EorReg, Madd, Msub, Udiv, Sdiv, Lslv, Lsrv, Asrv, Movz, Movk, Csinc, Ldr, Str, B, Bl, BCond, Cbz, Cbnz, Blr, Ret, Svc, Brk, Nop}
+use Rattle.oat_a64.specs.declared.inst.Inst.TheVariants.{AddImm, SubImm, SubsImm, AddReg, SubReg, SubsReg, AndReg, OrrReg, EorReg, Madd, Msub, Udiv, Sdiv, Lslv, Lsrv, Asrv, Movz, Movk, Csinc, Ldr, Str, LdrReg, StrReg, B, Bl, BCond, Cbz, Cbnz, Blr, Ret, Svc, Brk, Nop}
 use Rattle.oat_a64.specs.Table.{Part, unsigned, signed, condition, is_condition, form_of, word_of}
 
 -- the number that stands as n in two's complement
@@ -37,6 +37,8 @@ candidates w =
     Csinc (field 0 5 w) (field 5 5 w) (field 16 5 w) (field 12 4 w) ∷
     Ldr (field 0 5 w) (field 5 5 w) (field 10 12 w) ∷
     Str (field 0 5 w) (field 5 5 w) (field 10 12 w) ∷
+    LdrReg (field 0 5 w) (field 5 5 w) (field 16 5 w) ∷
+    StrReg (field 0 5 w) (field 5 5 w) (field 16 5 w) ∷
     B (signed_field 0 26 w) ∷
     Bl (signed_field 0 26 w) ∷
     BCond (field 0 4 w) (signed_field 5 19 w) ∷

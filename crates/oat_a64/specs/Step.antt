@@ -9,7 +9,7 @@ use Rattle.oat_a64.specs.declared.event.Event.TheVariants as event
 use Rattle.oat_a64.specs.declared.event.FaultKind.{FaultKind}
 use Rattle.oat_a64.specs.declared.event.FaultKind.TheVariants.{Access, Fetch, Undefined}
 use Rattle.oat_a64.specs.declared.inst.Inst.{Inst}
-use Rattle.oat_a64.specs.declared.inst.Inst.TheVariants.{AddImm, SubImm, SubsImm, AddReg, SubReg, SubsReg, AndReg, OrrReg, EorReg, Madd, Msub, Udiv, Sdiv, Lslv, Lsrv, Asrv, Movz, Movk, Csinc, Ldr, Str, B, Bl, BCond, Cbz, Cbnz, Blr, Ret, Svc, Brk, Nop}
+use Rattle.oat_a64.specs.declared.inst.Inst.TheVariants.{AddImm, SubImm, SubsImm, AddReg, SubReg, SubsReg, AndReg, OrrReg, EorReg, Madd, Msub, Udiv, Sdiv, Lslv, Lsrv, Asrv, Movz, Movk, Csinc, Ldr, Str, LdrReg, StrReg, B, Bl, BCond, Cbz, Cbnz, Blr, Ret, Svc, Brk, Nop}
 use Rattle.oat_a64.specs.Fetch.{fits_signed, inst_of}
 
 -- X0 to X30 by number, the stack pointer, the program counter, and the condition flags
@@ -187,6 +187,10 @@ act (Csinc rd rn rm cond) m =
 act (Ldr rt rn imm) m = loads m rt (wrap (reg_or_sp m.regs rn + 8 * imm))
 -- STR (immediate), unsigned offset
 act (Str rt rn imm) m = stores m rt (wrap (reg_or_sp m.regs rn + 8 * imm))
+-- LDR (register), with LSL 3
+act (LdrReg rt rn rm) m = loads m rt (wrap (reg_or_sp m.regs rn + 8 * reg m.regs rm))
+-- STR (register), with LSL 3
+act (StrReg rt rn rm) m = stores m rt (wrap (reg_or_sp m.regs rn + 8 * reg m.regs rm))
 -- B
 act (B offset) m = jumps m m.regs (branch_target m.regs.pc offset)
 -- BL

@@ -1,7 +1,7 @@
 -- The instruction table: which words the A64 instructions of the device have, by the encodings of the Arm A64 manual, "A64 base instructions".
 use Rattle.std.specs.Prelude.{◌≡◌, ℕ, suc, ◌+◌, ◌-◌, ◌*◌, ◌^◌, ◌<◌, ◌||◌, nat_eq, Bool, IsTrue, List, [], ◌∷◌, sum_by, ℤ, pos, negsuc, ⊤}
 use Rattle.oat_a64.specs.declared.inst.Inst.{Inst}
-use Rattle.oat_a64.specs.declared.inst.Inst.TheVariants.{AddImm, SubImm, SubsImm, AddReg, SubReg, SubsReg, AndReg, OrrReg, EorReg, Madd, Msub, Udiv, Sdiv, Lslv, Lsrv, Asrv, Movz, Movk, Csinc, Ldr, Str, B, Bl, BCond, Cbz, Cbnz, Blr, Ret, Svc, Brk, Nop}
+use Rattle.oat_a64.specs.declared.inst.Inst.TheVariants.{AddImm, SubImm, SubsImm, AddReg, SubReg, SubsReg, AndReg, OrrReg, EorReg, Madd, Msub, Udiv, Sdiv, Lslv, Lsrv, Asrv, Movz, Movk, Csinc, Ldr, Str, LdrReg, StrReg, B, Bl, BCond, Cbz, Cbnz, Blr, Ret, Svc, Brk, Nop}
 
 -- A field of a word: the place of its lowest bit, its width and its number. A condition has four bits.
 pub data Part : Type 0 where
@@ -84,6 +84,10 @@ form_of (Csinc rd rn rm cond) = form 0x9A800400 (unsigned 0 5 rd ∷ unsigned 5 
 form_of (Ldr rt rn imm) = form 0xF9400000 (unsigned 0 5 rt ∷ unsigned 5 5 rn ∷ unsigned 10 12 imm ∷ [])
 -- STR (immediate), unsigned offset
 form_of (Str rt rn imm) = form 0xF9000000 (unsigned 0 5 rt ∷ unsigned 5 5 rn ∷ unsigned 10 12 imm ∷ [])
+-- LDR (register), with LSL 3
+form_of (LdrReg rt rn rm) = form 0xF8607800 (unsigned 0 5 rt ∷ unsigned 5 5 rn ∷ unsigned 16 5 rm ∷ [])
+-- STR (register), with LSL 3
+form_of (StrReg rt rn rm) = form 0xF8207800 (unsigned 0 5 rt ∷ unsigned 5 5 rn ∷ unsigned 16 5 rm ∷ [])
 -- B
 form_of (B offset) = form 0x14000000 (signed 0 26 offset ∷ [])
 -- BL

@@ -26,6 +26,8 @@ pub enum Inst {
     Csinc { rd: u8, rn: u8, rm: u8, cond: u8 },
     Ldr { rt: u8, rn: u8, imm: u16 },
     Str { rt: u8, rn: u8, imm: u16 },
+    LdrReg { rt: u8, rn: u8, rm: u8 },
+    StrReg { rt: u8, rn: u8, rm: u8 },
     B { offset: i32 },
     Bl { offset: i32 },
     BCond { cond: u8, offset: i32 },

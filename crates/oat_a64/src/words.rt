@@ -36,6 +36,8 @@ macro_rules! table {
             Csinc 0x9A80_0400 { rd: rd, rn: rn, rm: rm, cond: cond }
             Ldr 0xF940_0000 { rt: rd, rn: rn, imm: imm12 }
             Str 0xF900_0000 { rt: rd, rn: rn, imm: imm12 }
+            LdrReg 0xF860_7800 { rt: rd, rn: rn, rm: rm }
+            StrReg 0xF820_7800 { rt: rd, rn: rn, rm: rm }
             B 0x1400_0000 { offset: imm26 }
             Bl 0x9400_0000 { offset: imm26 }
             BCond 0x5400_0000 { cond: low_cond, offset: imm19 }
@@ -138,7 +140,7 @@ fn first_of(word: u32, candidates: &[Inst]) -> Option<Inst>
 
 /// Each form, with the fields that the word has in its places.
 #[tactic(auto, unfolding(crate::specs::Fetch::candidates))]
-fn candidates(word: u32) -> [Inst; 31]
+fn candidates(word: u32) -> [Inst; 33]
     ensures { result ≡ candidates word }
 {
     let places = Places::of(word);

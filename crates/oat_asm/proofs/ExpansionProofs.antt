@@ -1,18 +1,19 @@
 -- What holds of each item of an expansion: one table says what each mark's group has, and all else follows.
-use Rattle.std.proofs.Common.{◌≡◌, ℕ, ◌/◌, ◌%◌, ◌^◌, ◌<◌, ◌≤◌, Bool, false, List, [], ◌∷◌, refl, ap, ◌∙◌, inl, inr, cond, arith}
-use Rattle.std.specs.Prelude.{Contains, ⊤}
+use Rattle.std.proofs.Common.{◌≡◌, ℕ, ◌/◌, ◌%◌, ◌^◌, ◌<◌, ◌≤◌, Bool, false, List, [], ◌∷◌, ◌++◌, refl, ap, ◌∙◌, inl, inr, cond, arith}
+use Rattle.std.specs.Prelude.{Contains, ⊤, pos, map}
 use Rattle.std.specs.List.{count_by, AllByRecursion}
 use Rattle.std.proofs.lemmas.List.Elements.{Contains-append_cases, Contains-append_right, Contains-append_left, All-contains, All-from_recursion}
 use Rattle.std.proofs.lemmas.List.Sums.{sum_by-append}
 use Rattle.oat_mem.specs.DataMemory.{global_address}
-use Rattle.oat_a64.specs.declared.inst.Inst.TheVariants.{Svc, Movz, Movk}
+use Rattle.oat_a64.specs.declared.inst.Inst.TheVariants.{AddReg, SubsReg, Movz, Movk, LdrReg, StrReg, BCond, Svc, Brk}
 use Rattle.oat_a64.specs.Table.{IsInRange}
 use Rattle.oat_asm.specs.declared.mark.Mark.{Mark}
-use Rattle.oat_asm.specs.declared.mark.Mark.TheVariants.{Jump, Branch, Call, ICall, Ret, Begin, End, UseCell, DefCell}
+use Rattle.oat_asm.specs.declared.mark.Mark.TheVariants.{Jump, Branch, Call, ICall, Ret, Begin, End, UseCell, DefCell, UseAt, DefAt}
 use Rattle.oat_asm.specs.declared.item.Item.{Item}
 use Rattle.oat_asm.specs.declared.item.Item.TheVariants as item
 use Rattle.oat_asm.specs.Items.{is_label, StandsOnce, IsBranch, UsedLabelsStandOnce, InstructionsAreInRange, BranchesAreInRange, AddressesHaveRegisters}
-use Rattle.oat_asm.specs.Expansion.{note_of, group, expanded, expansion}
+use Rattle.oat_asm.specs.Layout.{puts}
+use Rattle.oat_asm.specs.Expansion.{note_of, element_test, group, expanded, expansion}
 use Rattle.oat_asm.specs.NoteRows.{GroupsHaveTheWordsOfTheirRows}
 use Rattle.oat_asm.specs.ExpansionLaws.{IsMark, MarksAreInRange, LeadsTo, MarkedLabelsStandOnce, ExpansionLeavesNoMark, ExpansionKeepsLabels, ExpansionUsesLabelsThatStandOnce, ExpansionStaysInRange}
 use Rattle.oat_asm.proofs.Seen.{count_cons}
@@ -37,6 +38,21 @@ service n h = (h, tt)
 number : (n : ℕ) → n < 2 ^ 16 → IsInRange (Movz 9 0 n)
 number n h = (omega arith, (omega arith, (h, tt)))
 
+length_move : (n : ℕ) → n < 2 ^ 16 → IsInRange (Movz 11 0 n)
+length_move n h = (omega arith, (omega arith, (h, tt)))
+
+comparison : IsInRange (SubsReg 31 12 11)
+comparison = (omega arith, (omega arith, (omega arith, tt)))
+
+skip : IsInRange (BCond 3 (pos 2))
+skip = (refl, (omega arith, tt))
+
+trap : IsInRange (Brk 2)
+trap = (omega arith, tt)
+
+cell_sum : IsInRange (AddReg 9 9 12 0)
+cell_sum = (omega arith, (omega arith, (omega arith, (omega arith, tt))))
+
 low : (index : ℕ) → IsInRange (Movz 11 0 (global_address index % 2 ^ 16))
 low index = (omega arith, (omega arith, (omega arith, tt)))
 
@@ -48,6 +64,12 @@ abbrev IsOfGroup : Mark → Item → Type 0
 IsOfGroup m (item.Inst i) = IsMark m → IsInRange i
 IsOfGroup m (item.BranchTo form label) = IsBranch form × LeadsTo m label
 IsOfGroup m _ = ⊥
+
+-- the test of an element's number, and two moves of an address, before the rest of a group
+tested : (m : Mark) (len index : ℕ) (rest : List Item) → (IsMark m → len < 2 ^ 16) → (IsMark m → index < 65536) → AllByRecursion (IsOfGroup m) rest
+    → AllByRecursion (IsOfGroup m) (element_test len ++ map item.Inst (puts 11 (global_address index)) ++ rest)
+tested m len index rest short within all =
+    (λ h. length_move len (short h), (λ h. comparison, (λ h. skip, (λ h. trap, (λ h. low index, (λ h. high index (within h), all))))))
 
 of_group : (m : Mark) → AllByRecursion (IsOfGroup m) (group m)
 of_group (Jump to) = ((tt, refl), tt)
@@ -61,6 +83,14 @@ of_group (UseCell cell index) =
     (λ h. low index, (λ h. high index h.1, (λ h. (omega arith, (omega arith, (omega arith, tt))), (λ h. number cell h.0, (λ h. service 7 (omega arith), tt)))))
 of_group (DefCell cell index) =
     (λ h. low index, (λ h. high index h.1, (λ h. number cell h.0, (λ h. (omega arith, (omega arith, (omega arith, tt))), (λ h. service 6 (omega arith), tt)))))
+of_group (UseAt cell len index) =
+    tested (UseAt cell len index) len index
+    (item.Inst (LdrReg 10 11 12) ∷ item.Inst (Movz 9 0 cell) ∷ item.Inst (AddReg 9 9 12 0) ∷ item.Inst (Svc 7) ∷ []) (λ h. h.1) (λ h. h.2)
+    (λ h. (omega arith, (omega arith, (omega arith, tt))), (λ h. number cell h.0, (λ h. cell_sum, (λ h. service 7 (omega arith), tt))))
+of_group (DefAt cell len index) =
+    tested (DefAt cell len index) len index
+    (item.Inst (Movz 9 0 cell) ∷ item.Inst (AddReg 9 9 12 0) ∷ item.Inst (StrReg 10 11 12) ∷ item.Inst (Svc 6) ∷ []) (λ h. h.1) (λ h. h.2)
+    (λ h. number cell h.0, (λ h. cell_sum, (λ h. (omega arith, (omega arith, (omega arith, tt))), (λ h. service 6 (omega arith), tt))))
 
 all_so : (P Q : Item → Type 0) → ((i : Item) → P i → Q i) → (items : List Item) → AllByRecursion P items → AllByRecursion Q items
 all_so P Q so [] all = tt
@@ -188,3 +218,5 @@ words_of_groups (Begin op) address_of at = refl
 words_of_groups (End op) address_of at = refl
 words_of_groups (UseCell cell index) address_of at = refl
 words_of_groups (DefCell cell index) address_of at = refl
+words_of_groups (UseAt cell len index) address_of at = refl
+words_of_groups (DefAt cell len index) address_of at = refl

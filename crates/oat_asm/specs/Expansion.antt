@@ -1,5 +1,5 @@
 -- The expansion of items: each mark becomes the note of its row and the row's group (docs/FORMATS.md, the groups; the instructions are those of the Arm A64 manual).
-use Rattle.std.specs.Prelude.{List, [], ◌∷◌, ◌++◌, map}
+use Rattle.std.specs.Prelude.{ℕ, pos, List, [], ◌∷◌, ◌++◌, map}
 use Rattle.std.specs.List.{flat_map}
 use Rattle.oat_mem.specs.DataMemory.{global_address}
 use Rattle.oat_a64.specs.declared.inst.Inst.TheVariants as inst
@@ -22,8 +22,15 @@ note_of (mark.Begin op) = note.Begin op
 note_of (mark.End op) = note.End op
 note_of (mark.UseCell cell index) = note.UseCell cell index
 note_of (mark.DefCell cell index) = note.DefCell cell index
+note_of (mark.UseAt cell len index) = note.UseAt cell len index
+note_of (mark.DefAt cell len index) = note.DefAt cell len index
 
--- The group of a mark's row. Registers: 9 has the bit, the target, the operation or the cell, 10 the value, 11 the cell's address, and 30 is the link register.
+-- the test of an element's number, which X12 has, against a length; it skips the trap where the number is lower
+abbrev pub element_test : ℕ → List Item
+element_test len =
+    item.Inst (inst.Movz 11 0 len) ∷ item.Inst (inst.SubsReg 31 12 11) ∷ item.Inst (inst.BCond 3 (pos 2)) ∷ item.Inst (inst.Brk 2) ∷ []
+
+-- The group of a mark's row. Registers: 9 has the bit, the target, the operation or the cell, 10 the value, 11 the cell's address, 12 an element's number, and 30 is the link register.
 abbrev pub group : Mark → List Item
 group (mark.Jump to) = item.BranchTo B to ∷ []
 group (mark.Branch taken other) = item.Inst (inst.Svc 3) ∷ item.BranchTo (Cbnz 9) taken ∷ item.BranchTo B other ∷ []
@@ -38,6 +45,12 @@ group (mark.UseCell cell index) =
 group (mark.DefCell cell index) =
     map item.Inst (puts 11 (global_address index))
     ++ item.Inst (inst.Movz 9 0 cell) ∷ item.Inst (inst.Str 10 11 0) ∷ item.Inst (inst.Svc 6) ∷ []
+group (mark.UseAt cell len index) =
+    element_test len ++ map item.Inst (puts 11 (global_address index))
+    ++ item.Inst (inst.LdrReg 10 11 12) ∷ item.Inst (inst.Movz 9 0 cell) ∷ item.Inst (inst.AddReg 9 9 12 0) ∷ item.Inst (inst.Svc 7) ∷ []
+group (mark.DefAt cell len index) =
+    element_test len ++ map item.Inst (puts 11 (global_address index))
+    ++ item.Inst (inst.Movz 9 0 cell) ∷ item.Inst (inst.AddReg 9 9 12 0) ∷ item.Inst (inst.StrReg 10 11 12) ∷ item.Inst (inst.Svc 6) ∷ []
 
 abbrev pub expanded : Item → List Item
 expanded (item.Inst i) = item.Inst i ∷ []

@@ -2,18 +2,20 @@
 use Rattle.std.specs.Prelude.{◌≡◌, ℕ, ◌^◌, ◌<◌, List, Contains, ⊤, ◌⊎◌}
 use Rattle.std.specs.List.{count_by}
 use Rattle.oat_asm.specs.declared.mark.Mark.{Mark}
-use Rattle.oat_asm.specs.declared.mark.Mark.TheVariants.{Jump, Branch, Call, Begin, End, UseCell, DefCell}
+use Rattle.oat_asm.specs.declared.mark.Mark.TheVariants.{Jump, Branch, Call, Begin, End, UseCell, DefCell, UseAt, DefAt}
 use Rattle.oat_asm.specs.declared.item.Item.{Item}
 use Rattle.oat_asm.specs.declared.item.Item.TheVariants as item
 use Rattle.oat_asm.specs.Items.{is_label, StandsOnce, UsedLabelsStandOnce, NoMarkIsLeft, InstructionsAreInRange, BranchesAreInRange, AddressesHaveRegisters}
 use Rattle.oat_asm.specs.Expansion.{expansion}
 
--- ids and cells have 16 bits, and a cell's word is one of the first 65,536
+-- ids, cells and lengths have 16 bits, and a cell's word is one of the first 65,536
 abbrev pub IsMark : Mark → Type 0
 IsMark (Begin op) = op < 2 ^ 16
 IsMark (End op) = op < 2 ^ 16
 IsMark (UseCell cell index) = (cell < 2 ^ 16) × (index < 65536)
 IsMark (DefCell cell index) = (cell < 2 ^ 16) × (index < 65536)
+IsMark (UseAt cell len index) = (cell < 2 ^ 16) × (len < 2 ^ 16) × (index < 65536)
+IsMark (DefAt cell len index) = (cell < 2 ^ 16) × (len < 2 ^ 16) × (index < 65536)
 IsMark _ = ⊤
 
 abbrev pub MarksAreInRange : List Item → Type 0

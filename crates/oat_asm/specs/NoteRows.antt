@@ -20,6 +20,8 @@ row_of address_of at (note.Begin op) = row.Begin at op
 row_of address_of at (note.End op) = row.End at op
 row_of address_of at (note.UseCell cell index) = row.UseCell at cell
 row_of address_of at (note.DefCell cell index) = row.DefCell at cell
+row_of address_of at (note.UseAt cell len index) = row.UseAt at cell len
+row_of address_of at (note.DefAt cell len index) = row.DefAt at cell len
 row_of address_of at note.Check = row.Check at
 
 -- the group of a mark has as many words as the map says of its row

@@ -4,10 +4,10 @@ use Rattle.oat_a64.specs.declared.inst.Inst.TheVariants.{Movz, Movk}
 use Rattle.oat_map.specs.declared.row.Row.{Row}
 use Rattle.oat_map.specs.Rows.{address_of, row_over}
 use Rattle.oat_image.specs.declared.image.Image.{Image}
-use Rattle.oat_shape.specs.Groups.{Stands, Branches, IsGroup}
+use Rattle.oat_shape.specs.Groups.{Stands, Branches, AreElements, IsGroup}
 use Rattle.oat_shape.specs.Shape.{group_end}
 use Rattle.oat_asm.specs.declared.mark.Mark.{Mark}
-use Rattle.oat_asm.specs.declared.mark.Mark.TheVariants.{UseCell, DefCell}
+use Rattle.oat_asm.specs.declared.mark.Mark.TheVariants.{UseCell, DefCell, UseAt, DefAt}
 use Rattle.oat_asm.specs.declared.item.Item.{Item}
 use Rattle.oat_asm.specs.declared.item.Item.TheVariants as item
 use Rattle.oat_asm.specs.Layout.{branch}
@@ -29,10 +29,12 @@ ItemsStand i label p (item.AddressOf r l ∷ is) =
 ItemsStand i label p (item.Mark m ∷ is) = ⊥
 ItemsStand i label p (item.Note n ∷ is) = IsOver i.map.rows (row_of label p n) × ItemsStand i label p is
 
--- a mark of a cell has the cell's word
+-- a mark of a cell has the cell's word, and one of an array has its cells and the first one's word
 abbrev pub HasItsWord : List ℕ → Mark → Type 0
 HasItsWord cells (UseCell cell index) = slice_get cells cell ≡ Some index
 HasItsWord cells (DefCell cell index) = slice_get cells cell ≡ Some index
+HasItsWord cells (UseAt cell len index) = AreElements cells cell len index
+HasItsWord cells (DefAt cell len index) = AreElements cells cell len index
 HasItsWord cells _ = ⊤
 
 -- the group of a mark stands just where the group of its row stands

@@ -1,5 +1,6 @@
 /// A row of the map that is still to be written. Places are labels, and
-/// `index` is the cell's word among the global words.
+/// `index` is the cell's word among the global words; of an array, the first
+/// cell's.
 #[derive(Clone, Copy, Debug, PartialEq, Eq)]
 pub enum Mark {
     Jump { to: u32 },
@@ -11,4 +12,6 @@ pub enum Mark {
     End { op: u16 },
     UseCell { cell: u16, index: u32 },
     DefCell { cell: u16, index: u32 },
+    UseAt { cell: u16, len: u16, index: u32 },
+    DefAt { cell: u16, len: u16, index: u32 },
 }

@@ -1,5 +1,5 @@
 /// A row of the map whose group follows. Places are labels, and `index` is the
-/// cell's word among the global words.
+/// cell's word among the global words; of an array, the first cell's.
 #[derive(Clone, Copy, Debug, PartialEq, Eq)]
 pub enum Note {
     Jump { to: u32 },
@@ -11,5 +11,7 @@ pub enum Note {
     End { op: u16 },
     UseCell { cell: u16, index: u32 },
     DefCell { cell: u16, index: u32 },
+    UseAt { cell: u16, len: u16, index: u32 },
+    DefAt { cell: u16, len: u16, index: u32 },
     Check,
 }

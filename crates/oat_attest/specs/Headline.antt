@@ -14,7 +14,7 @@ use Rattle.oat_map.specs.Walk.{returns_of}
 use Rattle.oat_map.specs.declared.row.Row.{Row}
 use Rattle.oat_map.specs.declared.row.Row.TheVariants as rows
 use Rattle.oat_mem.specs.DataMemory.{word_in, global_address}
-use Rattle.oat_a64.specs.declared.inst.Inst.TheVariants.{Ldr}
+use Rattle.oat_a64.specs.declared.inst.Inst.TheVariants.{Ldr, LdrReg}
 use Rattle.oat_measure.specs.declared.call.MonitorCall.{MonitorCall}
 use Rattle.oat_measure.specs.declared.call.MonitorCall.TheVariants as svc
 use Rattle.oat_measure.specs.declared.opening.Opening.{Opening}
@@ -69,20 +69,25 @@ OfAcceptedRuns claim =
 
 -- ---- uses that were read by their own loads
 
--- the cells that a row may name in the monitor call of its group
+-- the cells that a row may name in the monitor call of its group: its own, or one of its array
 abbrev pub NamesCell : Row → ℕ → Type 0
 NamesCell (rows.UseCell at own) cell = cell ≡ own
 NamesCell (rows.DefCell at own) cell = cell ≡ own
+NamesCell (rows.UseAt at first len) cell = (element : ℕ) × (element < len) × (cell ≡ first + element)
+NamesCell (rows.DefAt at first len) cell = (element : ℕ) × (element < len) × (cell ≡ first + element)
 NamesCell _ cell = ⊥
 
 -- where the group of a row calls the monitor with a cell that it uses
 abbrev pub IsUseOf : Row → Entry → Type 0
 IsUseOf (rows.UseCell at own) call = pc_of call ≡ at + 16
+IsUseOf (rows.UseAt at first len) call = pc_of call ≡ at + 36
 IsUseOf _ call = ⊥
 
 -- the load of the cell's word in the group of a row: where it stands, its form, and the address that it reads
 abbrev pub IsLoadOf : Row → Entry → ℕ → Type 0
 IsLoadOf (rows.UseCell at own) load address = (pc_of load ≡ at + 8) × (load.inst ≡ Ldr 10 11 0) × (load.found.regs.x 11 ≡ address)
+IsLoadOf (rows.UseAt at first len) load address =
+    (pc_of load ≡ at + 24) × (load.inst ≡ LdrReg 10 11 12) × (load.found.regs.x 11 + 8 * load.found.regs.x 12 ≡ address)
 IsLoadOf _ load address = ⊥
 
 -- The value of the use that instruction k of the window makes was read from the cell's word by the load of its own group.

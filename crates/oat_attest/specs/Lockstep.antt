@@ -36,7 +36,11 @@ plain at = record { at = at; call = None }
 abbrev pub calling : ℕ → MonitorCall → Placed
 calling at call = record { at = at; call = Some call }
 
--- The instructions that the run makes of a row's group, where it shows these edges and goes on at `to`: all of them in their order, but for the last of a branch that is taken and of a check.
+-- where the instructions of an element's use or define stand before the monitor call; the trap isn't met
+abbrev pub element_places : ℕ → List ℕ
+element_places at = at ∷ at + 4 ∷ at + 8 ∷ at + 16 ∷ at + 20 ∷ at + 24 ∷ at + 28 ∷ at + 32 ∷ []
+
+-- The instructions that the run makes of a row's group, where it shows these edges and goes on at `to`: all of them in their order, but for the last of a branch that is taken and of a check, and for the trap of an element's test.
 abbrev pub IsGroupRun : Row → List Edge → ℕ → List Placed → Type 0
 IsGroupRun (rows.Jump at place) shown to group = group ≡ plain at ∷ []
 IsGroupRun (rows.Branch at taken other) (edges.Branch from true place ∷ []) to group =
@@ -53,6 +57,12 @@ IsGroupRun (rows.UseCell at own) shown to group =
 IsGroupRun (rows.DefCell at own) shown to group =
     (cell : ℕ) × (value : ℕ) × NamesCell (rows.DefCell at own) cell
     × (group ≡ plain at ∷ plain (at + 4) ∷ plain (at + 8) ∷ plain (at + 12) ∷ calling (at + 16) (svc.Define cell value) ∷ [])
+IsGroupRun (rows.UseAt at first len) shown to group =
+    (cell : ℕ) × (value : ℕ) × NamesCell (rows.UseAt at first len) cell
+    × (group ≡ map plain (element_places at) ++ calling (at + 36) (svc.Use cell value) ∷ [])
+IsGroupRun (rows.DefAt at first len) shown to group =
+    (cell : ℕ) × (value : ℕ) × NamesCell (rows.DefAt at first len) cell
+    × (group ≡ map plain (element_places at) ++ calling (at + 36) (svc.Define cell value) ∷ [])
 IsGroupRun (rows.Check at) shown to group = group ≡ plain at ∷ []
 
 -- instructions that neither transfer control nor call the monitor
@@ -152,6 +162,7 @@ Lockstep = OfAcceptedRuns (λ image session path serial before window.
 -- the cells that are used where a row is passed
 abbrev pub AreUsedAt : Row → List ℕ → Type 0
 AreUsedAt (rows.UseCell at own) cells = (cell : ℕ) × NamesCell (rows.UseCell at own) cell × (cells ≡ cell ∷ [])
+AreUsedAt (rows.UseAt at first len) cells = (cell : ℕ) × NamesCell (rows.UseAt at first len) cell × (cells ≡ cell ∷ [])
 AreUsedAt _ cells = cells ≡ []
 
 -- The cells that steps use at the rows that they pass, in their order, from an address on and behind the steps before.

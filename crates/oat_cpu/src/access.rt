@@ -1,7 +1,7 @@
 // Loads and stores.
 ghost use Rattle.std.specs.Prelude.{◌≡◌, ◌+◌, ◌*◌};
 ghost use Rattle.oat_bits.specs.Words.{wrap};
-ghost use Rattle.oat_a64.specs.Step.{loads, reg_or_sp, stores};
+ghost use Rattle.oat_a64.specs.Step.{loads, reg, reg_or_sp, stores};
 ghost use Rattle.oat_cpu.specs.Processor.{machine_of, effect_of, regs_of};
 
 use crate::cpu::Cpu;
@@ -33,5 +33,12 @@ impl Cpu {
         ensures { result ≡ wrap (reg_or_sp (regs_of self.now) base + 8 * imm) }
     {
         self.reg_or_sp(base).wrapping_add(8 * u64::from(imm))
+    }
+
+    // The register has the number of a word behind the base.
+    pub(crate) fn element(&self, base: u8, number: u8) -> u64
+        ensures { result ≡ wrap (reg_or_sp (regs_of self.now) base + 8 * reg (regs_of self.now) number) }
+    {
+        self.reg_or_sp(base).wrapping_add(self.reg(number).wrapping_mul(8))
     }
 }

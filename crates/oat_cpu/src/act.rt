@@ -34,6 +34,8 @@ impl Cpu {
             Inst::Csinc { rd, rn, rm, cond } => self.finish(rd, self.chosen(rn, rm, cond)),
             Inst::Ldr { rt, rn, imm } => self.load(rt, self.address(rn, imm), memory),
             Inst::Str { rt, rn, imm } => self.store(rt, self.address(rn, imm), memory),
+            Inst::LdrReg { rt, rn, rm } => self.load(rt, self.element(rn, rm), memory),
+            Inst::StrReg { rt, rn, rm } => self.store(rt, self.element(rn, rm), memory),
             Inst::B { offset } => self.jump(branch_target(self.pc, offset)),
             Inst::Bl { offset } => self.link(branch_target(self.pc, offset)),
             Inst::BCond { cond, offset } => self.branch_if(self.holds(cond), offset),

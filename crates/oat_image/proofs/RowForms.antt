@@ -7,7 +7,7 @@ use Rattle.oat_lines.specs.Hexadecimal.{hexadecimal}
 use Rattle.oat_lines.specs.Fields.{one_field, field_and_rest, two_fields, three_fields, spaced, IsField}
 use Rattle.oat_lines.proofs.Cutting.{one_takes, field_takes, two_take, three_take, one_again, field_again, two_again, three_again, within_field, within_spaced, two_within, three_within, is_within_line}
 use Rattle.oat_map.specs.declared.row.Row.{Row}
-use Rattle.oat_map.specs.declared.row.Row.TheVariants.{Jump, Branch, Call, ICall, Ret, Begin, End, UseCell, DefCell, Check}
+use Rattle.oat_map.specs.declared.row.Row.TheVariants.{Jump, Branch, Call, ICall, Ret, Begin, End, UseCell, DefCell, UseAt, DefAt, Check}
 use Rattle.oat_image.specs.declared.row.RowKind.{RowKind}
 use Rattle.oat_image.specs.declared.row.RowKind.TheVariants.{Edge, Point}
 use Rattle.oat_image.specs.declared.row.EdgeKind.TheVariants as edges
@@ -243,6 +243,8 @@ row_again (Begin a n) fits = row_step (Point points.Begin) (codes "begin") (spac
 row_again (End a n) fits = row_step (Point points.End) (codes "end") (spaced (hexadecimal 8 a ∷ decimal n ∷ [])) refl ∙ rw (numbered_again 1 65535 a n fits.0 fits.1.0 fits.1.1 (omega arith)) refl
 row_again (UseCell a n) fits = row_step (Point points.UseCell) (codes "use") (spaced (hexadecimal 8 a ∷ decimal n ∷ [])) refl ∙ rw (numbered_again 0 65535 a n fits.0 (omega arith) fits.1 (omega arith)) refl
 row_again (DefCell a n) fits = row_step (Point points.DefCell) (codes "def") (spaced (hexadecimal 8 a ∷ decimal n ∷ [])) refl ∙ rw (numbered_again 0 65535 a n fits.0 (omega arith) fits.1 (omega arith)) refl
+row_again (UseAt a n l) fits = absurd fits.3
+row_again (DefAt a n l) fits = absurd fits.3
 row_again (Check a) fits = row_step (Point points.Check) (codes "check") (hexadecimal 8 a) refl ∙ rw (sole_again a fits) refl
 
 numbered_within : (k : RowKind) (a n : ℕ) → n < 2 ^ 64 → list_all is_within_line (keyword_of k ++ 32 ∷ spaced (hexadecimal 8 a ∷ decimal n ∷ [])) ≡ true
@@ -266,6 +268,8 @@ row_whole (Begin a n) fits = numbered_within (Point points.Begin) a n (omega (ar
 row_whole (End a n) fits = numbered_within (Point points.End) a n (omega (arith, fits.1.1))
 row_whole (UseCell a n) fits = numbered_within (Point points.UseCell) a n (omega (arith, fits.1))
 row_whole (DefCell a n) fits = numbered_within (Point points.DefCell) a n (omega (arith, fits.1))
+row_whole (UseAt a n l) fits = absurd fits.3
+row_whole (DefAt a n l) fits = absurd fits.3
 row_whole (Check a) fits = single_within (Point points.Check) a
 
 pub row_form : IsForm row_of row_line IsRow

@@ -10,7 +10,7 @@ use Rattle.oat_map.specs.Name.{IsName}
 use Rattle.oat_map.specs.declared.map.Function.{Function}
 use Rattle.oat_map.specs.declared.map.Block.{Block}
 use Rattle.oat_map.specs.declared.row.Row.{Row}
-use Rattle.oat_map.specs.declared.row.Row.TheVariants.{Jump, Branch, Call, ICall, Ret, Begin, End, UseCell, DefCell, Check}
+use Rattle.oat_map.specs.declared.row.Row.TheVariants.{Jump, Branch, Call, ICall, Ret, Begin, End, UseCell, DefCell, UseAt, DefAt, Check}
 use Rattle.oat_image.specs.declared.image.Image.{Image}
 use Rattle.oat_image.specs.declared.image.InitWord.{InitWord}
 use Rattle.oat_image.specs.Spelling.{section_text}
@@ -46,6 +46,8 @@ row_line (Begin at op) = spaced (codes "begin" ∷ hexadecimal 8 at ∷ decimal 
 row_line (End at op) = spaced (codes "end" ∷ hexadecimal 8 at ∷ decimal op ∷ [])
 row_line (UseCell at cell) = spaced (codes "use" ∷ hexadecimal 8 at ∷ decimal cell ∷ [])
 row_line (DefCell at cell) = spaced (codes "def" ∷ hexadecimal 8 at ∷ decimal cell ∷ [])
+row_line (UseAt at cell len) = []
+row_line (DefAt at cell len) = []
 row_line (Check at) = spaced (codes "check" ∷ hexadecimal 8 at ∷ [])
 
 -- ---- the text
@@ -72,6 +74,10 @@ IsWord word = word < 2 ^ 32
 -- the number of a word of global data
 abbrev pub IsIndex : ℕ → Type 0
 IsIndex index = index ≤ 65535
+
+-- the number of elements of a critical array
+abbrev pub IsLength : ℕ → Type 0
+IsLength len = (1 ≤ len) × (len ≤ 4096)
 
 abbrev pub IsOperationNumber : ℕ → Type 0
 IsOperationNumber op = (1 ≤ op) × (op ≤ 65535)
@@ -100,6 +106,8 @@ IsRow (Begin at op) = IsAddress at × IsOperationNumber op
 IsRow (End at op) = IsAddress at × IsOperationNumber op
 IsRow (UseCell at cell) = IsAddress at × IsIndex cell
 IsRow (DefCell at cell) = IsAddress at × IsIndex cell
+IsRow (UseAt at cell len) = IsAddress at × IsIndex cell × IsLength len × ⊥
+IsRow (DefAt at cell len) = IsAddress at × IsIndex cell × IsLength len × ⊥
 IsRow (Check at) = IsAddress at
 
 -- so many items, each in its ranges

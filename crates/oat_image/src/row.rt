@@ -9,7 +9,7 @@ use crate::fault::ImageFaultKind;
 use crate::line::{is_address, read_address, read_number};
 use crate::receiver::Receiver;
 use crate::text::Form;
-use crate::words::{address_digits, put_four, put_three, put_two};
+use crate::words::{address_digits, put_four, put_line, put_three, put_two};
 use itoa::Buffer;
 use oat_lines::{read_field, read_one_field, read_three_fields, read_two_fields};
 use oat_map::Row;
@@ -261,6 +261,7 @@ impl Form for RowLine {
                 let _cell = *cell;
                 is_address(*at)
             }
+            Row::UseAt { .. } | Row::DefAt { .. } => false,
         }
     }
 
@@ -281,6 +282,7 @@ impl Form for RowLine {
             Row::End { at, op } => put_numbered(out, b"end", *at, *op),
             Row::UseCell { at, cell } => put_numbered(out, b"use", *at, *cell),
             Row::DefCell { at, cell } => put_numbered(out, b"def", *at, *cell),
+            Row::UseAt { .. } | Row::DefAt { .. } => put_line(out, b""),
             Row::Check { at } => put_two(out, b"check", &address_digits(*at)),
         }
     }

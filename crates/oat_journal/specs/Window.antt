@@ -39,7 +39,7 @@ up_to_window call op begin_at s es = up_to (opens_window call op begin_at) (seal
 
 -- ---- the executed path
 
--- What a transfer from pc to next shows, in the group of a row. A Stray is none that the row allows.
+-- What a transfer from pc to next shows, in the group of a row. The test of a Check row, and that of an element's number, show nothing. A Stray is none that the row allows.
 abbrev pub edge_over : Map → Option Row → ℕ → ℕ → Option Edge
 edge_over m (Some (rows.Jump at to)) pc next = Some (edges.Jump at next)
 edge_over m (Some (rows.Branch at taken other)) pc next =
@@ -51,6 +51,8 @@ edge_over m (Some (rows.ICall at params)) pc next =
 edge_over m (Some (rows.Ret at)) pc next =
     if list_any (is_returned_to next) m.rows then Some (edges.Ret at next) else Some (edges.Stray pc next)
 edge_over m (Some (rows.Check at)) pc next = None
+edge_over m (Some (rows.UseAt at cell len)) pc next = None
+edge_over m (Some (rows.DefAt at cell len)) pc next = None
 edge_over m (Some (rows.Begin at op)) pc next = Some (edges.Stray pc next)
 edge_over m (Some (rows.End at op)) pc next = Some (edges.Stray pc next)
 edge_over m (Some (rows.UseCell at cell)) pc next = Some (edges.Stray pc next)

@@ -156,6 +156,10 @@ walked-row flow op place (rows.UseCell at cell) step steps before to calls stack
     walked-step flow op place step passed steps before to calls g.0 stack leads closed on (λ st rest l c. rest calls (IsStack-passed before calls st) l c)
 walked-row flow op place (rows.DefCell at cell) step steps before to calls stack g leads closed on =
     walked-step flow op place step passed steps before to calls g.0 stack leads closed on (λ st rest l c. rest calls (IsStack-passed before calls st) l c)
+walked-row flow op place (rows.UseAt at cell len) step steps before to calls stack g leads closed on =
+    walked-step flow op place step passed steps before to calls g.0 stack leads closed on (λ st rest l c. rest calls (IsStack-passed before calls st) l c)
+walked-row flow op place (rows.DefAt at cell len) step steps before to calls stack g leads closed on =
+    walked-step flow op place step passed steps before to calls g.0 stack leads closed on (λ st rest l c. rest calls (IsStack-passed before calls st) l c)
 walked-row flow op place (rows.Check at) step steps before to calls stack g leads closed on =
     walked-step flow op place step passed steps before to calls g.0 stack leads closed on (λ st rest l c. rest calls (IsStack-passed before calls st) l c)
 

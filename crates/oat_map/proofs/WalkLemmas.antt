@@ -5,7 +5,7 @@ use Rattle.std.proofs.lemmas.List.{append_cancel_left}
 use Rattle.std.proofs.lemmas.List.Elements.{filter_map-append}
 use Rattle.std.specs.Option.{option_and_then}
 use Rattle.oat_map.specs.declared.row.Row.{Row}
-use Rattle.oat_map.specs.declared.row.Row.TheVariants.{Jump, Branch, Call, ICall, Ret, Begin, End, UseCell, DefCell, Check}
+use Rattle.oat_map.specs.declared.row.Row.TheVariants.{Jump, Branch, Call, ICall, Ret, Begin, End, UseCell, DefCell, UseAt, DefAt, Check}
 use Rattle.oat_map.specs.declared.edge.Edge.TheVariants as edges
 use Rattle.oat_map.specs.declared.map.Map.{Map}
 use Rattle.oat_map.specs.Walk.{Step, passed, moved, edge_of, path_of, bit_of, bits_of, target_of, targets_of, return_site_of, LastCall, Returns, RowGoes, Goes, Leads}
@@ -87,6 +87,8 @@ RowGoes-one flow (Begin at op) before x y to other xs ys b c t u p q bits target
 RowGoes-one flow (End at op) before x y to other xs ys b c t u p q bits targets = absurd p
 RowGoes-one flow (UseCell at cell) before x y to other xs ys b c t u p q bits targets = (p.0 ∙ sym q.0, p.1 ∙ sym q.1)
 RowGoes-one flow (DefCell at cell) before x y to other xs ys b c t u p q bits targets = (p.0 ∙ sym q.0, p.1 ∙ sym q.1)
+RowGoes-one flow (UseAt at cell len) before x y to other xs ys b c t u p q bits targets = (p.0 ∙ sym q.0, p.1 ∙ sym q.1)
+RowGoes-one flow (DefAt at cell len) before x y to other xs ys b c t u p q bits targets = (p.0 ∙ sym q.0, p.1 ∙ sym q.1)
 RowGoes-one flow (Check at) before x y to other xs ys b c t u p q bits targets = (p.0 ∙ sym q.0, p.1 ∙ sym q.1)
 
 pub Goes-one : (flow : Map) (before : List Step) (from : ℕ) (x y : Step) (to other : ℕ)

@@ -5,7 +5,7 @@ use Rattle.std.specs.Prelude.{ℕ, ◌≡◌, ◌+◌, ◌*◌, ◌%◌, ◌^◌
 use Rattle.std.specs.Option.{option_map}
 use Rattle.std.specs.List.Sorted.{IsStrictlyIncreasing}
 use Rattle.oat_map.specs.declared.row.Row.{Row}
-use Rattle.oat_map.specs.declared.row.Row.TheVariants.{Jump, Branch, Call, ICall, Ret, Begin, End, UseCell, DefCell, Check}
+use Rattle.oat_map.specs.declared.row.Row.TheVariants.{Jump, Branch, Call, ICall, Ret, Begin, End, UseCell, DefCell, UseAt, DefAt, Check}
 use Rattle.oat_map.specs.declared.map.Function.{Function}
 use Rattle.oat_map.specs.declared.map.Block.{Block}
 use Rattle.oat_map.specs.declared.map.Map.{Map}
@@ -21,6 +21,8 @@ address_of (Begin at op) = at
 address_of (End at op) = at
 address_of (UseCell at cell) = at
 address_of (DefCell at cell) = at
+address_of (UseAt at cell len) = at
+address_of (DefAt at cell len) = at
 address_of (Check at) = at
 
 -- how many words the row's group has
@@ -34,6 +36,8 @@ word_count (Begin at op) = 2
 word_count (End at op) = 2
 word_count (UseCell at cell) = 5
 word_count (DefCell at cell) = 5
+word_count (UseAt at cell len) = 10
+word_count (DefAt at cell len) = 10
 word_count (Check at) = 2
 
 -- the address behind the row's group; behind that of a Call or an ICall it is the return site

@@ -4,7 +4,7 @@ use Rattle.std.specs.Prelude.{ℕ, ◌≡◌, ◌≢◌, ◌+◌, ◌-◌, ◌<�
 use Rattle.std.specs.Option.{option_and_then}
 use Rattle.std.specs.List.{filter_map, sum_by}
 use Rattle.oat_map.specs.declared.row.Row.{Row}
-use Rattle.oat_map.specs.declared.row.Row.TheVariants.{Jump, Branch, Call, ICall, Ret, Begin, End, UseCell, DefCell, Check}
+use Rattle.oat_map.specs.declared.row.Row.TheVariants.{Jump, Branch, Call, ICall, Ret, Begin, End, UseCell, DefCell, UseAt, DefAt, Check}
 use Rattle.oat_map.specs.declared.edge.Edge.{Edge}
 use Rattle.oat_map.specs.declared.edge.Edge.TheVariants as edges
 use Rattle.oat_map.specs.declared.map.Map.{Map}
@@ -14,7 +14,7 @@ use Rattle.oat_map.specs.Rows.{after, next, start, IsIndirectTarget}
 abbrev pub path_limit : ℕ
 path_limit = 4194304
 
--- one step of a walk: it passes a Check, UseCell or DefCell row, or moves along an edge
+-- one step of a walk: it passes a Check row or one that uses or defines a cell, or moves along an edge
 pub data Step : Type 0 where
   passed : Step
   moved : Edge → Step
@@ -97,6 +97,8 @@ RowGoes flow (Begin at op) before step to = ⊥
 RowGoes flow (End at op) before step to = ⊥
 RowGoes flow (UseCell at cell) before step to = (step ≡ passed) × (to ≡ after (UseCell at cell))
 RowGoes flow (DefCell at cell) before step to = (step ≡ passed) × (to ≡ after (DefCell at cell))
+RowGoes flow (UseAt at cell len) before step to = (step ≡ passed) × (to ≡ after (UseAt at cell len))
+RowGoes flow (DefAt at cell len) before step to = (step ≡ passed) × (to ≡ after (DefAt at cell len))
 RowGoes flow (Check at) before step to = (step ≡ passed) × (to ≡ after (Check at))
 
 -- from the address `from`, behind the steps before, `step` may be taken and leads to `to`

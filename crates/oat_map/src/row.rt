@@ -2,6 +2,8 @@ ghost use Rattle.std.specs.Prelude.{◌≡◌, ◌==◌, ℕ};
 ghost use Rattle.oat_map.specs.Rows.{address_of, word_count, after, begins};
 
 /// A row of the map. `at` is the address of the first instruction of its group.
+///
+/// `UseAt` and `DefAt` use and define an element of a critical array, whose `len` cells begin with `cell`.
 #[derive(Clone, Copy, Debug, PartialEq, Eq)]
 pub enum Row {
     Jump { at: u64, to: u64 },
@@ -13,6 +15,8 @@ pub enum Row {
     End { at: u64, op: u16 },
     UseCell { at: u64, cell: u16 },
     DefCell { at: u64, cell: u16 },
+    UseAt { at: u64, cell: u16, len: u16 },
+    DefAt { at: u64, cell: u16, len: u16 },
     Check { at: u64 },
 }
 
@@ -30,6 +34,8 @@ impl Row {
             | Row::End { at, .. }
             | Row::UseCell { at, .. }
             | Row::DefCell { at, .. }
+            | Row::UseAt { at, .. }
+            | Row::DefAt { at, .. }
             | Row::Check { at } => at,
         }
     }
@@ -47,6 +53,7 @@ impl Row {
             | Row::Check { .. } => 2,
             Row::Branch { .. } => 3,
             Row::UseCell { .. } | Row::DefCell { .. } => 5,
+            Row::UseAt { .. } | Row::DefAt { .. } => 10,
         }
     }
 

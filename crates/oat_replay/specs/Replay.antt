@@ -2,7 +2,7 @@
 -- or else how far they lead and why no further. docs/DEFINITIONS.md says the same in words.
 use Rattle.std.specs.Prelude.{ℕ, ◌≡◌, ◌≢◌, ◌+◌, ◌≤◌, ◌<◌, Bool, List, [], ◌∷◌, ◌++◌, length, Option, None, Some}
 use Rattle.oat_map.specs.declared.row.Row.{Row}
-use Rattle.oat_map.specs.declared.row.Row.TheVariants.{Jump, Branch, Call, ICall, Ret, Begin, End, UseCell, DefCell, Check}
+use Rattle.oat_map.specs.declared.row.Row.TheVariants.{Jump, Branch, Call, ICall, Ret, Begin, End, UseCell, DefCell, UseAt, DefAt, Check}
 use Rattle.oat_map.specs.declared.edge.Edge.{Edge}
 use Rattle.oat_map.specs.declared.map.Map.{Map}
 use Rattle.oat_map.specs.Rows.{next, IsIndirectTarget}
@@ -56,6 +56,8 @@ StuckAt flow op (Some (End at ended)) steps bits_left targets_left cause =
     StuckAtEnd op ended (depth steps) (length bits_left) (length targets_left) cause
 StuckAt flow op (Some (UseCell at cell)) steps bits_left targets_left cause = ⊥
 StuckAt flow op (Some (DefCell at cell)) steps bits_left targets_left cause = ⊥
+StuckAt flow op (Some (UseAt at cell len)) steps bits_left targets_left cause = ⊥
+StuckAt flow op (Some (DefAt at cell len)) steps bits_left targets_left cause = ⊥
 StuckAt flow op (Some (Check at)) steps bits_left targets_left cause = ⊥
 
 -- the longest partial walk within the limit that follows these records ends for this cause, which

@@ -70,7 +70,11 @@ impl<'a> Replay<'a> {
             Row::Ret { at } => self.take_return(at),
             Row::Begin { .. } => Turn::Stuck(ReplayCause::Nested),
             Row::End { at, op } => self.take_end(records, at, op),
-            Row::UseCell { .. } | Row::DefCell { .. } | Row::Check { .. } => {
+            Row::UseCell { .. }
+            | Row::DefCell { .. }
+            | Row::UseAt { .. }
+            | Row::DefAt { .. }
+            | Row::Check { .. } => {
                 self.go(row.after());
                 Turn::Passed
             }

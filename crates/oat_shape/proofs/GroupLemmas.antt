@@ -1,5 +1,5 @@
 -- Instructions at an address, and the groups of cells.
-use Rattle.std.proofs.Common.{◌≡◌, ℕ, Bool, false, List, Some, None, sym, ◌∙◌, ap, subst, eqb, eqb-true, eq-eqb}
+use Rattle.std.proofs.Common.{◌≡◌, ℕ, ◌≤◌, Bool, false, List, Some, None, sym, ◌∙◌, ap, subst, eqb, eqb-true, eq-eqb}
 use Rattle.std.specs.Prelude.{IsTrue, ◌↔◌}
 use Rattle.std.specs.List.{slice_get}
 use Rattle.std.specs.Option.{option_and_then}
@@ -10,6 +10,8 @@ use Rattle.oat_a64.specs.Fetch.{inst_of}
 use Rattle.oat_a64.specs.Step.{word_at, instruction_at}
 use Rattle.oat_a64.proofs.FetchLemmas.{word_from_inst, inst_from_word}
 use Rattle.oat_shape.specs.Groups.{Stands}
+use Rattle.oat_shape.specs.Parts.{AreIndices}
+use Rattle.oat_shape.proofs.Scans.{contains_at}
 
 -- an instruction stands where its word stands
 pub stands_iff : (code : List ℕ) (address word encoded : ℕ) (inst : Inst) → word_at code address ≡ Some word → Word inst encoded
@@ -23,6 +25,10 @@ stands_iff code address word encoded inst found is =
           let own : Word inst word = word_from_inst inst word (sym fetched ∙ stands) in
           eq-eqb word encoded (own.1 ∙ sym is.1),
     )
+
+-- the word of a cell is one of the first 65,536
+pub cell_within : (cells : List ℕ) (cell index : ℕ) → AreIndices cells → slice_get cells cell ≡ Some index → index ≤ 65535
+cell_within cells cell index within found = within index (contains_at cells cell index found)
 
 -- a cell's group, of this kind for the word of global data that the cell is
 pub cell_iff : (cells : List ℕ) (cell index : ℕ) (Group : ℕ → Type 0) (whole : Bool) → slice_get cells cell ≡ Some index

@@ -16,7 +16,7 @@ use Rattle.oat_image.specs.Grammar.{IsRow, IsIndex}
 use Rattle.oat_shape.specs.Groups.{Stands}
 use Rattle.oat_shape.specs.Shape.{Covers, CutsNoGroup, group_end}
 use Rattle.oat_shape.specs.Parts.{AreApart, AreWithin}
-use Rattle.oat_shape.specs.Laid.{ShapedImagesAreLaid, OperationsOpenOnce, OperationsStart}
+use Rattle.oat_shape.specs.Laid.{ShapedImagesAreLaid, OperationsOpenOnce, OperationsStart, ElementsHaveTheirCells}
 use Rattle.oat_shape.proofs.Loops.{same_item}
 use Rattle.oat_shape.proofs.Scans.{at_contains, contains_at}
 use Rattle.oat_shape.proofs.LastGroups.{few_words, after_is, between}
@@ -166,4 +166,15 @@ laid image formed shaped =
       covered = λ p i stands special. (shaped.grouped p).transfers i stands special;
       cell = λ index has. of_each IsIndex image.cells formed.cells.each index has;
       begun = begun_at rows once;
+    }
+
+-- ---- elements of arrays
+
+pub elements_have_cells : ElementsHaveTheirCells
+elements_have_cells image cell len index i laid elements below =
+    let own = elements.consecutive i below in
+    record {
+      own = own;
+      within = laid.cell (index + i) (contains_at image.cells (cell + i) (index + i) own);
+      behind = omega arith;
     }

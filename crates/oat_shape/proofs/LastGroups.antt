@@ -16,11 +16,11 @@ use Rattle.oat_shape.proofs.Scans.{at_contains, contains_at}
 
 -- ---- one group
 
-pub few_words : (row : Row) → (1 ≤ word_count row) × (word_count row ≤ 5)
+pub few_words : (row : Row) → (1 ≤ word_count row) × (word_count row ≤ 10)
 few_words (Jump at to) = (omega arith, omega arith)
 few_words _ = (omega arith, omega arith)
 
-small_sum : (a n : ℕ) → a < 2 ^ 32 → n ≤ 5 → (a + 4 * n) % 2 ^ 64 ≡ a + 4 * n
+small_sum : (a n : ℕ) → a < 2 ^ 32 → n ≤ 10 → (a + 4 * n) % 2 ^ 64 ≡ a + 4 * n
 small_sum a n low few = mod-eq_of_lt (omega arith)
 
 pub after_is : (row : Row) → address_of row < 2 ^ 32 → after row ≡ address_of row + 4 * word_count row

@@ -1,8 +1,8 @@
 -- Groups: which instructions stand at a row's address (docs/FORMATS.md, "Rows and their groups").
-use Rattle.std.specs.Prelude.{◌≡◌, ◌+◌, ◌/◌, ◌%◌, ◌^◌, ◌⊎◌, ℕ, ℤ, pos, List, slice_get, Some}
+use Rattle.std.specs.Prelude.{◌≡◌, ◌+◌, ◌/◌, ◌%◌, ◌^◌, ◌<◌, ◌≤◌, ◌⊎◌, ℕ, ℤ, pos, List, length, slice_get, Some}
 use Rattle.oat_mem.specs.DataMemory.{global_address}
 use Rattle.oat_a64.specs.declared.inst.Inst.{Inst}
-use Rattle.oat_a64.specs.declared.inst.Inst.TheVariants.{Movz, Movk, Ldr, Str, B, Bl, BCond, Cbnz, Blr, Ret, Svc, Brk}
+use Rattle.oat_a64.specs.declared.inst.Inst.TheVariants.{AddReg, SubsReg, Movz, Movk, Ldr, Str, LdrReg, StrReg, B, Bl, BCond, Cbnz, Blr, Ret, Svc, Brk}
 use Rattle.oat_a64.specs.Step.{instruction_at, branch_target}
 use Rattle.oat_map.specs.declared.row.Row.{Row}
 use Rattle.oat_map.specs.declared.row.Row.TheVariants as rows
@@ -32,6 +32,28 @@ abbrev pub IsDefineGroup : List ℕ → ℕ → ℕ → ℕ → Type 0
 IsDefineGroup code at cell index =
     MovesAddress code at (global_address index) × Stands code (at + 8) (Movz 9 0 cell) × Stands code (at + 12) (Str 10 11 0) × Stands code (at + 16) (Svc 6)
 
+-- the cells of an array: the first one has this word, so many are there, and their words are consecutive
+pub record AreElements (cells : List ℕ) (cell len index : ℕ) : Type 0 where
+  pub first : slice_get cells cell ≡ Some index
+  pub there : cell + len ≤ length cells
+  pub consecutive : (i : ℕ) → i < len → slice_get cells (cell + i) ≡ Some (index + i)
+
+-- the number in X12 is tested against a length; where it isn't lower, the trap Index is met
+abbrev pub TestsElement : List ℕ → ℕ → ℕ → Type 0
+TestsElement code at len =
+    Stands code at (Movz 11 0 len) × Stands code (at + 4) (SubsReg 31 12 11) × Stands code (at + 8) (BCond 3 (pos 2)) × Stands code (at + 12) (Brk 2)
+
+-- the group of a use of an element of an array, whose first cell is this word of global data, and that of a define
+abbrev pub IsUseAtGroup : List ℕ → ℕ → ℕ → ℕ → ℕ → Type 0
+IsUseAtGroup code at cell len index =
+    TestsElement code at len × MovesAddress code (at + 16) (global_address index) × Stands code (at + 24) (LdrReg 10 11 12)
+    × Stands code (at + 28) (Movz 9 0 cell) × Stands code (at + 32) (AddReg 9 9 12 0) × Stands code (at + 36) (Svc 7)
+
+abbrev pub IsDefineAtGroup : List ℕ → ℕ → ℕ → ℕ → ℕ → Type 0
+IsDefineAtGroup code at cell len index =
+    TestsElement code at len × MovesAddress code (at + 16) (global_address index) × Stands code (at + 24) (Movz 9 0 cell)
+    × Stands code (at + 28) (AddReg 9 9 12 0) × Stands code (at + 32) (StrReg 10 11 12) × Stands code (at + 36) (Svc 6)
+
 -- The group of a row stands at its address, in code and with the cells of an image.
 abbrev pub IsGroup : List ℕ → List ℕ → Row → Type 0
 IsGroup code cells (rows.Jump at to) = Branches code at B to
@@ -44,4 +66,6 @@ IsGroup code cells (rows.Begin at op) = Stands code at (Movz 9 0 op) × Stands c
 IsGroup code cells (rows.End at op) = Stands code at (Movz 9 0 op) × Stands code (at + 4) (Svc 2)
 IsGroup code cells (rows.UseCell at cell) = (index : ℕ) × (slice_get cells cell ≡ Some index) × IsUseGroup code at cell index
 IsGroup code cells (rows.DefCell at cell) = (index : ℕ) × (slice_get cells cell ≡ Some index) × IsDefineGroup code at cell index
+IsGroup code cells (rows.UseAt at cell len) = (index : ℕ) × AreElements cells cell len index × IsUseAtGroup code at cell len index
+IsGroup code cells (rows.DefAt at cell len) = (index : ℕ) × AreElements cells cell len index × IsDefineAtGroup code at cell len index
 IsGroup code cells (rows.Check at) = SkipsOne code at × ((number : ℕ) × Stands code (at + 4) (Brk number))

@@ -1,5 +1,6 @@
 -- What a well-formed image with the shape gives (docs/PROMISES.md): how its groups lie in code, of which all that runs or replays it makes use.
-use Rattle.std.specs.Prelude.{◌≡◌, ◌%◌, ◌^◌, ◌<◌, ◌≤◌, ◌||◌, ℕ, true, List, Contains, Some, IsSome}
+use Rattle.std.specs.Prelude.{◌≡◌, ◌+◌, ◌*◌, ◌%◌, ◌^◌, ◌<◌, ◌≤◌, ◌||◌, ℕ, true, List, slice_get, Contains, Some, IsSome}
+use Rattle.oat_mem.specs.DataMemory.{global_address}
 use Rattle.oat_a64.specs.declared.inst.Inst.{Inst}
 use Rattle.oat_a64.specs.Kinds.{is_measured, is_transfer}
 use Rattle.oat_map.specs.declared.map.Map.{Map}
@@ -8,7 +9,7 @@ use Rattle.oat_map.specs.declared.row.Row.TheVariants.{Begin}
 use Rattle.oat_map.specs.Rows.{address_of, after, next, start, row_over, IsOrdered, IsOperation, BeginsAt, entries_of, starts_of}
 use Rattle.oat_image.specs.declared.image.Image.{Image}
 use Rattle.oat_image.specs.Grammar.{IsWellFormedImage, IsRow}
-use Rattle.oat_shape.specs.Groups.{Stands, IsGroup}
+use Rattle.oat_shape.specs.Groups.{Stands, AreElements, IsGroup}
 use Rattle.oat_shape.specs.MapRules.{LeadsToPlaces, S7}
 use Rattle.oat_shape.specs.Shape.{Everywhere, IsShaped, Covers, CutsNoGroup, IsPlaceOrSite, group_end}
 
@@ -48,3 +49,14 @@ OperationsOpenOnce = (m : Map) (op one other : ℕ) → Everywhere (S7 m) → Be
 -- an operation starts somewhere
 abbrev pub OperationsStart : Type 0
 OperationsStart = (m : Map) (op : ℕ) → IsOperation m op → IsSome (start m.rows op)
+
+-- element i of an array, whose first cell has this word of global data, stands in a cell of its own, and its word stands as many words behind the first one
+pub record IsElement (cells : List ℕ) (cell index i : ℕ) : Type 0 where
+  pub own : slice_get cells (cell + i) ≡ Some (index + i)
+  pub within : index + i ≤ 65535
+  pub behind : global_address (index + i) ≡ global_address index + 8 * i
+
+-- each element of an array has its cell
+abbrev pub ElementsHaveTheirCells : Type 0
+ElementsHaveTheirCells = (image : Image) (cell len index i : ℕ) → IsLaid image → AreElements image.cells cell len index → i < len
+    → IsElement image.cells cell index i

@@ -1,4 +1,4 @@
-ghost use Rattle.std.specs.Prelude.{◌≡◌, ◌↔◌, ◌<◌, ◌≤◌, ◌^◌, IsTrue, slice_get};
+ghost use Rattle.std.specs.Prelude.{◌≡◌, ◌↔◌, ◌+◌, ◌<◌, ◌≤◌, ◌^◌, IsTrue, slice_get};
 ghost use Rattle.oat_map.specs.declared.row.Row.TheVariants.{DefCell, UseCell};
 ghost use Rattle.oat_shape.specs.Groups.{IsDefineGroup, IsGroup, IsUseGroup, MovesAddress};
 ghost use Rattle.oat_mem.specs.DataMemory.{global_address};
@@ -74,9 +74,9 @@ fn define_of_word_stands(code: &[u32], at: u64, cell: u16, index: u32) -> bool
         && stands(code, at + 16, &Inst::Svc { imm: 6 })
 }
 
-// Whether two moves at `at` put the address of a word of global data into X11.
-fn moves_address(code: &[u32], at: u64, index: u32) -> bool
-    requires low { at < 2 ^ 32 }
+/// Whether two moves at `at` put the address of a word of global data into X11.
+pub(crate) fn moves_address(code: &[u32], at: u64, index: u32) -> bool
+    requires low { at < 2 ^ 32 + 64 }
     requires index { index ≤ 65535 }
     ensures { IsTrue result ↔ MovesAddress code.now at (global_address index) }
 {
@@ -102,8 +102,8 @@ fn moves_address(code: &[u32], at: u64, index: u32) -> bool
     )
 }
 
-// The index of the word of global data that is a cell.
-fn word_of_cell(cells: &[u32], cell: u16) -> Option<u32>
+/// The index of the word of global data that is a cell.
+pub(crate) fn word_of_cell(cells: &[u32], cell: u16) -> Option<u32>
     ensures { result ≡ slice_get cells.now cell }
 {
     cells.get(cell as usize).copied()

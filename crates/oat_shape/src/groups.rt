@@ -9,6 +9,7 @@ ghost use Rattle.oat_shape.specs.Parts.{AreIndices, AreWithin};
 use crate::branches::{breaks, calls, jumps, skips_one, tests_x9};
 use crate::cells::{define_stands, use_stands};
 use crate::code::stands;
+use crate::elements::{define_at_stands, use_at_stands};
 use crate::lowest::note;
 use oat_a64::Inst;
 use oat_map::Row;
@@ -45,6 +46,8 @@ fn group_stands(code: &[u32], cells: &[u32], row: &Row) -> bool
         Row::End { at, op } => pair_stands(code, at, &move_to_x9(op), &Inst::Svc { imm: 2 }),
         Row::UseCell { at, cell } => use_stands(code, cells, at, cell),
         Row::DefCell { at, cell } => define_stands(code, cells, at, cell),
+        Row::UseAt { at, cell, len } => use_at_stands(code, cells, at, cell, len),
+        Row::DefAt { at, cell, len } => define_at_stands(code, cells, at, cell, len),
         Row::Check { at } => skips_one(code, at) && breaks(code, at + 4),
     }
 }

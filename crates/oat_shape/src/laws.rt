@@ -1,5 +1,5 @@
 //! Laws of shapes, each the contract of a function that does nothing.
-ghost use Rattle.oat_shape.specs.Laid.{OperationsOpenOnce, OperationsStart, ShapedImagesAreLaid};
+ghost use Rattle.oat_shape.specs.Laid.{ElementsHaveTheirCells, OperationsOpenOnce, OperationsStart, ShapedImagesAreLaid};
 ghost use Rattle.oat_shape.specs.Refusal.{ShapeIsDecided};
 
 /// An image has the shape, or breaks one rule first, at one lowest address, and never both.
@@ -10,6 +10,11 @@ pub fn shape_is_decided()
 /// The groups of an image with the shape lie one behind the other, and each is found by its addresses.
 pub fn shaped_images_are_laid()
     ensures { ShapedImagesAreLaid }
+{}
+
+/// Each element of an array has a cell, whose word is one of global data.
+pub fn elements_have_their_cells()
+    ensures { ElementsHaveTheirCells }
 {}
 
 /// The window of an operation opens at one place.

@@ -36,6 +36,8 @@ fn leads_to_places(entries: &[u64], starts: &[u64], row: &Row) -> bool
         | Row::End { .. }
         | Row::UseCell { .. }
         | Row::DefCell { .. }
+        | Row::UseAt { .. }
+        | Row::DefAt { .. }
         | Row::Check { .. } => true,
     }
 }

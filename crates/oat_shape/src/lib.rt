@@ -7,6 +7,7 @@ mod cells;
 mod code;
 mod covers;
 mod decoding;
+mod elements;
 mod fault;
 mod groups;
 pub mod laws;

@@ -54,6 +54,8 @@ fn add_begun(begun: &mut BTreeSet<u16>, row: &Row) -> Result<bool, AllocError>
         | Row::End { .. }
         | Row::UseCell { .. }
         | Row::DefCell { .. }
+        | Row::UseAt { .. }
+        | Row::DefAt { .. }
         | Row::Check { .. } => Ok(true),
     }
 }
@@ -71,6 +73,8 @@ fn end_is_in(begun: &BTreeSet<u16>, row: &Row) -> bool
         | Row::Begin { .. }
         | Row::UseCell { .. }
         | Row::DefCell { .. }
+        | Row::UseAt { .. }
+        | Row::DefAt { .. }
         | Row::Check { .. } => true,
     }
 }

@@ -45,6 +45,8 @@ fn is_call(row: &Row) -> bool
         | Row::End { .. }
         | Row::UseCell { .. }
         | Row::DefCell { .. }
+        | Row::UseAt { .. }
+        | Row::DefAt { .. }
         | Row::Check { .. } => false,
     }
 }

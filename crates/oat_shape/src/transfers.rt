@@ -71,6 +71,8 @@ fn needs_group(inst: &Inst) -> bool
         | Inst::Csinc { .. }
         | Inst::Ldr { .. }
         | Inst::Str { .. }
+        | Inst::LdrReg { .. }
+        | Inst::StrReg { .. }
         | Inst::Brk { .. }
         | Inst::Nop => false,
     }

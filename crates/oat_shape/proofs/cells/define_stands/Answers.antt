@@ -1,13 +1,11 @@
 use Rattle.std.proofs.Common.{sym, ◌∙◌}
 use Rattle.oat_shape.specs.Groups.{IsDefineGroup}
-use Rattle.oat_shape.proofs.GroupLemmas.{cell_iff, no_cell}
-use Rattle.oat_shape.proofs.Scans.{contains_at}
+use Rattle.oat_shape.proofs.GroupLemmas.{cell_within, cell_iff, no_cell}
 use Rattle.oat_shape.proofs.cells.define_stands.Goals as goal
 
 pub define_of_word_stands-requires-clause-index : goal.define_of_word_stands-requires-clause-index
 define_of_word_stands-requires-clause-index c =
-    c.requires.indices c.in-Some.index
-    (contains_at c.args.cells.now c.args.cell c.in-Some.index (sym c.word_of_cell.ensures ∙ c.in-Some.is))
+    cell_within c.args.cells.now c.args.cell c.in-Some.index c.requires.indices (sym c.word_of_cell.ensures ∙ c.in-Some.is)
 
 pub returns-in-Some : goal.returns-in-Some
 returns-in-Some c =

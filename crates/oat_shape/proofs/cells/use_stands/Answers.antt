@@ -1,13 +1,11 @@
 use Rattle.std.proofs.Common.{sym, ◌∙◌}
 use Rattle.oat_shape.specs.Groups.{IsUseGroup}
-use Rattle.oat_shape.proofs.GroupLemmas.{cell_iff, no_cell}
-use Rattle.oat_shape.proofs.Scans.{contains_at}
+use Rattle.oat_shape.proofs.GroupLemmas.{cell_within, cell_iff, no_cell}
 use Rattle.oat_shape.proofs.cells.use_stands.Goals as goal
 
 pub use_of_word_stands-requires-clause-index : goal.use_of_word_stands-requires-clause-index
 use_of_word_stands-requires-clause-index c =
-    c.requires.indices c.in-Some.index
-    (contains_at c.args.cells.now c.args.cell c.in-Some.index (sym c.word_of_cell.ensures ∙ c.in-Some.is))
+    cell_within c.args.cells.now c.args.cell c.in-Some.index c.requires.indices (sym c.word_of_cell.ensures ∙ c.in-Some.is)
 
 pub returns-in-Some : goal.returns-in-Some
 returns-in-Some c =
