@@ -1,6 +1,6 @@
 -- Each kind of line: what is read is spelled so, and what is spelled so is read.
-use Rattle.std.proofs.Common.{◌≡◌, ℕ, zero, suc, ◌≤◌, ◌<◌, ◌^◌, Bool, true, false, ltb, List, [], ◌∷◌, Ok, Err, refl, sym, ap, subst, ◌∙◌, arith}
-use Rattle.std.specs.Prelude.{if◌then◌else◌, ok_or, decimal, ◌==◌}
+use Rattle.std.proofs.Common.{◌≡◌, ℕ, zero, suc, ◌≤◌, ◌<◌, ◌^◌, Bool, true, false, ltb, List, [], ◌∷◌, Ok, refl, sym, ap, subst, ◌∙◌, arith}
+use Rattle.std.specs.Prelude.{ok_or, decimal, ◌==◌}
 use Rattle.std.proofs.lemmas.Bool.{ltb-true, lt-ltb}
 use Rattle.std.proofs.lemmas.Fmt.{decimal_digit}
 use Rattle.oat_lines.specs.Reading.{◌>>=◌, guard, between}
@@ -16,7 +16,7 @@ use Rattle.oat_map.specs.declared.map.Block.{Block}
 use Rattle.oat_image.specs.declared.image.InitWord.{InitWord}
 use Rattle.oat_image.specs.declared.fault.ImageFaultKind.TheVariants.{Token, Number}
 use Rattle.oat_image.specs.Grammar.{code_line, data_line, cell_line, function_line, block_line, flag_text, IsWord, IsIndex, IsInitWord, IsFunction, IsBlock}
-use Rattle.oat_image.specs.ImageReading.{eight_digits, number_in, value_of, flag_of, spelled_name, code_of, data_of, cell_of, function_with, function_of, block_of}
+use Rattle.oat_image.specs.LineReading.{eight_digits, number_in, value_of, flag_of, spelled_name, code_of, data_of, cell_of, function_with, function_of, block_of}
 use Rattle.oat_map.proofs.NameTests.{name_from_test, test_from_name}
 use Rattle.oat_image.proofs.Names.{name_field}
 use Rattle.oat_lines.proofs.Steps.{chosen, bind_ok, ok_is, or_ok, guard_ok}

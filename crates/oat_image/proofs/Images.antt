@@ -1,5 +1,5 @@
 -- An image that is read is the one of the text, and the image of a text is read.
-use Rattle.std.proofs.Common.{◌≡◌, ℕ, ◌<◌, true, List, [], ◌∷◌, ◌++◌, length, None, Result, Ok, Err, refl, sym, ap, subst, ◌∙◌, append_assoc, arith}
+use Rattle.std.proofs.Common.{◌≡◌, ℕ, ◌<◌, Bool, true, not, ◌||◌, List, [], ◌∷◌, ◌++◌, length, None, Result, Ok, Err, refl, sym, ap, subst, ◌∙◌, append_assoc, arith}
 use Rattle.std.specs.Prelude.{codes, IfOk, map, ◌==◌}
 use Rattle.std.specs.List.{list_all}
 use Rattle.std.specs.List.Sorted.{IsStrictlyIncreasing}
@@ -18,12 +18,15 @@ use Rattle.oat_image.specs.declared.image.InitWord.{InitWord}
 use Rattle.oat_image.specs.declared.fault.ImageFaultKind.{ImageFaultKind}
 use Rattle.oat_image.specs.declared.fault.ImageFaultKind.TheVariants.{Token}
 use Rattle.oat_image.specs.Spelling.{section_text}
-use Rattle.oat_image.specs.Grammar.{code_line, data_line, cell_line, function_line, block_line, row_line, image_text, IsWord, IsInitWord, IsIndex, IsFunction, IsBlock, IsRow, IsSection, IsWellFormedImage, IsImageText}
+use Rattle.oat_image.specs.Grammar.{has_elements, version_line, code_line, data_line, cell_line, function_line, block_line, row_line, image_text, IsWord, IsInitWord, IsIndex, IsFunction, IsBlock, IsSection, IsWellFormedImage, IsImageText}
 use Rattle.oat_image.specs.Reading.{Remainder, section_at, fixed_at}
-use Rattle.oat_image.specs.ImageReading.{code_of, data_of, cell_of, function_of, block_of, row_of, no_key, index_key, cell_key, entry_key, start_key, memory_at, map_at, ending_at, parts_at, image_at}
+use Rattle.oat_image.specs.LineReading.{code_of, data_of, cell_of, function_of, block_of, no_key, index_key, cell_key, entry_key, start_key}
+use Rattle.oat_image.specs.RowReading.{row_of}
+use Rattle.oat_image.specs.ImageReading.{version_at, memory_at, map_at, ending_at, parts_at, image_at}
 use Rattle.oat_lines.proofs.Steps.{bind_ok, ok_is, at_ok, guard_ok}
 use Rattle.oat_image.proofs.Sections.{section_takes, section_again, fixed_takes, fixed_again, rising_unkeyed, strict_from_rising, rising_from_strict}
 use Rattle.oat_image.proofs.Forms.{code_form, data_form, cell_form, function_form, block_form}
+use Rattle.oat_image.proofs.Versions.{IsRowIn, are_rows, version_is, rows_in, is_due, version_takes, version_again}
 use Rattle.oat_image.proofs.RowForms.{row_form}
 
 map_id : (xs : List ℕ) → map (λ x. x) xs ≡ xs
@@ -87,25 +90,25 @@ memory_takes t m e =
 
 -- ---- the map
 
-record IsFlow (t : Remainder) (flow : Map) (p : Remainder) : Type 0 where
+record IsFlow (second : Bool) (t : Remainder) (flow : Map) (p : Remainder) : Type 0 where
   parts : t.rest ≡ functions_text flow.functions ++ (blocks_text flow.blocks ++ (rows_text flow.rows ++ p.rest))
   functions_fit : IsSection IsFunction 0 131072 flow.functions
   functions_rise : IsStrictlyIncreasing (map (λ f. f.entry) flow.functions)
   blocks_fit : IsSection IsBlock 0 131072 flow.blocks
   blocks_rise : IsStrictlyIncreasing (map (λ b. b.start) flow.blocks)
-  rows_fit : IsSection IsRow 0 131072 flow.rows
+  rows_fit : IsSection (IsRowIn second) 0 131072 flow.rows
 
-map_takes : (t : Remainder) (m : Map × Remainder) → map_at t ≡ Ok m → IsFlow t m.0 m.1
+map_takes : (second : Bool) (t : Remainder) (m : Map × Remainder) → map_at second t ≡ Ok m → IsFlow second t m.0 m.1
 unfolding map_at
-map_takes t m e =
-    let a = bind_ok (section_at (codes "functions") 0 131072 function_of entry_key t) (λ functions. section_at (codes "blocks") 0 131072 block_of start_key functions.1 >>= λ blocks. section_at (codes "rows") 0 131072 row_of no_key blocks.1 >>= λ rows. Ok (record { functions = functions.0; blocks = blocks.0; rows = rows.0 }, rows.1)) m e in
-    let b = bind_ok (section_at (codes "blocks") 0 131072 block_of start_key a.0.1) (λ blocks. section_at (codes "rows") 0 131072 row_of no_key blocks.1 >>= λ rows. Ok (record { functions = a.0.0; blocks = blocks.0; rows = rows.0 }, rows.1)) m a.2 in
-    let d = bind_ok (section_at (codes "rows") 0 131072 row_of no_key b.0.1) (λ rows. Ok (record { functions = a.0.0; blocks = b.0.0; rows = rows.0 }, rows.1)) m b.2 in
+map_takes second t m e =
+    let a = bind_ok (section_at (codes "functions") 0 131072 function_of entry_key t) (λ functions. section_at (codes "blocks") 0 131072 block_of start_key functions.1 >>= λ blocks. section_at (codes "rows") 0 131072 (row_of second) no_key blocks.1 >>= λ rows. Ok (record { functions = functions.0; blocks = blocks.0; rows = rows.0 }, rows.1)) m e in
+    let b = bind_ok (section_at (codes "blocks") 0 131072 block_of start_key a.0.1) (λ blocks. section_at (codes "rows") 0 131072 (row_of second) no_key blocks.1 >>= λ rows. Ok (record { functions = a.0.0; blocks = blocks.0; rows = rows.0 }, rows.1)) m a.2 in
+    let d = bind_ok (section_at (codes "rows") 0 131072 (row_of second) no_key b.0.1) (λ rows. Ok (record { functions = a.0.0; blocks = b.0.0; rows = rows.0 }, rows.1)) m b.2 in
     let functions = section_takes function_form entry_key (codes "functions") 0 131072 (omega arith) t a.0 a.1 in
     let blocks = section_takes block_form start_key (codes "blocks") 0 131072 (omega arith) a.0.1 b.0 b.1 in
-    let rows = section_takes row_form no_key (codes "rows") 0 131072 (omega arith) b.0.1 d.0 d.1 in
+    let rows = section_takes (row_form second) no_key (codes "rows") 0 131072 (omega arith) b.0.1 d.0 d.1 in
     let made : Map × Remainder = (record { functions = a.0.0; blocks = b.0.0; rows = d.0.0 }, d.0.1) in
-    subst (λ (q : Map × Remainder). IsFlow t q.0 q.1) (ok_is made m d.2)
+    subst (λ (q : Map × Remainder). IsFlow second t q.0 q.1) (ok_is made m d.2)
     (record {
       parts = functions.0 ∙ ap (λ (r : List ℕ). functions_text a.0.0 ++ r) blocks.0 ∙ ap (λ (r : List ℕ). functions_text a.0.0 ++ (blocks_text b.0.0 ++ r)) rows.0;
       functions_fit = functions.1;
@@ -115,37 +118,43 @@ map_takes t m e =
       rows_fit = rows.1;
     })
 
-ending_takes : (t : Remainder) (u : Unit {0}) → ending_at t ≡ Ok u → t.rest ≡ ended (codes "end")
+ending_takes : (second : Bool) (rows : List Row) (t : Remainder) (u : Unit {0}) → ending_at second rows t ≡ Ok u → ((not second || has_elements rows) ≡ true) × (t.rest ≡ ended (codes "end"))
 unfolding ending_at
-ending_takes t u e =
-    let a = bind_ok (fixed_at (codes "end") t) (λ last. at last.line (guard (length last.rest == 0) Token)) u e in
-    let none : a.0.rest ≡ [] = nil_from_length a.0.rest (eqb-true (length a.0.rest) 0 (guard_ok (length a.0.rest == 0) Token u (at_ok a.0.line (guard (length a.0.rest == 0) Token) u a.2))) in
-    fixed_takes (codes "end") t a.0 a.1 ∙ ap (λ (r : List ℕ). ended (codes "end") ++ r) none ∙ append-nil (ended (codes "end"))
+ending_takes second rows t u e =
+    let due : Bool = not second || has_elements rows in
+    let a = bind_ok (fixed_at (codes "end") t) (λ last. at t.line (guard due Token) >>= λ due. at last.line (guard (length last.rest == 0) Token)) u e in
+    let b = bind_ok (at t.line (guard due Token)) (λ due. at a.0.line (guard (length a.0.rest == 0) Token)) u a.2 in
+    let none : a.0.rest ≡ [] = nil_from_length a.0.rest (eqb-true (length a.0.rest) 0 (guard_ok (length a.0.rest == 0) Token u (at_ok a.0.line (guard (length a.0.rest == 0) Token) u b.2))) in (
+      guard_ok due Token b.0 (at_ok t.line (guard due Token) b.0 b.1),
+      fixed_takes (codes "end") t a.0 a.1 ∙ ap (λ (r : List ℕ). ended (codes "end") ++ r) none ∙ append-nil (ended (codes "end")),
+    )
 
 -- ---- the whole text
 
 regroup : (h c d x f b r e : List ℕ) → h ++ (c ++ (d ++ (x ++ (f ++ (b ++ (r ++ e)))))) ≡ h ++ c ++ d ++ x ++ f ++ b ++ r ++ e
 regroup h c d x f b r e = simp append_assoc
 
-record IsParts (t : Remainder) (image : Image) : Type 0 where
+record IsParts (second : Bool) (t : Remainder) (image : Image) : Type 0 where
+  version : has_elements image.map.rows ≡ second
   parts : t.rest ≡ code_text image.code ++ (data_text image.words ++ (cells_text image.cells ++ (functions_text image.map.functions ++ (blocks_text image.map.blocks ++ (rows_text image.map.rows ++ ended (codes "end"))))))
   fits : IsWellFormedImage image
 
-parts_takes : (t : Remainder) (image : Image) → parts_at t ≡ Ok image → IsParts t image
+parts_takes : (second : Bool) (t : Remainder) (image : Image) → parts_at second t ≡ Ok image → IsParts second t image
 unfolding parts_at
-parts_takes t image e =
-    let a = bind_ok (memory_at t) (λ memory. map_at memory.3 >>= λ flow. ending_at flow.1 >>= λ ended. Ok (record { code = memory.0; words = memory.1; cells = memory.2; map = flow.0 })) image e in
-    let b = bind_ok (map_at a.0.3) (λ flow. ending_at flow.1 >>= λ ended. Ok (record { code = a.0.0; words = a.0.1; cells = a.0.2; map = flow.0 })) image a.2 in
-    let d = bind_ok (ending_at b.0.1) (λ ended. Ok (record { code = a.0.0; words = a.0.1; cells = a.0.2; map = b.0.0 })) image b.2 in
+parts_takes second t image e =
+    let a = bind_ok (memory_at t) (λ memory. map_at second memory.3 >>= λ flow. ending_at second flow.0.rows flow.1 >>= λ ended. Ok (record { code = memory.0; words = memory.1; cells = memory.2; map = flow.0 })) image e in
+    let b = bind_ok (map_at second a.0.3) (λ flow. ending_at second flow.0.rows flow.1 >>= λ ended. Ok (record { code = a.0.0; words = a.0.1; cells = a.0.2; map = flow.0 })) image a.2 in
+    let d = bind_ok (ending_at second b.0.0.rows b.0.1) (λ ended. Ok (record { code = a.0.0; words = a.0.1; cells = a.0.2; map = b.0.0 })) image b.2 in
     let memory = memory_takes t a.0 a.1 in
-    let flow = map_takes a.0.3 b.0 b.1 in
-    let last = ending_takes b.0.1 d.0 d.1 in
+    let flow = map_takes second a.0.3 b.0 b.1 in
+    let last = ending_takes second b.0.0.rows b.0.1 d.0 d.1 in
     let made : Image = record { code = a.0.0; words = a.0.1; cells = a.0.2; map = b.0.0 } in
     let front : List ℕ → List ℕ = λ r. code_text a.0.0 ++ (data_text a.0.1 ++ (cells_text a.0.2 ++ r)) in
     let back : List ℕ → List ℕ = λ r. functions_text b.0.0.functions ++ (blocks_text b.0.0.blocks ++ (rows_text b.0.0.rows ++ r)) in
-    subst (λ (i : Image). IsParts t i) (ok_is made image d.2)
+    subst (λ (i : Image). IsParts second t i) (ok_is made image d.2)
     (record {
-      parts = memory.parts ∙ ap front flow.parts ∙ ap (λ (r : List ℕ). front (back r)) last;
+      parts = memory.parts ∙ ap front flow.parts ∙ ap (λ (r : List ℕ). front (back r)) last.1;
+      version = version_is second b.0.0.rows flow.rows_fit.each last.0;
       fits = record {
         code = memory.code_fits;
         words = memory.words_fit;
@@ -156,7 +165,7 @@ parts_takes t image e =
         functions_rise = flow.functions_rise;
         blocks = flow.blocks_fit;
         blocks_rise = flow.blocks_rise;
-        rows = flow.rows_fit;
+        rows = record { each = are_rows second b.0.0.rows flow.rows_fit.each; enough = flow.rows_fit.enough; limited = flow.rows_fit.limited };
       };
     })
 
@@ -164,11 +173,12 @@ pub image_takes : (text : List ℕ) (image : Image) → image_at text ≡ Ok ima
 unfolding image_at
 image_takes text image e =
     let start : Remainder = record { rest = text; line = 1 } in
-    let a = bind_ok (fixed_at (codes "oat-image 1") start) (λ begun. parts_at begun) image e in
-    let rest = parts_takes a.0 image a.2 in
+    let a = bind_ok (version_at start) (λ version. parts_at version.0 version.1) image e in
+    let rest = parts_takes a.0.0 a.0.1 image a.2 in
+    let first : List ℕ = ended (version_line (has_elements image.map.rows)) in
     let whole : text ≡ image_text image =
-    fixed_takes (codes "oat-image 1") start a.0 a.1 ∙ ap (λ (r : List ℕ). ended (codes "oat-image 1") ++ r) rest.parts
-    ∙ regroup (ended (codes "oat-image 1")) (code_text image.code) (data_text image.words) (cells_text image.cells) (functions_text image.map.functions) (blocks_text image.map.blocks) (rows_text image.map.rows) (ended (codes "end")) in
+    version_takes start a.0 a.1 ∙ ap (λ second. ended (version_line second) ++ a.0.1.rest) (sym rest.version) ∙ ap (λ (r : List ℕ). first ++ r) rest.parts
+    ∙ regroup first (code_text image.code) (data_text image.words) (cells_text image.cells) (functions_text image.map.functions) (blocks_text image.map.blocks) (rows_text image.map.rows) (ended (codes "end")) in
     record { well_formed = rest.fits; spelled = whole }
 
 -- ---- back again
@@ -185,20 +195,19 @@ memory_again image rest n fits =
     let d = section_again cell_form cell_key (codes "cells") 0 65536 (keyword (codes "cells") refl (omega arith)) (omega arith) image.cells rest b.0 fits.cells (rising_from_strict (λ c. c) image.cells (cells_same image.cells fits.cells_rise)) in
     (d.0, rw (a.1, b.1, d.1) refl)
 
-map_again : (flow : Map) (rest : List ℕ) (n : ℕ) → IsSection IsFunction 0 131072 flow.functions → IsStrictlyIncreasing (map (λ f. f.entry) flow.functions)
-    → IsSection IsBlock 0 131072 flow.blocks → IsStrictlyIncreasing (map (λ b. b.start) flow.blocks) → IsSection IsRow 0 131072 flow.rows
-    → (m : ℕ) × (map_at (record { rest = functions_text flow.functions ++ (blocks_text flow.blocks ++ (rows_text flow.rows ++ rest)); line = n }) ≡ Ok (flow, record { rest = rest; line = m }))
+map_again : (second : Bool) (flow : Map) (rest : List ℕ) (n : ℕ) → IsSection IsFunction 0 131072 flow.functions → IsStrictlyIncreasing (map (λ f. f.entry) flow.functions)
+    → IsSection IsBlock 0 131072 flow.blocks → IsStrictlyIncreasing (map (λ b. b.start) flow.blocks) → IsSection (IsRowIn second) 0 131072 flow.rows
+    → (m : ℕ) × (map_at second (record { rest = functions_text flow.functions ++ (blocks_text flow.blocks ++ (rows_text flow.rows ++ rest)); line = n }) ≡ Ok (flow, record { rest = rest; line = m }))
 unfolding map_at
-map_again flow rest n functions_fit functions_rise blocks_fit blocks_rise rows_fit =
+map_again second flow rest n functions_fit functions_rise blocks_fit blocks_rise rows_fit =
     let a = section_again function_form entry_key (codes "functions") 0 131072 (keyword (codes "functions") refl (omega arith)) (omega arith) flow.functions (blocks_text flow.blocks ++ (rows_text flow.rows ++ rest)) n functions_fit (rising_from_strict (λ f. f.entry) flow.functions functions_rise) in
     let b = section_again block_form start_key (codes "blocks") 0 131072 (keyword (codes "blocks") refl (omega arith)) (omega arith) flow.blocks (rows_text flow.rows ++ rest) a.0 blocks_fit (rising_from_strict (λ b. b.start) flow.blocks blocks_rise) in
-    let d = section_again row_form no_key (codes "rows") 0 131072 (keyword (codes "rows") refl (omega arith)) (omega arith) flow.rows rest b.0 rows_fit (rising_unkeyed None flow.rows) in
+    let d = section_again (row_form second) no_key (codes "rows") 0 131072 (keyword (codes "rows") refl (omega arith)) (omega arith) flow.rows rest b.0 rows_fit (rising_unkeyed None flow.rows) in
     (d.0, rw (a.1, b.1, d.1) refl)
 
-ending_again : (n : ℕ) → ending_at (record { rest = ended (codes "end"); line = n }) ≡ Ok tt
+ending_again : (rows : List Row) (n : ℕ) → ending_at (has_elements rows) rows (record { rest = ended (codes "end"); line = n }) ≡ Ok tt
 unfolding ending_at
-ending_again n =
-    ap (λ (r : Result Remainder (Fault ImageFaultKind)). r >>= λ last. at last.line (guard (length last.rest == 0) Token)) (fixed_again (codes "end") [] n refl)
+ending_again rows n = rw (fixed_again (codes "end") [] n refl, is_due (has_elements rows)) refl
 
 pub image_again : (image : Image) → IsWellFormedImage image → image_at (image_text image) ≡ Ok image
 unfolding image_at parts_at
@@ -207,12 +216,14 @@ image_again image fits =
     let last : List ℕ = ended (codes "end") in
     let back : List ℕ = functions_text flow.functions ++ (blocks_text flow.blocks ++ (rows_text flow.rows ++ last)) in
     let front : List ℕ = code_text image.code ++ (data_text image.words ++ (cells_text image.cells ++ back)) in
-    let begun = fixed_again (codes "oat-image 1") front 1 refl in
+    let first : List ℕ = ended (version_line (has_elements flow.rows)) in
+    let version = version_again (has_elements flow.rows) front 1 in
+    let rows : IsSection (IsRowIn (has_elements flow.rows)) 0 131072 flow.rows = record { each = rows_in flow.rows fits.rows.each; enough = fits.rows.enough; limited = fits.rows.limited } in
     let memory = memory_again image back 2 fits in
-    let mapped = map_again flow last memory.0 fits.functions fits.functions_rise fits.blocks fits.blocks_rise fits.rows in
-    let spelled : image_text image ≡ ended (codes "oat-image 1") ++ front =
-    sym (regroup (ended (codes "oat-image 1")) (code_text image.code) (data_text image.words) (cells_text image.cells) (functions_text flow.functions) (blocks_text flow.blocks) (rows_text flow.rows) last) in
-    ap image_at spelled ∙ rw (begun, memory.1, mapped.1, ending_again mapped.0) refl
+    let mapped = map_again (has_elements flow.rows) flow last memory.0 fits.functions fits.functions_rise fits.blocks fits.blocks_rise rows in
+    let spelled : image_text image ≡ first ++ front =
+    sym (regroup first (code_text image.code) (data_text image.words) (cells_text image.cells) (functions_text flow.functions) (blocks_text flow.blocks) (rows_text flow.rows) last) in
+    ap image_at spelled ∙ rw (version, memory.1, mapped.1, ending_again flow.rows mapped.0) refl
 
 pub is_found : (text : List ℕ) (r : Result Image (Fault ImageFaultKind)) → Gives (λ i. i) r (image_at text) → IfOk r (λ image. IsImageText text image)
 is_found text (Ok image) given = image_takes text image given

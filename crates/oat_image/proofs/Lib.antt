@@ -2,6 +2,8 @@ mod Loop
 mod Names
 mod Sections
 mod Forms
+mod Versions
+mod Keywords
 mod RowForms
 mod Images
 pub mod ImageTexts

@@ -1,6 +1,6 @@
 -- The lines of rows: what is read is spelled so, and what is spelled so is read.
-use Rattle.std.proofs.Common.{◌≡◌, ℕ, ◌≤◌, ◌<◌, ◌^◌, Bool, true, false, List, [], ◌∷◌, ◌++◌, Option, Some, Ok, refl, sym, ap, subst, ◌∙◌, arith}
-use Rattle.std.specs.Prelude.{if◌then◌else◌, ok_or, bytes_eq, decimal, codes}
+use Rattle.std.proofs.Common.{◌≡◌, ℕ, ◌≤◌, ◌<◌, ◌^◌, Bool, true, List, [], ◌∷◌, ◌++◌, Some, Result, Ok, refl, sym, ap, subst, ◌∙◌, arith}
+use Rattle.std.specs.Prelude.{ok_or, decimal, codes}
 use Rattle.std.specs.List.{list_all}
 use Rattle.oat_lines.specs.Reading.{◌>>=◌}
 use Rattle.oat_lines.specs.Hexadecimal.{hexadecimal}
@@ -8,76 +8,21 @@ use Rattle.oat_lines.specs.Fields.{one_field, field_and_rest, two_fields, three_
 use Rattle.oat_lines.proofs.Cutting.{one_takes, field_takes, two_take, three_take, one_again, field_again, two_again, three_again, within_field, within_spaced, two_within, three_within, is_within_line}
 use Rattle.oat_map.specs.declared.row.Row.{Row}
 use Rattle.oat_map.specs.declared.row.Row.TheVariants.{Jump, Branch, Call, ICall, Ret, Begin, End, UseCell, DefCell, UseAt, DefAt, Check}
-use Rattle.oat_image.specs.declared.row.RowKind.{RowKind}
-use Rattle.oat_image.specs.declared.row.RowKind.TheVariants.{Edge, Point}
-use Rattle.oat_image.specs.declared.row.EdgeKind.TheVariants as edges
-use Rattle.oat_image.specs.declared.row.PointKind.TheVariants as points
+use Rattle.oat_image.specs.declared.keyword.RowKind.{RowKind}
+use Rattle.oat_image.specs.declared.keyword.RowKind.TheVariants.{Edge, Point, Element}
+use Rattle.oat_image.specs.declared.keyword.EdgeKind.TheVariants as edges
+use Rattle.oat_image.specs.declared.keyword.PointKind.TheVariants as points
+use Rattle.oat_image.specs.declared.element.ElementKind.TheVariants as elements
+use Rattle.oat_image.specs.declared.fault.ImageFaultKind.{ImageFaultKind}
 use Rattle.oat_image.specs.declared.fault.ImageFaultKind.TheVariants.{Token}
-use Rattle.oat_image.specs.Grammar.{row_line, IsRow}
-use Rattle.oat_image.specs.ImageReading.{kind_of, sole_address, two_addresses, addresses_of, three_addresses, address_and_number, number_in, eight_digits, edge_row, point_row, row_with, row_of}
-use Rattle.oat_lines.proofs.Steps.{bind_ok, ok_is, or_ok, some_is}
-use Rattle.oat_image.proofs.Sections.{IsForm, bytes_take, decimal_field}
+use Rattle.oat_image.specs.Grammar.{row_line, IsRow, IsLength}
+use Rattle.oat_image.specs.LineReading.{number_in, eight_digits}
+use Rattle.oat_image.specs.RowReading.{is_kind_in, kind_in, kind_of, sole_address, two_addresses, addresses_of, three_addresses, address_and_number, array_of, address_and_array, edge_row, point_row, element_row, row_with, row_of}
+use Rattle.oat_lines.proofs.Steps.{bind_ok, ok_is, or_ok}
+use Rattle.oat_image.proofs.Versions.{IsRowIn}
+use Rattle.oat_image.proofs.Sections.{IsForm, decimal_field}
 use Rattle.oat_image.proofs.Forms.{address_takes, address_again, address_field, number_takes, number_again}
-
--- ---- keywords
-
-abbrev keyword_of : RowKind → List ℕ
-keyword_of (Edge edges.Jump) = codes "jump"
-keyword_of (Edge edges.Branch) = codes "branch"
-keyword_of (Edge edges.Call) = codes "call"
-keyword_of (Edge edges.ICall) = codes "icall"
-keyword_of (Edge edges.Ret) = codes "ret"
-keyword_of (Point points.Begin) = codes "begin"
-keyword_of (Point points.End) = codes "end"
-keyword_of (Point points.UseCell) = codes "use"
-keyword_of (Point points.DefCell) = codes "def"
-keyword_of (Point points.Check) = codes "check"
-
-choose : (b : Bool) (word keyword : List ℕ) (k r : RowKind) (o : Option RowKind) → bytes_eq word keyword ≡ b → keyword ≡ keyword_of k → (if b then Some k else o) ≡ Some r
-    → (o ≡ Some r → word ≡ keyword_of r) → word ≡ keyword_of r
-choose true word keyword k r o t is e later = bytes_take word keyword t ∙ is ∙ ap keyword_of (some_is k r e)
-choose false word keyword k r o t is e later = later e
-
-pick : (word keyword : List ℕ) (k r : RowKind) (o : Option RowKind) → keyword ≡ keyword_of k → (if bytes_eq word keyword then Some k else o) ≡ Some r
-    → (o ≡ Some r → word ≡ keyword_of r) → word ≡ keyword_of r
-pick word keyword k r o is e later = choose (bytes_eq word keyword) word keyword k r o refl is e later
-
-kind_takes : (word : List ℕ) (r : RowKind) → kind_of word ≡ Some r → word ≡ keyword_of r
-kind_takes word r e =
-    pick word (codes "jump") (Edge edges.Jump) r _ refl e λ e.
-    pick word (codes "branch") (Edge edges.Branch) r _ refl e λ e.
-    pick word (codes "call") (Edge edges.Call) r _ refl e λ e.
-    pick word (codes "icall") (Edge edges.ICall) r _ refl e λ e.
-    pick word (codes "ret") (Edge edges.Ret) r _ refl e λ e.
-    pick word (codes "begin") (Point points.Begin) r _ refl e λ e.
-    pick word (codes "end") (Point points.End) r _ refl e λ e.
-    pick word (codes "use") (Point points.UseCell) r _ refl e λ e.
-    pick word (codes "def") (Point points.DefCell) r _ refl e λ e.
-    pick word (codes "check") (Point points.Check) r _ refl e λ e. absurd cc
-
-kind_again : (k : RowKind) → kind_of (keyword_of k) ≡ Some k
-kind_again (Edge edges.Jump) = refl
-kind_again (Edge edges.Branch) = refl
-kind_again (Edge edges.Call) = refl
-kind_again (Edge edges.ICall) = refl
-kind_again (Edge edges.Ret) = refl
-kind_again (Point points.Begin) = refl
-kind_again (Point points.End) = refl
-kind_again (Point points.UseCell) = refl
-kind_again (Point points.DefCell) = refl
-kind_again (Point points.Check) = refl
-
-keyword_field : (k : RowKind) → IsField (keyword_of k)
-keyword_field (Edge edges.Jump) = record { visible = refl; nonempty = omega arith }
-keyword_field (Edge edges.Branch) = record { visible = refl; nonempty = omega arith }
-keyword_field (Edge edges.Call) = record { visible = refl; nonempty = omega arith }
-keyword_field (Edge edges.ICall) = record { visible = refl; nonempty = omega arith }
-keyword_field (Edge edges.Ret) = record { visible = refl; nonempty = omega arith }
-keyword_field (Point points.Begin) = record { visible = refl; nonempty = omega arith }
-keyword_field (Point points.End) = record { visible = refl; nonempty = omega arith }
-keyword_field (Point points.UseCell) = record { visible = refl; nonempty = omega arith }
-keyword_field (Point points.DefCell) = record { visible = refl; nonempty = omega arith }
-keyword_field (Point points.Check) = record { visible = refl; nonempty = omega arith }
+use Rattle.oat_image.proofs.Keywords.{keyword_of, kind_again, keyword_field, kind_stands}
 
 -- ---- fields
 
@@ -162,93 +107,109 @@ unfolding address_and_number
 numbered_again least most a n la low high small =
     rw (two_again (hexadecimal 8 a) (decimal n) (address_field a) (decimal_field n (omega arith)), address_again a la, number_again least most n low high small) refl
 
+array_takes : (one two three : List ℕ) (p : ℕ × ℕ × ℕ) → array_of one two three ≡ Ok p
+    → (one ≡ hexadecimal 8 p.0) × (two ≡ decimal p.1) × (three ≡ decimal p.2) × (p.0 < 2 ^ 32) × (p.1 ≤ 65535) × (1 ≤ p.2) × (p.2 ≤ 4096)
+unfolding array_of
+array_takes one two three p e =
+    let a = bind_ok (eight_digits one) (λ address. number_in 0 65535 two >>= λ cell. number_in 1 4096 three >>= λ len. Ok (address, cell, len)) p e in
+    let b = bind_ok (number_in 0 65535 two) (λ cell. number_in 1 4096 three >>= λ len. Ok (a.0, cell, len)) p a.2 in
+    let d = bind_ok (number_in 1 4096 three) (λ len. Ok (a.0, b.0, len)) p b.2 in
+    let address = address_takes one a.0 a.1 in
+    let cell = number_takes 0 65535 two b.0 (omega arith) b.1 in
+    let len = number_takes 1 4096 three d.0 (omega arith) d.1 in
+    subst (λ (q : ℕ × ℕ × ℕ). (one ≡ hexadecimal 8 q.0) × (two ≡ decimal q.1) × (three ≡ decimal q.2) × (q.0 < 2 ^ 32) × (q.1 ≤ 65535) × (1 ≤ q.2) × (q.2 ≤ 4096))
+    (ok_is (a.0, b.0, d.0) p d.2) (address.0, cell.0, len.0, address.1, cell.2, len.1, len.2)
+
+array_again : (a c l : ℕ) → a < 2 ^ 32 → c ≤ 65535 → IsLength l → array_of (hexadecimal 8 a) (decimal c) (decimal l) ≡ Ok (a, c, l)
+unfolding array_of
+array_again a c l la lc ll =
+    rw (address_again a la, number_again 0 65535 c (omega arith) lc (omega arith), number_again 1 4096 l ll.0 ll.1 (omega arith)) refl
+
+element_takes : (fields : List ℕ) (p : ℕ × ℕ × ℕ) → address_and_array fields ≡ Ok p
+    → (fields ≡ spaced (hexadecimal 8 p.0 ∷ decimal p.1 ∷ decimal p.2 ∷ [])) × (p.0 < 2 ^ 32) × (p.1 ≤ 65535) × IsLength p.2
+unfolding address_and_array
+element_takes fields p e =
+    let w = bind_ok (ok_or (three_fields fields) Token) (λ words. array_of words.0 words.1 words.2) p e in
+    let n = array_takes w.0.0 w.0.1 w.0.2 p w.2 in (
+      three_take fields w.0 (or_ok (three_fields fields) Token w.0 w.1) ∙ ap (λ (t : List ℕ). spaced (t ∷ w.0.1 ∷ w.0.2 ∷ [])) n.0
+          ∙ ap (λ (t : List ℕ). spaced (hexadecimal 8 p.0 ∷ t ∷ w.0.2 ∷ [])) n.1
+          ∙ ap (λ (t : List ℕ). spaced (hexadecimal 8 p.0 ∷ decimal p.1 ∷ t ∷ [])) n.2,
+      n.3,
+      n.4,
+      (n.5, n.6),
+    )
+
+element_again : (a c l : ℕ) → a < 2 ^ 32 → c ≤ 65535 → IsLength l → address_and_array (spaced (hexadecimal 8 a ∷ decimal c ∷ decimal l ∷ [])) ≡ Ok (a, c, l)
+unfolding address_and_array
+element_again a c l la lc ll =
+    rw (three_again (hexadecimal 8 a) (decimal c) (decimal l) (address_field a) (decimal_field c (omega arith)) (decimal_field l (omega (arith, ll.1))), array_again a c l la lc ll) refl
+
 -- ---- rows
 
--- the line is that of the row
-abbrev Spells : List ℕ → List ℕ → Row → Type 0
-Spells keyword fields r = (keyword ++ 32 ∷ fields ≡ row_line r) × IsRow r
+-- the line is that of the row, which is one of the version
+abbrev Spells : Bool → List ℕ → List ℕ → Row → Type 0
+Spells second keyword fields r = (keyword ++ 32 ∷ fields ≡ row_line r) × IsRowIn second r
 
-paired : (keyword fields : List ℕ) (make : ℕ → ℕ → Row) (r : Row) → ((a b : ℕ) → a < 2 ^ 32 → b < 2 ^ 32 → Spells keyword (spaced (hexadecimal 8 a ∷ hexadecimal 8 b ∷ [])) (make a b))
-    → (two_addresses fields >>= λ p. Ok (make p.0 p.1)) ≡ Ok r → Spells keyword fields r
-paired keyword fields make r spelled e =
-    let a = bind_ok (two_addresses fields) (λ p. Ok (make p.0 p.1)) r e in
-    let n = pair_takes fields a.0 a.1 in
-    let s = spelled a.0.0 a.0.1 n.1 n.2 in
-    subst (λ (q : Row). Spells keyword fields q) (ok_is (make a.0.0 a.0.1) r a.2) (ap (λ (t : List ℕ). keyword ++ 32 ∷ t) n.0 ∙ s.0, s.1)
+made : {X : Type 0} (second : Bool) (read : Result X ImageFaultKind) (make : X → Row) (keyword fields : List ℕ) (r : Row)
+    → ((x : X) → read ≡ Ok x → Spells second keyword fields (make x)) → (read >>= λ x. Ok (make x)) ≡ Ok r → Spells second keyword fields r
+made second read make keyword fields r spelled e =
+    let a = bind_ok read (λ x. Ok (make x)) r e in
+    subst (λ (q : Row). Spells second keyword fields q) (ok_is (make a.0) r a.2) (spelled a.0 a.1)
 
-numbered : (least most : ℕ) (keyword fields : List ℕ) (make : ℕ → ℕ → Row) (r : Row) → most < 2 ^ 64
-    → ((a n : ℕ) → a < 2 ^ 32 → least ≤ n → n ≤ most → Spells keyword (spaced (hexadecimal 8 a ∷ decimal n ∷ [])) (make a n))
-    → (address_and_number least most fields >>= λ p. Ok (make p.0 p.1)) ≡ Ok r → Spells keyword fields r
-numbered least most keyword fields make r small spelled e =
-    let a = bind_ok (address_and_number least most fields) (λ p. Ok (make p.0 p.1)) r e in
-    let n = numbered_takes least most fields a.0 small a.1 in
-    let s = spelled a.0.0 a.0.1 n.1 n.2 n.3 in
-    subst (λ (q : Row). Spells keyword fields q) (ok_is (make a.0.0 a.0.1) r a.2) (ap (λ (t : List ℕ). keyword ++ 32 ∷ t) n.0 ∙ s.0, s.1)
+with_takes : (second : Bool) (k : RowKind) (fields : List ℕ) (r : Row) → is_kind_in second k ≡ true → row_with k fields ≡ Ok r → Spells second (keyword_of k) fields r
+unfolding edge_row point_row element_row
+with_takes second (Edge edges.Jump) fields r known e = made second (two_addresses fields) (λ x. Jump x.0 x.1) (codes "jump") fields r (λ x is. (let n = pair_takes fields x is in (ap (λ (t : List ℕ). codes "jump" ++ 32 ∷ t) n.0, ((n.1, n.2), refl)))) e
+with_takes second (Edge edges.Branch) fields r known e = made second (three_addresses fields) (λ x. Branch x.0 x.1 x.2) (codes "branch") fields r (λ x is. (let n = triple_takes fields x is in (ap (λ (t : List ℕ). codes "branch" ++ 32 ∷ t) n.0, ((n.1, n.2, n.3), refl)))) e
+with_takes second (Edge edges.Call) fields r known e = made second (two_addresses fields) (λ x. Call x.0 x.1) (codes "call") fields r (λ x is. (let n = pair_takes fields x is in (ap (λ (t : List ℕ). codes "call" ++ 32 ∷ t) n.0, ((n.1, n.2), refl)))) e
+with_takes second (Edge edges.ICall) fields r known e = made second (address_and_number 0 4 fields) (λ x. ICall x.0 x.1) (codes "icall") fields r (λ x is. (let n = numbered_takes 0 4 fields x (omega arith) is in (ap (λ (t : List ℕ). codes "icall" ++ 32 ∷ t) n.0, ((n.1, n.3), refl)))) e
+with_takes second (Edge edges.Ret) fields r known e = made second (sole_address fields) (λ x. Ret x) (codes "ret") fields r (λ x is. (let n = sole_takes fields x is in (ap (λ (t : List ℕ). codes "ret" ++ 32 ∷ t) n.0, (n.1, refl)))) e
+with_takes second (Point points.Begin) fields r known e = made second (address_and_number 1 65535 fields) (λ x. Begin x.0 x.1) (codes "begin") fields r (λ x is. (let n = numbered_takes 1 65535 fields x (omega arith) is in (ap (λ (t : List ℕ). codes "begin" ++ 32 ∷ t) n.0, ((n.1, (n.2, n.3)), refl)))) e
+with_takes second (Point points.End) fields r known e = made second (address_and_number 1 65535 fields) (λ x. End x.0 x.1) (codes "end") fields r (λ x is. (let n = numbered_takes 1 65535 fields x (omega arith) is in (ap (λ (t : List ℕ). codes "end" ++ 32 ∷ t) n.0, ((n.1, (n.2, n.3)), refl)))) e
+with_takes second (Point points.UseCell) fields r known e = made second (address_and_number 0 65535 fields) (λ x. UseCell x.0 x.1) (codes "use") fields r (λ x is. (let n = numbered_takes 0 65535 fields x (omega arith) is in (ap (λ (t : List ℕ). codes "use" ++ 32 ∷ t) n.0, ((n.1, n.3), refl)))) e
+with_takes second (Point points.DefCell) fields r known e = made second (address_and_number 0 65535 fields) (λ x. DefCell x.0 x.1) (codes "def") fields r (λ x is. (let n = numbered_takes 0 65535 fields x (omega arith) is in (ap (λ (t : List ℕ). codes "def" ++ 32 ∷ t) n.0, ((n.1, n.3), refl)))) e
+with_takes second (Point points.Check) fields r known e = made second (sole_address fields) (λ x. Check x) (codes "check") fields r (λ x is. (let n = sole_takes fields x is in (ap (λ (t : List ℕ). codes "check" ++ 32 ∷ t) n.0, (n.1, refl)))) e
+with_takes second (Element elements.UseAt) fields r known e = made second (address_and_array fields) (λ x. UseAt x.0 x.1 x.2) (codes "useat") fields r (λ x is. (let n = element_takes fields x is in (ap (λ (t : List ℕ). codes "useat" ++ 32 ∷ t) n.0, ((n.1, n.2, n.3), known)))) e
+with_takes second (Element elements.DefAt) fields r known e = made second (address_and_array fields) (λ x. DefAt x.0 x.1 x.2) (codes "defat") fields r (λ x is. (let n = element_takes fields x is in (ap (λ (t : List ℕ). codes "defat" ++ 32 ∷ t) n.0, ((n.1, n.2, n.3), known)))) e
 
-single : (keyword fields : List ℕ) (make : ℕ → Row) (r : Row) → ((a : ℕ) → a < 2 ^ 32 → Spells keyword (hexadecimal 8 a) (make a))
-    → (sole_address fields >>= λ a. Ok (make a)) ≡ Ok r → Spells keyword fields r
-single keyword fields make r spelled e =
-    let a = bind_ok (sole_address fields) (λ a. Ok (make a)) r e in
-    let n = sole_takes fields a.0 a.1 in
-    let s = spelled a.0 n.1 in
-    subst (λ (q : Row). Spells keyword fields q) (ok_is (make a.0) r a.2) (ap (λ (t : List ℕ). keyword ++ 32 ∷ t) n.0 ∙ s.0, s.1)
-
-tripled : (keyword fields : List ℕ) (make : ℕ → ℕ → ℕ → Row) (r : Row)
-    → ((a b d : ℕ) → a < 2 ^ 32 → b < 2 ^ 32 → d < 2 ^ 32 → Spells keyword (spaced (hexadecimal 8 a ∷ hexadecimal 8 b ∷ hexadecimal 8 d ∷ [])) (make a b d))
-    → (three_addresses fields >>= λ p. Ok (make p.0 p.1 p.2)) ≡ Ok r → Spells keyword fields r
-tripled keyword fields make r spelled e =
-    let a = bind_ok (three_addresses fields) (λ p. Ok (make p.0 p.1 p.2)) r e in
-    let n = triple_takes fields a.0 a.1 in
-    let s = spelled a.0.0 a.0.1 a.0.2 n.1 n.2 n.3 in
-    subst (λ (q : Row). Spells keyword fields q) (ok_is (make a.0.0 a.0.1 a.0.2) r a.2) (ap (λ (t : List ℕ). keyword ++ 32 ∷ t) n.0 ∙ s.0, s.1)
-
-with_takes : (k : RowKind) (fields : List ℕ) (r : Row) → row_with k fields ≡ Ok r → Spells (keyword_of k) fields r
-unfolding edge_row point_row
-with_takes (Edge edges.Jump) fields r e = paired (codes "jump") fields (λ a b. Jump a b) r (λ a b la lb. (refl, (la, lb))) e
-with_takes (Edge edges.Branch) fields r e = tripled (codes "branch") fields (λ a b d. Branch a b d) r (λ a b d la lb ld. (refl, (la, lb, ld))) e
-with_takes (Edge edges.Call) fields r e = paired (codes "call") fields (λ a b. Call a b) r (λ a b la lb. (refl, (la, lb))) e
-with_takes (Edge edges.ICall) fields r e = numbered 0 4 (codes "icall") fields (λ a n. ICall a n) r (omega arith) (λ a n la low high. (refl, (la, high))) e
-with_takes (Edge edges.Ret) fields r e = single (codes "ret") fields (λ a. Ret a) r (λ a la. (refl, la)) e
-with_takes (Point points.Begin) fields r e = numbered 1 65535 (codes "begin") fields (λ a n. Begin a n) r (omega arith) (λ a n la low high. (refl, (la, (low, high)))) e
-with_takes (Point points.End) fields r e = numbered 1 65535 (codes "end") fields (λ a n. End a n) r (omega arith) (λ a n la low high. (refl, (la, (low, high)))) e
-with_takes (Point points.UseCell) fields r e = numbered 0 65535 (codes "use") fields (λ a n. UseCell a n) r (omega arith) (λ a n la low high. (refl, (la, high))) e
-with_takes (Point points.DefCell) fields r e = numbered 0 65535 (codes "def") fields (λ a n. DefCell a n) r (omega arith) (λ a n la low high. (refl, (la, high))) e
-with_takes (Point points.Check) fields r e = single (codes "check") fields (λ a. Check a) r (λ a la. (refl, la)) e
-
-row_takes : (line : List ℕ) (r : Row) → row_of line ≡ Ok r → (line ≡ row_line r) × IsRow r
+row_takes : (second : Bool) (line : List ℕ) (r : Row) → row_of second line ≡ Ok r → (line ≡ row_line r) × IsRowIn second r
 unfolding row_of
-row_takes line r e =
-    let a = bind_ok (ok_or (field_and_rest line) Token) (λ parts. ok_or (kind_of parts.0) Token >>= λ kind. row_with kind parts.1) r e in
-    let b = bind_ok (ok_or (kind_of a.0.0) Token) (λ kind. row_with kind a.0.1) r a.2 in
-    let word : a.0.0 ≡ keyword_of b.0 = kind_takes a.0.0 b.0 (or_ok (kind_of a.0.0) Token b.0 b.1) in
-    let row = with_takes b.0 a.0.1 r b.2 in
-    (field_takes line a.0 (or_ok (field_and_rest line) Token a.0 a.1) ∙ ap (λ (w : List ℕ). w ++ 32 ∷ a.0.1) word ∙ row.0, row.1)
+row_takes second line r e =
+    let a = bind_ok (ok_or (field_and_rest line) Token) (λ parts. kind_in second parts.0 >>= λ kind. row_with kind parts.1) r e in
+    let b = bind_ok (kind_in second a.0.0) (λ kind. row_with kind a.0.1) r a.2 in
+    let kind = kind_stands second a.0.0 b.0 b.1 in
+    let row = with_takes second b.0 a.0.1 r kind.1 b.2 in
+    (field_takes line a.0 (or_ok (field_and_rest line) Token a.0 a.1) ∙ ap (λ (w : List ℕ). w ++ 32 ∷ a.0.1) kind.0 ∙ row.0, row.1)
 
 -- the keyword sends the rest of the line to its kind
-row_step : (k : RowKind) (keyword fields : List ℕ) → keyword ≡ keyword_of k → row_of (keyword ++ 32 ∷ fields) ≡ row_with k fields
-unfolding row_of
-row_step k keyword fields is =
+row_step : (second : Bool) (k : RowKind) (keyword fields : List ℕ) → keyword ≡ keyword_of k → is_kind_in second k ≡ true → row_of second (keyword ++ 32 ∷ fields) ≡ row_with k fields
+unfolding row_of kind_in
+row_step second k keyword fields is known =
     let field : IsField keyword = subst (λ (w : List ℕ). IsField w) (sym is) (keyword_field k) in
     let kind : kind_of keyword ≡ Some k = ap kind_of is ∙ kind_again k in
-    rw (field_again keyword fields field) (ap (λ (o : Option RowKind). ok_or o Token >>= λ r. row_with r fields) kind)
+    rw (field_again keyword fields field, kind, known) refl
 
-row_again : (r : Row) → IsRow r → row_of (row_line r) ≡ Ok r
-unfolding edge_row point_row
-row_again (Jump a b) fits = row_step (Edge edges.Jump) (codes "jump") (spaced (hexadecimal 8 a ∷ hexadecimal 8 b ∷ [])) refl ∙ rw (pair_again a b fits.0 fits.1) refl
-row_again (Branch a b d) fits = row_step (Edge edges.Branch) (codes "branch") (spaced (hexadecimal 8 a ∷ hexadecimal 8 b ∷ hexadecimal 8 d ∷ [])) refl ∙ rw (triple_again a b d fits.0 fits.1 fits.2) refl
-row_again (Call a b) fits = row_step (Edge edges.Call) (codes "call") (spaced (hexadecimal 8 a ∷ hexadecimal 8 b ∷ [])) refl ∙ rw (pair_again a b fits.0 fits.1) refl
-row_again (ICall a n) fits = row_step (Edge edges.ICall) (codes "icall") (spaced (hexadecimal 8 a ∷ decimal n ∷ [])) refl ∙ rw (numbered_again 0 4 a n fits.0 (omega arith) fits.1 (omega arith)) refl
-row_again (Ret a) fits = row_step (Edge edges.Ret) (codes "ret") (hexadecimal 8 a) refl ∙ rw (sole_again a fits) refl
-row_again (Begin a n) fits = row_step (Point points.Begin) (codes "begin") (spaced (hexadecimal 8 a ∷ decimal n ∷ [])) refl ∙ rw (numbered_again 1 65535 a n fits.0 fits.1.0 fits.1.1 (omega arith)) refl
-row_again (End a n) fits = row_step (Point points.End) (codes "end") (spaced (hexadecimal 8 a ∷ decimal n ∷ [])) refl ∙ rw (numbered_again 1 65535 a n fits.0 fits.1.0 fits.1.1 (omega arith)) refl
-row_again (UseCell a n) fits = row_step (Point points.UseCell) (codes "use") (spaced (hexadecimal 8 a ∷ decimal n ∷ [])) refl ∙ rw (numbered_again 0 65535 a n fits.0 (omega arith) fits.1 (omega arith)) refl
-row_again (DefCell a n) fits = row_step (Point points.DefCell) (codes "def") (spaced (hexadecimal 8 a ∷ decimal n ∷ [])) refl ∙ rw (numbered_again 0 65535 a n fits.0 (omega arith) fits.1 (omega arith)) refl
-row_again (UseAt a n l) fits = absurd fits.3
-row_again (DefAt a n l) fits = absurd fits.3
-row_again (Check a) fits = row_step (Point points.Check) (codes "check") (hexadecimal 8 a) refl ∙ rw (sole_again a fits) refl
+row_again : (second : Bool) (r : Row) → IsRowIn second r → row_of second (row_line r) ≡ Ok r
+unfolding edge_row point_row element_row
+row_again second (Jump a b) fits = row_step second (Edge edges.Jump) (codes "jump") (spaced (hexadecimal 8 a ∷ hexadecimal 8 b ∷ [])) refl refl ∙ rw (pair_again a b fits.0.0 fits.0.1) refl
+row_again second (Branch a b d) fits = row_step second (Edge edges.Branch) (codes "branch") (spaced (hexadecimal 8 a ∷ hexadecimal 8 b ∷ hexadecimal 8 d ∷ [])) refl refl ∙ rw (triple_again a b d fits.0.0 fits.0.1 fits.0.2) refl
+row_again second (Call a b) fits = row_step second (Edge edges.Call) (codes "call") (spaced (hexadecimal 8 a ∷ hexadecimal 8 b ∷ [])) refl refl ∙ rw (pair_again a b fits.0.0 fits.0.1) refl
+row_again second (ICall a n) fits = row_step second (Edge edges.ICall) (codes "icall") (spaced (hexadecimal 8 a ∷ decimal n ∷ [])) refl refl ∙ rw (numbered_again 0 4 a n fits.0.0 (omega arith) fits.0.1 (omega arith)) refl
+row_again second (Ret a) fits = row_step second (Edge edges.Ret) (codes "ret") (hexadecimal 8 a) refl refl ∙ rw (sole_again a fits.0) refl
+row_again second (Begin a n) fits = row_step second (Point points.Begin) (codes "begin") (spaced (hexadecimal 8 a ∷ decimal n ∷ [])) refl refl ∙ rw (numbered_again 1 65535 a n fits.0.0 fits.0.1.0 fits.0.1.1 (omega arith)) refl
+row_again second (End a n) fits = row_step second (Point points.End) (codes "end") (spaced (hexadecimal 8 a ∷ decimal n ∷ [])) refl refl ∙ rw (numbered_again 1 65535 a n fits.0.0 fits.0.1.0 fits.0.1.1 (omega arith)) refl
+row_again second (UseCell a n) fits = row_step second (Point points.UseCell) (codes "use") (spaced (hexadecimal 8 a ∷ decimal n ∷ [])) refl refl ∙ rw (numbered_again 0 65535 a n fits.0.0 (omega arith) fits.0.1 (omega arith)) refl
+row_again second (DefCell a n) fits = row_step second (Point points.DefCell) (codes "def") (spaced (hexadecimal 8 a ∷ decimal n ∷ [])) refl refl ∙ rw (numbered_again 0 65535 a n fits.0.0 (omega arith) fits.0.1 (omega arith)) refl
+row_again second (UseAt a n l) fits = row_step second (Element elements.UseAt) (codes "useat") (spaced (hexadecimal 8 a ∷ decimal n ∷ decimal l ∷ [])) refl fits.1 ∙ rw (element_again a n l fits.0.0 fits.0.1 fits.0.2) refl
+row_again second (DefAt a n l) fits = row_step second (Element elements.DefAt) (codes "defat") (spaced (hexadecimal 8 a ∷ decimal n ∷ decimal l ∷ [])) refl fits.1 ∙ rw (element_again a n l fits.0.0 fits.0.1 fits.0.2) refl
+row_again second (Check a) fits = row_step second (Point points.Check) (codes "check") (hexadecimal 8 a) refl refl ∙ rw (sole_again a fits.0) refl
 
 numbered_within : (k : RowKind) (a n : ℕ) → n < 2 ^ 64 → list_all is_within_line (keyword_of k ++ 32 ∷ spaced (hexadecimal 8 a ∷ decimal n ∷ [])) ≡ true
 numbered_within k a n small = within_spaced (keyword_of k) (spaced (hexadecimal 8 a ∷ decimal n ∷ [])) (keyword_field k) (two_within (hexadecimal 8 a) (decimal n) (address_field a) (decimal_field n small))
+
+element_within : (k : RowKind) (a c l : ℕ) → c ≤ 65535 → IsLength l → list_all is_within_line (keyword_of k ++ 32 ∷ spaced (hexadecimal 8 a ∷ decimal c ∷ decimal l ∷ [])) ≡ true
+element_within k a c l small short =
+    within_spaced (keyword_of k) (spaced (hexadecimal 8 a ∷ decimal c ∷ decimal l ∷ [])) (keyword_field k)
+    (three_within (hexadecimal 8 a) (decimal c) (decimal l) (address_field a) (decimal_field c (omega arith)) (decimal_field l (omega (arith, short.1))))
 
 paired_within : (k : RowKind) (a b : ℕ) → list_all is_within_line (keyword_of k ++ 32 ∷ spaced (hexadecimal 8 a ∷ hexadecimal 8 b ∷ [])) ≡ true
 paired_within k a b = within_spaced (keyword_of k) (spaced (hexadecimal 8 a ∷ hexadecimal 8 b ∷ [])) (keyword_field k) (two_within (hexadecimal 8 a) (hexadecimal 8 b) (address_field a) (address_field b))
@@ -268,9 +229,9 @@ row_whole (Begin a n) fits = numbered_within (Point points.Begin) a n (omega (ar
 row_whole (End a n) fits = numbered_within (Point points.End) a n (omega (arith, fits.1.1))
 row_whole (UseCell a n) fits = numbered_within (Point points.UseCell) a n (omega (arith, fits.1))
 row_whole (DefCell a n) fits = numbered_within (Point points.DefCell) a n (omega (arith, fits.1))
-row_whole (UseAt a n l) fits = absurd fits.3
-row_whole (DefAt a n l) fits = absurd fits.3
+row_whole (UseAt a n l) fits = element_within (Element elements.UseAt) a n l fits.1 fits.2
+row_whole (DefAt a n l) fits = element_within (Element elements.DefAt) a n l fits.1 fits.2
 row_whole (Check a) fits = single_within (Point points.Check) a
 
-pub row_form : IsForm row_of row_line IsRow
-row_form = record { takes = row_takes; again = row_again; whole = row_whole }
+pub row_form : (second : Bool) → IsForm (row_of second) row_line (IsRowIn second)
+row_form second = record { takes = row_takes second; again = row_again second; whole = λ r fits. row_whole r fits.0 }

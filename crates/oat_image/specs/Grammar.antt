@@ -2,7 +2,7 @@
 -- eight upper-case hexadecimal digits, values of data sixteen, and all other numbers are decimal.
 -- docs/FORMATS.md shows whole texts.
 use Rattle.std.specs.Prelude.{◌≡◌, ℕ, ◌^◌, ◌<◌, ◌≤◌, Bool, true, false, List, [], ◌∷◌, ◌++◌, length, map, codes, decimal}
-use Rattle.std.specs.List.{AllByRecursion}
+use Rattle.std.specs.List.{AllByRecursion, list_any}
 use Rattle.std.specs.List.Sorted.{IsStrictlyIncreasing}
 use Rattle.oat_lines.specs.Fields.{spaced, ended}
 use Rattle.oat_lines.specs.Hexadecimal.{hexadecimal}
@@ -46,15 +46,30 @@ row_line (Begin at op) = spaced (codes "begin" ∷ hexadecimal 8 at ∷ decimal 
 row_line (End at op) = spaced (codes "end" ∷ hexadecimal 8 at ∷ decimal op ∷ [])
 row_line (UseCell at cell) = spaced (codes "use" ∷ hexadecimal 8 at ∷ decimal cell ∷ [])
 row_line (DefCell at cell) = spaced (codes "def" ∷ hexadecimal 8 at ∷ decimal cell ∷ [])
-row_line (UseAt at cell len) = []
-row_line (DefAt at cell len) = []
+row_line (UseAt at cell len) = spaced (codes "useat" ∷ hexadecimal 8 at ∷ decimal cell ∷ decimal len ∷ [])
+row_line (DefAt at cell len) = spaced (codes "defat" ∷ hexadecimal 8 at ∷ decimal cell ∷ decimal len ∷ [])
 row_line (Check at) = spaced (codes "check" ∷ hexadecimal 8 at ∷ [])
 
 -- ---- the text
 
+-- whether a row uses or defines an element of a critical array
+abbrev pub is_of_element : Row → Bool
+is_of_element (UseAt at cell len) = true
+is_of_element (DefAt at cell len) = true
+is_of_element _ = false
+
+abbrev pub has_elements : List Row → Bool
+has_elements rows = list_any is_of_element rows
+
+-- the first line of the second version, and that of the first
+abbrev pub version_line : Bool → List ℕ
+version_line true = codes "oat-image 2"
+version_line false = codes "oat-image 1"
+
+-- a text is of the second version where its image has a row of an element, and else of the first
 abbrev pub image_text : Image → List ℕ
 image_text image =
-    ended (codes "oat-image 1")
+    ended (version_line (has_elements image.map.rows))
     ++ section_text (codes "code") code_line image.code
     ++ section_text (codes "data") data_line image.words
     ++ section_text (codes "cells") cell_line image.cells
@@ -106,8 +121,8 @@ IsRow (Begin at op) = IsAddress at × IsOperationNumber op
 IsRow (End at op) = IsAddress at × IsOperationNumber op
 IsRow (UseCell at cell) = IsAddress at × IsIndex cell
 IsRow (DefCell at cell) = IsAddress at × IsIndex cell
-IsRow (UseAt at cell len) = IsAddress at × IsIndex cell × IsLength len × ⊥
-IsRow (DefAt at cell len) = IsAddress at × IsIndex cell × IsLength len × ⊥
+IsRow (UseAt at cell len) = IsAddress at × IsIndex cell × IsLength len
+IsRow (DefAt at cell len) = IsAddress at × IsIndex cell × IsLength len
 IsRow (Check at) = IsAddress at
 
 -- so many items, each in its ranges

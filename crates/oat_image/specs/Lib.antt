@@ -2,6 +2,8 @@ pub mod Spelling
 pub mod Grammar
 pub mod Reading
 pub mod Rising
+pub mod LineReading
+pub mod RowReading
 pub mod ImageReading
 pub mod Seen
 pub mod Worked

@@ -1,5 +1,5 @@
 -- Reading a text line by line, section by section, with the first fault that is met and its line (docs/FORMATS.md).
-use Rattle.std.specs.Prelude.{◌≡◌, ℕ, zero, suc, ◌+◌, ◌-◌, ◌^◌, min, Bool, true, List, [], ◌∷◌, Option, Some, None, ok_or, Result, Ok, Err, nat_lt, bytes_eq}
+use Rattle.std.specs.Prelude.{ℕ, zero, suc, ◌+◌, ◌-◌, ◌^◌, min, Bool, true, List, [], ◌∷◌, Option, Some, None, ok_or, Result, Ok, Err, nat_lt, bytes_eq}
 use Rattle.oat_lines.specs.declared.fault.Fault.{Fault}
 use Rattle.oat_lines.specs.declared.fault.Fault.TheVariants.{At}
 use Rattle.oat_lines.specs.Faults.{at}

@@ -3,7 +3,7 @@
 use Rattle.std.specs.Prelude.{ℕ, List, Option, None}
 use Rattle.oat_image.specs.declared.image.Image.{Image}
 use Rattle.oat_image.specs.Grammar.{IsWord, IsInitWord, IsIndex, IsFunction, IsBlock, IsRow, IsSection}
-use Rattle.oat_image.specs.ImageReading.{no_key, index_key, cell_key, entry_key, start_key}
+use Rattle.oat_image.specs.LineReading.{no_key, index_key, cell_key, entry_key, start_key}
 use Rattle.oat_image.specs.Rising.{Rising}
 
 -- so many items, each in its ranges and above the one before

@@ -1,8 +1,10 @@
 //! Images: code, initial words, cells and map, and the text that spells them.
 #![tactic(auto)]
 
+mod element;
 mod fault;
 mod image;
+mod keyword;
 pub mod laws;
 mod line;
 mod printing;
@@ -10,6 +12,7 @@ mod reading;
 mod receiver;
 mod row;
 mod text;
+mod version;
 mod well_formed;
 mod words;
 pub mod worked;

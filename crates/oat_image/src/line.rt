@@ -1,6 +1,6 @@
 ghost use Rattle.std.specs.Prelude.{◌≡◌, ◌↔◌, ◌<◌, ◌≤◌, ◌^◌, IsTrue, IfOk, Some};
 ghost use Rattle.oat_image.specs.Grammar.{code_line, data_line, cell_line, flag_text, function_line, block_line, IsAddress, IsWord, IsIndex, IsInitWord, IsFunction, IsBlock};
-ghost use Rattle.oat_image.specs.ImageReading.{eight_digits, number_in, value_of, flag_of, spelled_name, code_of, data_of, cell_of, function_with, function_of, block_of, no_key, index_key, cell_key, entry_key, start_key};
+ghost use Rattle.oat_image.specs.LineReading.{eight_digits, number_in, value_of, flag_of, spelled_name, code_of, data_of, cell_of, function_with, function_of, block_of, no_key, index_key, cell_key, entry_key, start_key};
 
 use crate::fault::ImageFaultKind;
 use crate::image::InitWord;
@@ -102,7 +102,7 @@ impl Form for CodeLine {
 
     ghost fits = { IsWord };
 
-    #[tactic(auto, unfolding(crate::specs::ImageReading::code_of))]
+    #[tactic(auto, unfolding(crate::specs::LineReading::code_of))]
     fn read(line: &[u8]) -> Result<u32, ImageFaultKind> {
         let Some(word) = read_one_field(line) else {
             return Err(ImageFaultKind::Token);
@@ -137,7 +137,7 @@ impl Form for DataLine {
 
     ghost fits = { IsInitWord };
 
-    #[tactic(auto, unfolding(crate::specs::ImageReading::data_of))]
+    #[tactic(auto, unfolding(crate::specs::LineReading::data_of))]
     fn read(line: &[u8]) -> Result<InitWord, ImageFaultKind> {
         let Some((first, second)) = read_two_fields(line) else {
             return Err(ImageFaultKind::Token);
@@ -176,7 +176,7 @@ impl Form for CellLine {
 
     ghost fits = { IsIndex };
 
-    #[tactic(auto, unfolding(crate::specs::ImageReading::cell_of))]
+    #[tactic(auto, unfolding(crate::specs::LineReading::cell_of))]
     fn read(line: &[u8]) -> Result<u32, ImageFaultKind> {
         let Some(word) = read_one_field(line) else {
             return Err(ImageFaultKind::Token);
@@ -199,7 +199,7 @@ impl Form for CellLine {
     }
 }
 
-#[tactic(auto, unfolding(crate::specs::ImageReading::function_with))]
+#[tactic(auto, unfolding(crate::specs::LineReading::function_with))]
 fn read_function(
     name: Name,
     entry: &[u8],
@@ -236,7 +236,7 @@ impl Form for FunctionLine {
 
     ghost fits = { IsFunction };
 
-    #[tactic(auto, unfolding(crate::specs::ImageReading::function_of))]
+    #[tactic(auto, unfolding(crate::specs::LineReading::function_of))]
     fn read(line: &[u8]) -> Result<Function, ImageFaultKind> {
         let Some((entry, name, params, flag)) = read_four_fields(line) else {
             return Err(ImageFaultKind::Token);
@@ -278,7 +278,7 @@ impl Form for BlockLine {
 
     ghost fits = { IsBlock };
 
-    #[tactic(auto, unfolding(crate::specs::ImageReading::block_of))]
+    #[tactic(auto, unfolding(crate::specs::LineReading::block_of))]
     fn read(line: &[u8]) -> Result<Block, ImageFaultKind> {
         let Some((start, label)) = read_two_fields(line) else {
             return Err(ImageFaultKind::Token);

@@ -3,7 +3,7 @@ ghost use Rattle.std.specs.List.{flat_map};
 ghost use Rattle.sha2.specs.Sha256.{sha256};
 ghost use Rattle.oat_lines.specs.Fields.{ended};
 ghost use Rattle.oat_image.specs.Spelling.{section_text};
-ghost use Rattle.oat_image.specs.Grammar.{image_text};
+ghost use Rattle.oat_image.specs.Grammar.{has_elements, image_text, version_line};
 ghost use Rattle.oat_image.specs.Printing.{Takes, memory_text, map_text};
 
 use crate::image::Image;
@@ -11,6 +11,7 @@ use crate::line::{BlockLine, CellLine, CodeLine, DataLine, FunctionLine};
 use crate::receiver::{Page, Receiver};
 use crate::row::RowLine;
 use crate::text::Form;
+use crate::version::{has_elements, version_line};
 use crate::words::{put_line, put_two};
 use itoa::Buffer;
 use sha2::{Digest, Sha256};
@@ -33,6 +34,13 @@ fn put_section<F: Form, R: Receiver>(keyword: &[u8], items: &[F::Item], out: &mu
     put_items::<F, R>(items, out);
 }
 
+/// The first line, which tells the version.
+fn put_version<R: Receiver>(image: &Image, out: &mut R)
+    ensures { Takes R.holds (ended (version_line (has_elements image.now.map.rows))) out.old out.new }
+{
+    put_line(out, version_line(has_elements(image.map.rows.as_slice())));
+}
+
 /// Code, data and cells.
 fn put_memory<R: Receiver>(image: &Image, out: &mut R)
     ensures { Takes R.holds (memory_text image.now) out.old out.new }
@@ -48,13 +56,13 @@ fn put_map<R: Receiver>(image: &Image, out: &mut R)
 {
     put_section::<FunctionLine, R>(b"functions", image.map.functions.as_slice(), out);
     put_section::<BlockLine, R>(b"blocks", image.map.blocks.as_slice(), out);
-    put_section::<RowLine, R>(b"rows", image.map.rows.as_slice(), out);
+    put_section::<RowLine<true>, R>(b"rows", image.map.rows.as_slice(), out);
 }
 
 fn put_image<R: Receiver>(image: &Image, out: &mut R)
     ensures { Takes R.holds (image_text image.now) out.old out.new }
 {
-    put_line(out, b"oat-image 1");
+    put_version(image, out);
     put_memory(image, out);
     put_map(image, out);
     put_line(out, b"end");

@@ -1,7 +1,10 @@
-ghost use Rattle.std.specs.Prelude.{◌≡◌, ◌≤◌, length, IfOk, Ok};
+ghost use Rattle.std.specs.Prelude.{◌≡◌, ◌≤◌, codes, length, IfOk, Ok};
 ghost use Rattle.oat_image.specs.Grammar.{IsImageText};
 ghost use Rattle.oat_lines.specs.Faults.{Gives};
+ghost use Rattle.oat_image.specs.LineReading.{no_key};
+ghost use Rattle.oat_image.specs.RowReading.{row_of};
 ghost use Rattle.oat_image.specs.ImageReading.{memory_at, map_at, ending_at, parts_at, image_at};
+ghost use Rattle.oat_image.specs.Reading.{section_at};
 ghost use Rattle.oat_image.specs.Seen.{seen};
 
 use crate::fault::{ImageFault, ImageFaultKind};
@@ -9,8 +12,9 @@ use crate::image::{Image, InitWord};
 use crate::line::{BlockLine, CellLine, CodeLine, DataLine, FunctionLine};
 use crate::row::RowLine;
 use crate::text::{Text, read_fixed, read_section};
+use crate::version::{has_elements, read_version};
 use oat_list::Listed;
-use oat_map::Map;
+use oat_map::{Map, Row};
 use std::alloc::Global;
 
 /// The most words of code, and so the most items that have an address each.
@@ -38,13 +42,25 @@ fn read_memory(alloc: Global, text: &mut Text<'_>) -> Result<Memory, ImageFault>
     Ok(Memory { code, words, cells })
 }
 
+fn read_rows(alloc: Global, second: bool, text: &mut Text<'_>) -> Result<Vec<Row>, ImageFault>
+    ensures { Gives (λ rows. (rows.items, seen text.new)) result
+        (section_at (codes "rows") 0 131072 (row_of second) no_key (seen text.old)) }
+{
+    if second {
+        read_section::<RowLine<true>>(alloc, b"rows", 0, MOST_CODE_WORDS, text)
+    } else {
+        read_section::<RowLine<false>>(alloc, b"rows", 0, MOST_CODE_WORDS, text)
+    }
+}
+
+/// Functions, blocks and rows.
 #[tactic(auto, unfolding(crate::specs::ImageReading::map_at))]
-fn read_map(alloc: Global, text: &mut Text<'_>) -> Result<Map, ImageFault>
-    ensures { Gives (λ m. (m, seen text.new)) result (map_at (seen text.old)) }
+fn read_map(alloc: Global, second: bool, text: &mut Text<'_>) -> Result<Map, ImageFault>
+    ensures { Gives (λ m. (m, seen text.new)) result (map_at second (seen text.old)) }
 {
     let functions = read_section::<FunctionLine>(alloc, b"functions", 0, MOST_CODE_WORDS, text)?;
     let blocks = read_section::<BlockLine>(alloc, b"blocks", 0, MOST_CODE_WORDS, text)?;
-    let rows = read_section::<RowLine>(alloc, b"rows", 0, MOST_CODE_WORDS, text)?;
+    let rows = read_rows(alloc, second, text)?;
     Ok(Map {
         functions: Listed::from_vec(functions),
         blocks: Listed::from_vec(blocks),
@@ -53,10 +69,14 @@ fn read_map(alloc: Global, text: &mut Text<'_>) -> Result<Map, ImageFault>
 }
 
 #[tactic(auto, unfolding(crate::specs::ImageReading::ending_at))]
-fn read_ending(text: &mut Text<'_>) -> Result<(), ImageFault>
-    ensures { Gives (λ _. tt) result (ending_at (seen text.old)) }
+fn read_ending(second: bool, rows: &[Row], text: &mut Text<'_>) -> Result<(), ImageFault>
+    ensures { Gives (λ _. tt) result (ending_at second rows.now (seen text.old)) }
 {
+    let number = text.line;
     read_fixed(text, b"end")?;
+    if second && !has_elements(rows) {
+        return Err(ImageFault::At(number, ImageFaultKind::Token));
+    }
     if !text.rest.is_empty() {
         return Err(ImageFault::At(text.line, ImageFaultKind::Token));
     }
@@ -64,12 +84,12 @@ fn read_ending(text: &mut Text<'_>) -> Result<(), ImageFault>
 }
 
 #[tactic(auto, unfolding(crate::specs::ImageReading::parts_at))]
-fn read_parts(alloc: Global, text: &mut Text<'_>) -> Result<Image, ImageFault>
-    ensures { Gives (λ image. image) result (parts_at (seen text.old)) }
+fn read_parts(alloc: Global, second: bool, text: &mut Text<'_>) -> Result<Image, ImageFault>
+    ensures { Gives (λ image. image) result (parts_at second (seen text.old)) }
 {
     let memory = read_memory(alloc, text)?;
-    let map = read_map(alloc, text)?;
-    read_ending(text)?;
+    let map = read_map(alloc, second, text)?;
+    read_ending(second, map.rows.as_slice(), text)?;
     Ok(Image {
         code: Listed::from_vec(memory.code),
         words: Listed::from_vec(memory.words),
@@ -86,8 +106,8 @@ fn read_whole(alloc: Global, text: &[u8]) -> Result<Image, ImageFault>
         rest: text,
         line: 1,
     };
-    read_fixed(&mut text, b"oat-image 1")?;
-    read_parts(alloc, &mut text)
+    let second = read_version(&mut text)?;
+    read_parts(alloc, second, &mut text)
 }
 
 /// The image of which this is the text; the text has at most 16,777,216 bytes.

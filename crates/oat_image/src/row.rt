@@ -3,75 +3,24 @@ ghost use Rattle.oat_lines.specs.Fields.{spaced, ended};
 ghost use Rattle.oat_lines.specs.Hexadecimal.{hexadecimal};
 ghost use Rattle.oat_image.specs.Printing.{Takes};
 ghost use Rattle.oat_image.specs.Grammar.{row_line, IsRow};
-ghost use Rattle.oat_image.specs.ImageReading.{kind_of, sole_address, two_addresses, addresses_of, three_addresses, address_and_number, edge_row, point_row, row_with, row_of, no_key};
+ghost use Rattle.oat_image.specs.LineReading.{no_key};
+ghost use Rattle.oat_image.specs.RowReading.{sole_address, two_addresses, addresses_of, three_addresses, address_and_number, edge_row, point_row, row_with, row_of};
 
+use crate::element::{is_length, put_element, read_element};
 use crate::fault::ImageFaultKind;
+use crate::keyword::{EdgeKind, PointKind, RowKind, read_kind_in};
 use crate::line::{is_address, read_address, read_number};
 use crate::receiver::Receiver;
 use crate::text::Form;
-use crate::words::{address_digits, put_four, put_line, put_three, put_two};
+use crate::words::{address_digits, put_four, put_three, put_two};
 use itoa::Buffer;
 use oat_lines::{read_field, read_one_field, read_three_fields, read_two_fields};
 use oat_map::Row;
 
-/// A row where the flow may turn.
-#[derive(Clone, Copy, Debug, PartialEq, Eq)]
-pub(crate) enum EdgeKind {
-    Jump,
-    Branch,
-    Call,
-    ICall,
-    Ret,
-}
+/// A row in a text of the second version, or of the first.
+pub(crate) struct RowLine<const SECOND: bool>;
 
-/// A row that the flow passes, or where it is measured from or to.
-#[derive(Clone, Copy, Debug, PartialEq, Eq)]
-pub(crate) enum PointKind {
-    Begin,
-    End,
-    UseCell,
-    DefCell,
-    Check,
-}
-
-/// What kind of row a line's keyword begins.
-#[derive(Clone, Copy, Debug, PartialEq, Eq)]
-pub(crate) enum RowKind {
-    Edge(EdgeKind),
-    Point(PointKind),
-}
-
-pub(crate) struct RowLine;
-
-fn read_kind(word: &[u8]) -> Option<RowKind>
-    ensures { result ≡ kind_of word.now }
-{
-    if word == b"jump".as_slice() {
-        Some(RowKind::Edge(EdgeKind::Jump))
-    } else if word == b"branch".as_slice() {
-        Some(RowKind::Edge(EdgeKind::Branch))
-    } else if word == b"call".as_slice() {
-        Some(RowKind::Edge(EdgeKind::Call))
-    } else if word == b"icall".as_slice() {
-        Some(RowKind::Edge(EdgeKind::ICall))
-    } else if word == b"ret".as_slice() {
-        Some(RowKind::Edge(EdgeKind::Ret))
-    } else if word == b"begin".as_slice() {
-        Some(RowKind::Point(PointKind::Begin))
-    } else if word == b"end".as_slice() {
-        Some(RowKind::Point(PointKind::End))
-    } else if word == b"use".as_slice() {
-        Some(RowKind::Point(PointKind::UseCell))
-    } else if word == b"def".as_slice() {
-        Some(RowKind::Point(PointKind::DefCell))
-    } else if word == b"check".as_slice() {
-        Some(RowKind::Point(PointKind::Check))
-    } else {
-        None
-    }
-}
-
-#[tactic(auto, unfolding(crate::specs::ImageReading::sole_address))]
+#[tactic(auto, unfolding(crate::specs::RowReading::sole_address))]
 fn read_sole_address(fields: &[u8]) -> Result<u64, ImageFaultKind>
     ensures { result ≡ sole_address fields.now }
 {
@@ -81,7 +30,7 @@ fn read_sole_address(fields: &[u8]) -> Result<u64, ImageFaultKind>
     read_address(word)
 }
 
-#[tactic(auto, unfolding(crate::specs::ImageReading::two_addresses))]
+#[tactic(auto, unfolding(crate::specs::RowReading::two_addresses))]
 fn read_two_addresses(fields: &[u8]) -> Result<(u64, u64), ImageFaultKind>
     ensures { result ≡ two_addresses fields.now }
 {
@@ -93,7 +42,7 @@ fn read_two_addresses(fields: &[u8]) -> Result<(u64, u64), ImageFaultKind>
     Ok((first, second))
 }
 
-#[tactic(auto, unfolding(crate::specs::ImageReading::addresses_of))]
+#[tactic(auto, unfolding(crate::specs::RowReading::addresses_of))]
 fn read_addresses(
     first: &[u8],
     second: &[u8],
@@ -107,7 +56,7 @@ fn read_addresses(
     Ok((first, second, third))
 }
 
-#[tactic(auto, unfolding(crate::specs::ImageReading::three_addresses))]
+#[tactic(auto, unfolding(crate::specs::RowReading::three_addresses))]
 fn read_three_addresses(fields: &[u8]) -> Result<(u64, u64, u64), ImageFaultKind>
     ensures { result ≡ three_addresses fields.now }
 {
@@ -117,7 +66,7 @@ fn read_three_addresses(fields: &[u8]) -> Result<(u64, u64, u64), ImageFaultKind
     read_addresses(first, second, third)
 }
 
-#[tactic(auto, unfolding(crate::specs::ImageReading::address_and_number))]
+#[tactic(auto, unfolding(crate::specs::RowReading::address_and_number))]
 fn read_address_and_number(
     least: u64,
     most: u64,
@@ -135,7 +84,7 @@ fn read_address_and_number(
     Ok((address, number))
 }
 
-#[tactic(auto, unfolding(crate::specs::ImageReading::edge_row))]
+#[tactic(auto, unfolding(crate::specs::RowReading::edge_row))]
 fn read_edge(kind: EdgeKind, fields: &[u8]) -> Result<Row, ImageFaultKind>
     ensures { result ≡ edge_row kind fields.now }
 {
@@ -164,7 +113,7 @@ fn read_edge(kind: EdgeKind, fields: &[u8]) -> Result<Row, ImageFaultKind>
     }
 }
 
-#[tactic(auto, unfolding(crate::specs::ImageReading::point_row))]
+#[tactic(auto, unfolding(crate::specs::RowReading::point_row))]
 fn read_point(kind: PointKind, fields: &[u8]) -> Result<Row, ImageFaultKind>
     ensures { result ≡ point_row kind fields.now }
 {
@@ -200,6 +149,7 @@ fn read_row(kind: RowKind, fields: &[u8]) -> Result<Row, ImageFaultKind>
     match kind {
         RowKind::Edge(kind) => read_edge(kind, fields),
         RowKind::Point(kind) => read_point(kind, fields),
+        RowKind::Element(kind) => read_element(kind, fields),
     }
 }
 
@@ -221,10 +171,10 @@ fn put_numbered<R: Receiver>(out: &mut R, keyword: &[u8], at: u64, number: u16)
     );
 }
 
-impl Form for RowLine {
+impl<const SECOND: bool> Form for RowLine<SECOND> {
     type Item = Row;
 
-    ghost reads = { row_of };
+    ghost reads = { row_of SECOND };
 
     ghost key = { no_key };
 
@@ -232,14 +182,12 @@ impl Form for RowLine {
 
     ghost fits = { IsRow };
 
-    #[tactic(auto, unfolding(crate::specs::ImageReading::row_of))]
+    #[tactic(auto, unfolding(crate::specs::RowReading::row_of))]
     fn read(line: &[u8]) -> Result<Row, ImageFaultKind> {
         let Some((keyword, fields)) = read_field(line) else {
             return Err(ImageFaultKind::Token);
         };
-        let Some(kind) = read_kind(keyword) else {
-            return Err(ImageFaultKind::Token);
-        };
+        let kind = read_kind_in(SECOND, keyword)?;
         read_row(kind, fields)
     }
 
@@ -261,7 +209,10 @@ impl Form for RowLine {
                 let _cell = *cell;
                 is_address(*at)
             }
-            Row::UseAt { .. } | Row::DefAt { .. } => false,
+            Row::UseAt { at, cell, len } | Row::DefAt { at, cell, len } => {
+                let _cell = *cell;
+                is_address(*at) && is_length(*len)
+            }
         }
     }
 
@@ -282,7 +233,8 @@ impl Form for RowLine {
             Row::End { at, op } => put_numbered(out, b"end", *at, *op),
             Row::UseCell { at, cell } => put_numbered(out, b"use", *at, *cell),
             Row::DefCell { at, cell } => put_numbered(out, b"def", *at, *cell),
-            Row::UseAt { .. } | Row::DefAt { .. } => put_line(out, b""),
+            Row::UseAt { at, cell, len } => put_element(out, b"useat", *at, *cell, *len),
+            Row::DefAt { at, cell, len } => put_element(out, b"defat", *at, *cell, *len),
             Row::Check { at } => put_two(out, b"check", &address_digits(*at)),
         }
     }

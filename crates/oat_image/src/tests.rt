@@ -1,5 +1,6 @@
 use super::*;
 use crate::worked::ONE_JUMP;
+use std::alloc::{AllocError, Global};
 use std::test::Fail;
 
 #[test]
@@ -42,5 +43,48 @@ fn texts_are_images_or_have_a_first_fault(rt: HostRuntime) -> Result<(), Fail> {
         .ok()
         .ok_or("no image")?;
     assert!(rt; print_image(alloc, &image)?.as_slice() == ONE_JUMP.as_bytes());
+    Ok(())
+}
+
+/// A text whose image has one row.
+fn text_of_row(alloc: Global, version: u8, row: &str) -> Result<String, AllocError> {
+    format!(in alloc;
+        "oat-image {version}\n\
+        code 1\nD2800029\n\
+        data 0\n\
+        cells 0\n\
+        functions 0\n\
+        blocks 0\n\
+        rows 1\n{row}\n\
+        end\n"
+    )
+}
+
+#[test]
+fn rows_of_elements_are_of_the_second_version(rt: HostRuntime) -> Result<(), Fail> {
+    let alloc = rt.alloc();
+    let faults = [
+        (1, "useat 00010000 0 1", 9, ImageFaultKind::Token),
+        (1, "defat 00010000 0 0", 9, ImageFaultKind::Token),
+        (2, "use 00010000 0", 10, ImageFaultKind::Token),
+        (2, "useat 00010000 65536", 9, ImageFaultKind::Token),
+        (2, "useat 00010000 0 1 1", 9, ImageFaultKind::Token),
+        (2, "useat 00010000 65536 1", 9, ImageFaultKind::Number),
+        (2, "useat 00010000 0 0", 9, ImageFaultKind::Number),
+        (2, "useat 00010000 0 4097", 9, ImageFaultKind::Number),
+        (2, "defat 00010000 0 04", 9, ImageFaultKind::Number),
+    ];
+    for (version, row, line, kind) in faults {
+        let text = text_of_row(alloc, version, row)?;
+        assert!(rt; text.len() <= 16_777_216);
+        let fault = read_image(alloc, text.as_bytes()).err();
+        assert!(rt; fault == Some(ImageFault::At(line, kind)), "{row}");
+    }
+    for row in ["useat 00010000 65535 4096", "defat 00010000 0 1"] {
+        let text = text_of_row(alloc, 2, row)?;
+        assert!(rt; text.len() <= 16_777_216);
+        let image = read_image(alloc, text.as_bytes()).ok().ok_or("no image")?;
+        assert!(rt; print_image(alloc, &image)?.as_slice() == text.as_bytes());
+    }
     Ok(())
 }

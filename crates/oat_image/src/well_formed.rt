@@ -51,7 +51,7 @@ fn is_map(image: &Image) -> bool
 {
     is_section::<FunctionLine>(0, MOST_CODE_WORDS, image.map.functions.as_slice())
         && is_section::<BlockLine>(0, MOST_CODE_WORDS, image.map.blocks.as_slice())
-        && is_section::<RowLine>(0, MOST_CODE_WORDS, image.map.rows.as_slice())
+        && is_section::<RowLine<true>>(0, MOST_CODE_WORDS, image.map.rows.as_slice())
 }
 
 impl Image {
