@@ -7,7 +7,7 @@ use Rattle.std.proofs.lemmas.Option.{slice_get_within}
 use Rattle.std.proofs.lemmas.List.Sums.{sum_by-cons, sum_by-append}
 use Rattle.oat_a64.specs.Table.{IsInRange}
 use Rattle.oat_asm.specs.declared.mark.Mark.{Mark}
-use Rattle.oat_asm.specs.declared.mark.Mark.TheVariants.{Jump, Branch, Call, Begin, End, UseCell, DefCell}
+use Rattle.oat_asm.specs.declared.mark.Mark.TheVariants.{Jump, Branch, Call, Begin, End, UseCell, DefCell, UseAt, DefAt}
 use Rattle.oat_asm.specs.declared.note.Note.TheVariants.{Check}
 use Rattle.oat_asm.specs.declared.item.Item.{Item}
 use Rattle.oat_asm.specs.declared.item.Item.TheVariants as item
@@ -17,7 +17,8 @@ use Rattle.oat_asm.specs.ExpansionLaws.{IsMark, LeadsTo}
 use Rattle.oat_asm.specs.StandingLaws.{CanBeAssembled, LabelsStandOnce}
 use Rattle.oat_asm.proofs.LayoutLaws.{counted}
 use Rattle.oat_asm.proofs.ExpansionProofs.{leaves_no_mark, keeps_labels, uses_once, stays_in_range}
-use Rattle.oat_image.specs.Grammar.{IsIndex}
+use Rattle.oat_image.specs.Grammar.{IsIndex, IsLength}
+use Rattle.oat_shape.specs.Groups.{AreElements}
 use Rattle.oat_parts.specs.Symbols.{SymbolTable, IsSymbolTable, AreDistinct, labels_of}
 use Rattle.oat_parts.specs.Parts.{CodePart, plain, label, reference, mark, check, items_of, all_items, IsMarkOf, IsCodePart, labels_in_part, labels_in, AreInParts}
 use Rattle.oat_parts.specs.Built.{CanBeExpanded, PartsCanBeExpanded, PartsHaveTheLabels}
@@ -37,11 +38,16 @@ cells_fit t table cell index at =
     let most = table.cells.limited in
     (omega arith, omega arith)
 
+element_range : (t : SymbolTable) (cell len index : ℕ) → CellsFit t → AreElements t.cells cell len index → IsLength len → (cell < 2 ^ 16) × (len < 2 ^ 16) × (index < 65536)
+element_range t cell len index cells are fits = let first = cells cell index are.first in (first.0, omega arith, first.1)
+
 mark_range : (t : SymbolTable) (m : Mark) → CellsFit t → IsMarkOf t m → IsMark m
 mark_range t (Begin op) cells is = let h = is.1 in omega arith
 mark_range t (End op) cells is = let h = is.0.1 in omega arith
 mark_range t (UseCell cell index) cells is = cells cell index is
 mark_range t (DefCell cell index) cells is = cells cell index is
+mark_range t (UseAt cell len index) cells is = element_range t cell len index cells is.0 is.1
+mark_range t (DefAt cell len index) cells is = element_range t cell len index cells is.0 is.1
 mark_range t _ cells is = tt
 
 mark_leads : (t : SymbolTable) (m : Mark) (l : ℕ) → IsMarkOf t m → LeadsTo m l → Contains (labels_of t) l

@@ -8,7 +8,7 @@ use Rattle.oat_map.specs.declared.row.Row.{Row}
 use Rattle.oat_map.specs.declared.row.Row.TheVariants as rows
 use Rattle.oat_map.specs.Rows.{is_call}
 use Rattle.oat_asm.specs.Items.{address, code_limit}
-use Rattle.oat_asm.specs.declared.mark.Mark.TheVariants.{Jump, Branch, Call, ICall, Ret, Begin, End, UseCell, DefCell}
+use Rattle.oat_asm.specs.declared.mark.Mark.TheVariants.{Jump, Branch, Call, ICall, Ret, Begin, End, UseCell, DefCell, UseAt, DefAt}
 use Rattle.oat_image.specs.Grammar.{IsRow}
 use Rattle.oat_shape.specs.MapRules.{LeadsToPlaces}
 use Rattle.oat_parts.specs.Symbols.{SymbolTable, IsFunctionLabel, IsBlockLabel, operations_in}
@@ -47,6 +47,8 @@ row_range t to here (mark (Begin op)) cells is near within = ((omega arith, is),
 row_range t to here (mark (End op)) cells is near within = ((omega arith, is.0), tt)
 row_range t to here (mark (UseCell cell index)) cells is near within = ((omega arith, let fit = (cells cell index is).0 in omega arith), tt)
 row_range t to here (mark (DefCell cell index)) cells is near within = ((omega arith, let fit = (cells cell index is).0 in omega arith), tt)
+row_range t to here (mark (UseAt cell len index)) cells is near within = ((omega arith, let fit = (cells cell index is.0.first).0 in omega arith, is.1), tt)
+row_range t to here (mark (DefAt cell len index)) cells is near within = ((omega arith, let fit = (cells cell index is.0.first).0 in omega arith, is.1), tt)
 row_range t to here (check test number) cells is near within = (omega arith, tt)
 
 -- ---- targets

@@ -10,7 +10,7 @@ use Rattle.oat_map.specs.declared.row.Row.{Row}
 use Rattle.oat_map.specs.Rows.{address_of, word_count}
 use Rattle.oat_image.specs.declared.image.Image.{Image}
 use Rattle.oat_asm.specs.declared.mark.Mark.{Mark}
-use Rattle.oat_asm.specs.declared.mark.Mark.TheVariants.{Ret, UseCell, DefCell}
+use Rattle.oat_asm.specs.declared.mark.Mark.TheVariants.{Ret, UseCell, DefCell, UseAt, DefAt}
 use Rattle.oat_asm.specs.declared.note.Note.TheVariants.{Check}
 use Rattle.oat_asm.specs.declared.item.Item.{Item}
 use Rattle.oat_asm.specs.Giving.{words_in, words_before}
@@ -21,7 +21,7 @@ use Rattle.oat_asm.specs.NoteRows.{row_of}
 use Rattle.oat_asm.specs.Standing.{ItemsStand, HasItsWord}
 use Rattle.oat_asm.proofs.Standing.{groups_of_rows}
 use Rattle.oat_asm.proofs.StandingItems.{stand_in_two}
-use Rattle.oat_shape.specs.Groups.{Stands, IsGroup}
+use Rattle.oat_shape.specs.Groups.{Stands, AreElements, IsGroup}
 use Rattle.oat_parts.specs.Symbols.{SymbolTable}
 use Rattle.oat_parts.specs.Parts.{is_set, is_met, CodePart, plain, label, reference, mark, check, items_of, all_items, expanded_part, part_words, IsLoose, IsMarkOf, IsCodePart}
 
@@ -86,6 +86,8 @@ kind to here _ = grouped _ refl refl refl
 own_word : (t : SymbolTable) (cells : List ℕ) (m : Mark) → t.cells ≡ cells → IsMarkOf t m → HasItsWord cells m
 own_word t cells (UseCell cell index) same is = subst (λ (cs : List ℕ). slice_get cs cell ≡ Some index) same is
 own_word t cells (DefCell cell index) same is = subst (λ (cs : List ℕ). slice_get cs cell ≡ Some index) same is
+own_word t cells (UseAt cell len index) same is = subst (λ (cs : List ℕ). AreElements cs cell len index) same is.0
+own_word t cells (DefAt cell len index) same is = subst (λ (cs : List ℕ). AreElements cs cell len index) same is.0
 own_word t cells _ same is = tt
 
 module _ (t : SymbolTable) (i : Image) (to : ℕ → ℕ) (here : ℕ) where

@@ -6,13 +6,14 @@ use Rattle.oat_a64.specs.declared.inst.Inst.TheVariants as inst
 use Rattle.oat_a64.specs.Kinds.{is_transfer, is_measured}
 use Rattle.oat_a64.specs.Table.{IsInRange}
 use Rattle.oat_asm.specs.declared.mark.Mark.{Mark}
-use Rattle.oat_asm.specs.declared.mark.Mark.TheVariants.{Jump, Branch, Call, ICall, Ret, Begin, End, UseCell, DefCell}
+use Rattle.oat_asm.specs.declared.mark.Mark.TheVariants.{Jump, Branch, Call, ICall, Ret, Begin, End, UseCell, DefCell, UseAt, DefAt}
 use Rattle.oat_asm.specs.declared.note.Note.TheVariants as note
 use Rattle.oat_asm.specs.declared.item.Item.{Item}
 use Rattle.oat_asm.specs.declared.item.Item.TheVariants as item
 use Rattle.oat_asm.specs.Items.{words_needed}
 use Rattle.oat_asm.specs.Expansion.{expansion}
-use Rattle.oat_image.specs.Grammar.{IsOperationNumber}
+use Rattle.oat_image.specs.Grammar.{IsLength, IsOperationNumber}
+use Rattle.oat_shape.specs.Groups.{AreElements}
 use Rattle.oat_parts.specs.Symbols.{SymbolTable, IsFunctionLabel, IsBlockLabel, labels_of, operations_in}
 
 -- what a check tests: that a register isn't 0, or a condition
@@ -62,6 +63,8 @@ IsMarkOf t (Begin op) = IsOperationNumber op
 IsMarkOf t (End op) = IsOperationNumber op × Contains (operations_in t.functions) op
 IsMarkOf t (UseCell cell index) = slice_get t.cells cell ≡ Some index
 IsMarkOf t (DefCell cell index) = slice_get t.cells cell ≡ Some index
+IsMarkOf t (UseAt cell len index) = AreElements t.cells cell len index × IsLength len
+IsMarkOf t (DefAt cell len index) = AreElements t.cells cell len index × IsLength len
 
 -- it neither transfers control nor is measured
 abbrev pub IsLoose : Inst → Type 0

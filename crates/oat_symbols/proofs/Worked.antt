@@ -1,7 +1,7 @@
 -- The worked program has all that the laws ask of a program and its code.
-use Rattle.std.proofs.Common.{◌≡◌, ℕ, ◌≤◌, List, [], ◌∷◌, refl, subst, arith, inl, inr}
-use Rattle.std.specs.Prelude.{Contains, true, codes}
-use Rattle.std.specs.List.{AllByRecursion, IsDistinct}
+use Rattle.std.proofs.Common.{[], ◌∷◌, refl, subst, arith, inl, inr}
+use Rattle.std.specs.Prelude.{Contains, codes}
+use Rattle.std.specs.List.{IsDistinct}
 use Rattle.std.proofs.lemmas.List.Elements.{All-from_recursion}
 use Rattle.oat_a64.specs.declared.inst.Inst.TheVariants.{SubImm, Svc}
 use Rattle.oat_a64.specs.Laws.{FetchesByTheTable}
@@ -15,7 +15,6 @@ use Rattle.oat_ir.specs.Indices.{HasLocal, IsInstr}
 use Rattle.oat_ir.specs.WellFormed.{IsLocal, IsBlockIr, IsFunc, IsProgram, IsGlobal}
 use Rattle.oat_ir.specs.WorkedPrograms.{idle, idle_main, idle_program}
 use Rattle.oat_check.specs.Rules.{IsChecked}
-use Rattle.oat_parts.specs.Symbols.{SymbolTable}
 use Rattle.oat_parts.specs.Parts.{plain, mark}
 use Rattle.oat_parts.specs.Making.{AreCodes}
 use Rattle.oat_parts.proofs.Lists.{not_in_none, cons_cases}
