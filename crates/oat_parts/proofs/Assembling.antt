@@ -20,7 +20,7 @@ use Rattle.oat_asm.proofs.ExpansionProofs.{leaves_no_mark, keeps_labels, uses_on
 use Rattle.oat_image.specs.Grammar.{IsIndex, IsLength}
 use Rattle.oat_shape.specs.Groups.{AreElements}
 use Rattle.oat_parts.specs.Symbols.{SymbolTable, IsSymbolTable, AreDistinct, labels_of}
-use Rattle.oat_parts.specs.Parts.{CodePart, plain, label, reference, mark, check, items_of, all_items, IsMarkOf, IsCodePart, labels_in_part, labels_in, AreInParts}
+use Rattle.oat_parts.specs.Parts.{CodePart, simple, label, reference, mark, check, items_of, all_items, IsMarkOf, IsCodePart, labels_in_part, labels_in, AreInParts}
 use Rattle.oat_parts.specs.Built.{CanBeExpanded, PartsCanBeExpanded, PartsHaveTheLabels}
 use Rattle.oat_parts.proofs.Lists.{not_in_none, only_in, in_flat_map, first_in, later_in, cons_cases, in_get, all_get, all_in, of_flat_map}
 use Rattle.oat_parts.proofs.Orders.{function_in_labels, block_in_labels}
@@ -66,7 +66,7 @@ IsFine t (item.Note n) = n ≡ Check
 IsFine t _ = ⊤
 
 part_fine : (t : SymbolTable) (p : CodePart) → CellsFit t → IsCodePart t p → AllByRecursion (IsFine t) (items_of p)
-part_fine t (plain i) cells is = (is.0, tt)
+part_fine t (simple i) cells is = (is.0, tt)
 part_fine t (label l) cells is = (tt, tt)
 part_fine t (reference register l) cells is = ((is.0, function_in_labels t.functions l is.1), tt)
 part_fine t (mark m) cells is = ((mark_range t m cells is, λ l leads. mark_leads t m l is leads), tt)
@@ -81,7 +81,7 @@ fine t ps cells each x has =
 
 -- a part has a label as often as it is listed for it
 own_count : (p : CodePart) (l : ℕ) → count_by (is_label l) (items_of p) ≡ count_by (λ k. nat_eq k l) (labels_in_part p)
-own_count (plain i) l = refl
+own_count (simple i) l = refl
 own_count (label k) l = refl
 own_count (reference register k) l = refl
 own_count (mark m) l = refl

@@ -15,7 +15,7 @@ use Rattle.oat_image.specs.declared.image.Image.{Image}
 use Rattle.oat_image.specs.Grammar.{IsWellFormedImage, IsWord, IsFunction, IsBlock, IsRow, IsInitWord, IsIndex, IsSection}
 use Rattle.oat_shape.specs.Shape.{Everywhere}
 use Rattle.oat_shape.specs.MapRules.{S8, HasOwnName, IsPlaced}
-use Rattle.oat_parts.specs.Symbols.{FunctionSymbol, SymbolTable, IsFunctionSymbol, AreDistinct, Rises, function_labels, block_labels, blocks_in, labels_of, function_of}
+use Rattle.oat_parts.specs.Symbols.{FunctionSymbol, SymbolTable, IsFunctionSymbol, AreDistinct, Rises, function_labels, block_labels, blocks_in, labels_of, function_at}
 use Rattle.oat_parts.specs.Parts.{CodePart, part_words}
 use Rattle.oat_parts.proofs.Lists.{first_in, get_in, get_map, map_get, of_map, all_join, map_length, all_get, all_in, distinct_get}
 use Rattle.oat_parts.proofs.Views.{all_words, part_place, label_at, rows_in, Kind, loose, grouped, kind}
@@ -122,7 +122,7 @@ module _ (t : SymbolTable) (i : Image) (to : ℕ → ℕ) (ps : List CodePart) (
 
   function_fits : (k : ℕ) (f : Function) → slice_get i.map.functions k ≡ Some f → IsFunction f
   function_fits k f at =
-      let r = get_map (function_of (label_at to)) t.functions k f (subst (λ (fs : List Function). slice_get fs k ≡ Some f) g.functions at) in
+      let r = get_map (function_at (label_at to)) t.functions k f (subst (λ (fs : List Function). slice_get fs k ≡ Some f) g.functions at) in
       let e : IsFunctionSymbol r.0 = all_get IsFunctionSymbol t.functions k r.0 g.table.each r.1 in
       subst IsFunction r.2 (record { entry = label_fits r.0.label; name = e.name; params = e.params })
 

@@ -12,7 +12,7 @@ use Rattle.oat_asm.specs.declared.mark.Mark.TheVariants.{Jump, Branch, Call, ICa
 use Rattle.oat_image.specs.Grammar.{IsRow}
 use Rattle.oat_shape.specs.MapRules.{LeadsToPlaces}
 use Rattle.oat_parts.specs.Symbols.{SymbolTable, IsFunctionLabel, IsBlockLabel, operations_in}
-use Rattle.oat_parts.specs.Parts.{CodePart, plain, label, reference, mark, check, IsCodePart, waits, begun_by}
+use Rattle.oat_parts.specs.Parts.{CodePart, simple, label, reference, mark, check, IsCodePart, waits, begun_by}
 use Rattle.oat_parts.proofs.Lists.{not_in_none, only_in}
 use Rattle.oat_parts.proofs.Views.{label_at, rows_in}
 use Rattle.oat_parts.proofs.Assembling.{CellsFit}
@@ -35,7 +35,7 @@ address_fits to within l = let w = within l in omega arith
 
 pub row_range : (t : SymbolTable) (to : ℕ → ℕ) (here : ℕ) (p : CodePart) → CellsFit t → IsCodePart t p → here ≤ code_limit → ((l : ℕ) → to l ≤ code_limit)
     → AllByRecursion IsRow (rows_in to here p)
-row_range t to here (plain i) cells is near within = tt
+row_range t to here (simple i) cells is near within = tt
 row_range t to here (label l) cells is near within = tt
 row_range t to here (reference register l) cells is near within = tt
 row_range t to here (mark (Jump l)) cells is near within = ((omega arith, address_fits to within l), tt)
@@ -56,7 +56,7 @@ row_range t to here (check test number) cells is near within = (omega arith, tt)
 pub row_leads : (t : SymbolTable) (to : ℕ → ℕ) (here : ℕ) (p : CodePart) (entries starts : List ℕ) → IsCodePart t p
     → ((l : ℕ) → IsFunctionLabel t l → Contains entries (label_at to l)) → ((l : ℕ) → IsBlockLabel t l → Contains starts (label_at to l))
     → AllByRecursion (LeadsToPlaces entries starts) (rows_in to here p)
-row_leads t to here (plain i) entries starts is functions blocks = tt
+row_leads t to here (simple i) entries starts is functions blocks = tt
 row_leads t to here (label l) entries starts is functions blocks = tt
 row_leads t to here (reference register l) entries starts is functions blocks = tt
 row_leads t to here (mark (Jump l)) entries starts is functions blocks = (blocks l is, tt)
@@ -93,7 +93,7 @@ EndsOneOf operations (rows.End at op) = Contains operations op
 EndsOneOf operations _ = Unit {0}
 
 pub row_ends : (t : SymbolTable) (to : ℕ → ℕ) (here : ℕ) (p : CodePart) → IsCodePart t p → AllByRecursion (EndsOneOf (operations_in t.functions)) (rows_in to here p)
-row_ends t to here (plain i) is = tt
+row_ends t to here (simple i) is = tt
 row_ends t to here (label l) is = tt
 row_ends t to here (reference register l) is = tt
 row_ends t to here (mark (End op)) is = (is.1, tt)

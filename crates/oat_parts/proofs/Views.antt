@@ -23,7 +23,7 @@ use Rattle.oat_asm.proofs.Standing.{groups_of_rows}
 use Rattle.oat_asm.proofs.StandingItems.{stand_in_two}
 use Rattle.oat_shape.specs.Groups.{Stands, AreElements, IsGroup}
 use Rattle.oat_parts.specs.Symbols.{SymbolTable}
-use Rattle.oat_parts.specs.Parts.{is_set, is_met, CodePart, plain, label, reference, mark, check, items_of, all_items, expanded_part, part_words, IsLoose, IsMarkOf, IsCodePart}
+use Rattle.oat_parts.specs.Parts.{is_set, is_met, CodePart, simple, label, reference, mark, check, items_of, all_items, expanded_part, part_words, IsLoose, IsMarkOf, IsCodePart}
 
 -- ---- places of parts
 
@@ -75,7 +75,7 @@ pub data Kind (to : ℕ → ℕ) (here : ℕ) (p : CodePart) : Type 0 where
   grouped : (row : Row) → rows_in to here p ≡ row ∷ [] → address_of row ≡ address code_base here → word_count row ≡ part_words p → Kind to here p
 
 pub kind : (to : ℕ → ℕ) (here : ℕ) (p : CodePart) → Kind to here p
-kind to here (plain i) = loose refl tt
+kind to here (simple i) = loose refl tt
 kind to here (label l) = loose refl tt
 kind to here (reference register l) = loose refl tt
 kind to here (mark Ret) = grouped _ refl refl refl
@@ -100,7 +100,7 @@ module _ (t : SymbolTable) (i : Image) (to : ℕ → ℕ) (here : ℕ) where
       ((groups_of_rows i (label_at to) (address code_base here) m (own_word t i.cells m same is)).0 (stand_in_two i (label_at to) (address code_base here) (group m) [] stands.1).0, tt)
   group_stands (check (is_set register) n) same is stands = ((inl (register, stands.1.0), (n, stands.1.1.0)), tt)
   group_stands (check (is_met cond) n) same is stands = ((inr (cond, stands.1.0), (n, stands.1.1.0)), tt)
-  group_stands (plain x) same is stands = tt
+  group_stands (simple x) same is stands = tt
   group_stands (label l) same is stands = tt
   group_stands (reference register l) same is stands = tt
 
@@ -109,7 +109,7 @@ module _ (t : SymbolTable) (i : Image) (to : ℕ → ℕ) (here : ℕ) where
 
   -- an instruction of a part without a row
   pub loose_there : (p : CodePart) (r : ℕ) (x : Inst) → IsUngrouped p → IsCodePart t p → PartStands p → r < part_words p → Stands i.code (address code_base (here + r)) x → IsLoose x
-  loose_there (plain y) r x free is stands within there =
+  loose_there (simple y) r x free is stands within there =
       subst IsLoose (one_there (address code_base here) (address code_base (here + r)) y x (omega arith) stands.0 there) is.1
   loose_there (label l) r x free is stands within there = absurd (omega arith)
   loose_there (reference register l) r x free is stands within there =

@@ -27,14 +27,14 @@ skip (is_set register) = inst.Cbnz register (pos 2)
 skip (is_met cond) = inst.BCond cond (pos 2)
 
 pub data CodePart : Type 0 where
-  plain : Inst → CodePart
+  simple : Inst → CodePart
   label : ℕ → CodePart
   reference : ℕ → ℕ → CodePart
   mark : Mark → CodePart
   check : CheckTest → ℕ → CodePart
 
 abbrev pub items_of : CodePart → List Item
-items_of (plain i) = item.Inst i ∷ []
+items_of (simple i) = item.Inst i ∷ []
 items_of (label l) = item.Label l ∷ []
 items_of (reference register l) = item.AddressOf register l ∷ []
 items_of (mark m) = item.Mark m ∷ []
@@ -71,7 +71,7 @@ abbrev pub IsLoose : Inst → Type 0
 IsLoose i = (is_transfer i || is_measured i) ≡ false
 
 abbrev pub IsCodePart : SymbolTable → CodePart → Type 0
-IsCodePart t (plain i) = IsInRange i × IsLoose i
+IsCodePart t (simple i) = IsInRange i × IsLoose i
 IsCodePart t (label l) = ⊤
 IsCodePart t (reference register l) = (register ≤ 30) × IsFunctionLabel t l
 IsCodePart t (mark m) = IsMarkOf t m

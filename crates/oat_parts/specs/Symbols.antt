@@ -63,11 +63,11 @@ IsBlockLabel t label = Contains (block_labels t.functions) label
 
 -- ---- the functions and blocks of the map, by the address of each label
 
-abbrev pub function_of : (ℕ → ℕ) → FunctionSymbol → Function
-function_of address e = record { entry = address e.label; name = e.name; params = e.params; referenced = e.referenced }
+abbrev pub function_at : (ℕ → ℕ) → FunctionSymbol → Function
+function_at address e = record { entry = address e.label; name = e.name; params = e.params; referenced = e.referenced }
 
 abbrev pub functions_of : (ℕ → ℕ) → List FunctionSymbol → List Function
-functions_of address functions = map (function_of address) functions
+functions_of address functions = map (function_at address) functions
 
 abbrev pub blocks_from : (ℕ → ℕ) → ℕ → List (List ℕ) → List Block
 blocks_from address n [] = []

@@ -1,5 +1,6 @@
 mod Distinct
 mod Globals
+mod Labels
 mod Programs
 mod Places
 mod Codes
@@ -7,5 +8,6 @@ mod Finding
 mod Names
 mod CallSites
 mod Counting
+mod SiteRows
 mod Sites
 mod Worked

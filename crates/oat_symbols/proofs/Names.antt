@@ -12,7 +12,7 @@ use Rattle.oat_map.specs.declared.map.Block.{Block}
 use Rattle.oat_map.specs.declared.row.Row.{Row}
 use Rattle.oat_map.specs.Rows.{entries_of, starts_of}
 use Rattle.oat_map.specs.EdgeName.{PlaceName, places, place_of, function_below, block_name, place_name}
-use Rattle.oat_parts.specs.Symbols.{FunctionSymbol, SymbolTable, Rises, own_labels, function_labels, block_labels, labels_from, labels_of, IsFunctionLabel, IsBlockLabel, function_of, functions_of, blocks_from, blocks_of}
+use Rattle.oat_parts.specs.Symbols.{FunctionSymbol, SymbolTable, Rises, own_labels, function_labels, block_labels, labels_from, labels_of, IsFunctionLabel, IsBlockLabel, function_at, functions_of, blocks_from, blocks_of}
 use Rattle.oat_parts.specs.Built.{built_address, built_map}
 use Rattle.oat_parts.proofs.Lists.{not_in_none, first_in, later_in, cons_cases, get_in, in_get, in_map, of_map, map_get, get_map, in_up_from, in_flat_map, rises_parts}
 use Rattle.oat_parts.proofs.Orders.{entries_are, starts_are, function_in_labels, block_in_labels, functions_rise, blocks_rise, kinds_apart}
@@ -114,13 +114,13 @@ module _ (t : SymbolTable) (at : ℕ → ℕ) (rows : List Row) (up : Rises at (
   start_label : (a : ℕ) → Contains (starts_of bs) a → (l : ℕ) × IsBlockLabel t l × (at l ≡ a)
   start_label a has = of_map at (block_labels t.functions) a (subst (λ (ns : List ℕ). Contains ns a) (starts_are at t.functions) has)
 
-  function_there : (k : ℕ) (e : FunctionSymbol) → slice_get t.functions k ≡ Some e → slice_get fs k ≡ Some (function_of at e)
-  function_there k e found = map_get (function_of at) t.functions k e found
+  function_there : (k : ℕ) (e : FunctionSymbol) → slice_get t.functions k ≡ Some e → slice_get fs k ≡ Some (function_at at e)
+  function_there k e found = map_get (function_at at) t.functions k e found
 
   function_named : (k : ℕ) (e : FunctionSymbol) → slice_get t.functions k ≡ Some e → place_name flow (at e.label) ≡ Some (record { function = e.name; block = None })
   function_named k e found =
-      named (find (λ (f : Function). f.entry == at e.label) fs) (function_of at e) (block_name flow (at e.label))
-      (find_risen (λ (f : Function). f.entry) fs k (function_of at e) (at e.label) functions_up (function_there k e found) refl)
+      named (find (λ (f : Function). f.entry == at e.label) fs) (function_at at e) (block_name flow (at e.label))
+      (find_risen (λ (f : Function). f.entry) fs k (function_at at e) (at e.label) functions_up (function_there k e found) refl)
 
   own_block : (k b : ℕ) (e : FunctionSymbol) (name : List ℕ) → slice_get t.functions k ≡ Some e → slice_get e.blocks b ≡ Some name → Contains (own_labels e) (e.first + b)
   own_block k b e name found has = in_up_from e.first (length e.blocks) (e.first + b) (omega arith) (let w = slice_get_within e.blocks b name has in omega arith)
@@ -129,8 +129,8 @@ module _ (t : SymbolTable) (at : ℕ → ℕ) (rows : List Row) (up : Rises at (
   below_named k b e name found has =
       let own = owner_is at t.functions k e (e.first + b) up found (own_block k b e name found has) in
       ap (λ (o : Option Function). unwrap_or (option_map (λ (f : Function). f.name) o) [])
-      (find_last (λ (f : Function). f.entry) fs k (function_of at e) (at (e.first + b)) (function_there k e found) own.0 (λ j f more there.
-      let r = get_map (function_of at) t.functions j f there in
+      (find_last (λ (f : Function). f.entry) fs k (function_at at e) (at (e.first + b)) (function_there k e found) own.0 (λ j f more there.
+      let r = get_map (function_at at) t.functions j f there in
       let later = own.1 j r.0 more r.1 in
       let entry : at r.0.label ≡ f.entry = ap (λ (h : Function). h.entry) r.2 in
       omega arith))

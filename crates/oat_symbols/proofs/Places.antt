@@ -11,7 +11,7 @@ use Rattle.oat_asm.proofs.StandingItems.{stand_in_two}
 use Rattle.oat_image.specs.declared.image.Image.{Image}
 use Rattle.oat_parts.specs.Symbols.{FunctionSymbol}
 use Rattle.oat_parts.specs.Making.{FunctionCode, blocks_code, code_from}
-use Rattle.oat_symbols.specs.Codes.{CodeStands, CodesStand, function_words, CodesFollow}
+use Rattle.oat_symbols.specs.Codes.{FunctionStands, CodesStand, function_words, CodesFollow}
 
 module _ (i : Image) (at : ℕ → ℕ) where
   -- two lists of items, expanded
@@ -80,7 +80,7 @@ module _ (i : Image) (at : ℕ → ℕ) where
       let rest = in_two q (blocks_code d.first b.blocks) (code_from es cs) parts.1 in
       codes_follow_from (q + 4 * words_needed (expansion (blocks_code d.first b.blocks))) k es cs e next c rest.1 one two three (omega arith)
 
-  code_stands_from : (p k : ℕ) (es : List FunctionSymbol) (cs : List FunctionCode) (e : FunctionSymbol) (c : FunctionCode) → ItemsStand i at p (expansion (code_from es cs)) → slice_get es k ≡ Some e → slice_get cs k ≡ Some c → CodeStands i at e c
+  code_stands_from : (p k : ℕ) (es : List FunctionSymbol) (cs : List FunctionCode) (e : FunctionSymbol) (c : FunctionCode) → ItemsStand i at p (expansion (code_from es cs)) → slice_get es k ≡ Some e → slice_get cs k ≡ Some c → FunctionStands i at e c
   code_stands_from p k [] cs e c stands one two = absurd cc
   code_stands_from p k (d ∷ es) [] e c stands one two = absurd cc
   code_stands_from p zero (d ∷ es) (b ∷ cs) e c stands one two =
@@ -88,7 +88,7 @@ module _ (i : Image) (at : ℕ → ℕ) where
       let q = p + 4 * words_needed (expansion (item.Label d.label ∷ b.prologue)) in
       let rest = in_two q (blocks_code d.first b.blocks) (code_from es cs) parts.1 in
       let here : p ≡ at d.label = sym parts.0.0 in
-      let own : CodeStands i at d b = record {
+      let own : FunctionStands i at d b = record {
         prologue_stands = subst (λ (a : ℕ). ItemsStand i at a (expansion b.prologue)) here parts.0.1;
         first = λ some. first_block d.first q b.blocks some rest.0 ∙ omega arith;
         blocks_follow = λ n body has more. blocks_follow_from d.first n q b.blocks body rest.0 has more;
@@ -96,7 +96,7 @@ module _ (i : Image) (at : ℕ → ℕ) where
       } in
       let same_e : d ≡ e = cc in
       let same_c : b ≡ c = cc in
-      subst (λ (y : FunctionCode). CodeStands i at e y) same_c (subst (λ (x : FunctionSymbol). CodeStands i at x b) same_e own)
+      subst (λ (y : FunctionCode). FunctionStands i at e y) same_c (subst (λ (x : FunctionSymbol). FunctionStands i at x b) same_e own)
   code_stands_from p (suc k) (d ∷ es) (b ∷ cs) e c stands one two =
       let parts = in_two p (item.Label d.label ∷ b.prologue) (blocks_code d.first b.blocks ++ code_from es cs) stands in
       let q = p + 4 * words_needed (expansion (item.Label d.label ∷ b.prologue)) in

@@ -1,9 +1,9 @@
 -- The symbol table of a checked program is one.
-use Rattle.std.proofs.Common.{◌≡◌, ℕ, zero, suc, ◌+◌, ◌<◌, ◌≤◌, List, [], ◌∷◌, ◌++◌, length, map, take, drop, refl, sym, ap, ◌∙◌, subst, Bool, true, false, Some, arith, inl, inr, length-append}
-use Rattle.std.specs.Prelude.{Contains, slice_get, ◌⊎◌}
+use Rattle.std.proofs.Common.{◌≡◌, ℕ, zero, suc, ◌+◌, ◌<◌, ◌≤◌, List, [], ◌∷◌, ◌++◌, length, map, take, drop, refl, sym, ap, ◌∙◌, subst, Bool, true, false, arith, inl, inr}
+use Rattle.std.specs.Prelude.{Contains}
 use Rattle.std.specs.List.{AllByRecursion, flat_map, sum_by, list_any, position_or_len}
 use Rattle.std.specs.Option.{option_to_list}
-use Rattle.std.proofs.lemmas.Bool.{cases_lt, true≢false}
+use Rattle.std.proofs.lemmas.Bool.{true≢false}
 use Rattle.std.proofs.lemmas.List.{map-append}
 use Rattle.std.proofs.lemmas.List.Concat.{flat_map-append}
 use Rattle.std.proofs.lemmas.List.Elements.{Contains-append_left, Contains-append_right, Contains-append_cases, All-contains}
@@ -20,11 +20,12 @@ use Rattle.oat_check.specs.Rules.{is_main, IsChecked}
 use Rattle.oat_check.specs.RuleLaws.{KeepsRules}
 use Rattle.oat_check.specs.Steps.{operation_number}
 use Rattle.oat_check.proofs.Checking.{keeps_rules}
-use Rattle.oat_parts.specs.Symbols.{FunctionSymbol, SymbolTable, IsFunctionSymbol, IsSymbolTable, AreDistinct, up_from, own_labels, function_labels, block_labels, labels_from, operations_in}
-use Rattle.oat_parts.proofs.Lists.{not_in_none, first_in, later_in, cons_cases, get_in, in_get, in_map, of_map, in_flat_map, of_flat_map, distinct_parts, distinct_join, map_length, up_from_in, in_up_from, up_from_distinct}
+use Rattle.oat_parts.specs.Symbols.{FunctionSymbol, SymbolTable, IsFunctionSymbol, IsSymbolTable, AreDistinct, own_labels, function_labels, operations_in}
+use Rattle.oat_parts.proofs.Lists.{first_in, later_in, cons_cases, get_in, in_get, in_map, of_map, in_flat_map, of_flat_map, distinct_parts, distinct_join}
 use Rattle.oat_symbols.proofs.Distinct.{distinct_texts, ids, distinct_ids}
+use Rattle.oat_symbols.proofs.Labels.{functions_labelled, blocks_labelled, labels_distinct}
 use Rattle.oat_symbols.proofs.Globals.{words_between, words_set, cells_between, all_by, rises_map, rising}
-use Rattle.oat_symbols.specs.Programs.{block_names, symbols_from, all_symbols, block_label, with_first, main_at, words_from, symbols_of, IsNamed, ProgramsHaveSymbols, ProgramsHaveTheirLabels}
+use Rattle.oat_symbols.specs.Programs.{block_names, symbols_from, all_symbols, label_of_block, with_first, main_at, words_from, symbols_of, IsNamed, ProgramsHaveSymbols, ProgramsHaveTheirLabels}
 
 -- ---- the functions
 
@@ -57,71 +58,6 @@ module _ (program : Program) where
           distinct = distinct_texts have_one_label (λ (b : BlockIr). b.label) g.blocks (λ x y. refl) own.labels;
         },
         symbols_are (f + 1) (n + length (block_names g)) gs (λ h has. are h (later_in g gs h has)) (λ h has. named h (later_in g gs h has)) (λ h b has also. labelled h b (later_in g gs h has) also),
-      )
-
--- ---- labels
-
-module _ (program : Program) where
-  functions_labelled : (f n : ℕ) (funcs : List Func) (x : ℕ) → f ≤ x → x < f + length funcs → Contains (function_labels (symbols_from program f n funcs)) x
-  functions_labelled f n [] x above below = absurd (omega arith)
-  functions_labelled f n (g ∷ gs) x above below =
-      let rest = function_labels (symbols_from program (f + 1) (n + length (block_names g)) gs) in
-      elim (cases_lt f x) [
-        | inl less ↦ later_in f rest x (functions_labelled (f + 1) (n + length (block_names g)) gs x (omega arith) (omega arith))
-        | inr most ↦ let same : f ≡ x = omega arith in subst (Contains (f ∷ rest)) same (first_in f rest)
-      ]
-
-  blocks_labelled : (f n : ℕ) (funcs : List Func) (k b x : ℕ) (func : Func) → slice_get funcs k ≡ Some func → b < length func.blocks → x ≡ n + length (flat_map block_names (take k funcs)) + b
-      → Contains (block_labels (symbols_from program f n funcs)) x
-  blocks_labelled f n [] k b x func at within is = absurd cc
-  blocks_labelled f n (g ∷ gs) zero b x func at within is =
-      let same : func ≡ g = cc in
-      let many : length func.blocks ≡ length g.blocks = ap (λ (h : Func). length h.blocks) same in
-      let named = map_length (λ (c : BlockIr). c.label) g.blocks in
-      Contains-append_left (up_from n (length (block_names g))) (block_labels (symbols_from program (f + 1) (n + length (block_names g)) gs)) x (in_up_from n (length (block_names g)) x (omega arith) (omega arith))
-  blocks_labelled f n (g ∷ gs) (suc k) b x func at within is =
-      let more = length-append (block_names g) (flat_map block_names (take k gs)) in
-      Contains-append_right (up_from n (length (block_names g))) (block_labels (symbols_from program (f + 1) (n + length (block_names g)) gs)) x
-      (blocks_labelled (f + 1) (n + length (block_names g)) gs k b x func at within (omega arith))
-
-  -- which labels there are
-  labels_are : (f n : ℕ) (funcs : List Func) (x : ℕ) → Contains (labels_from (symbols_from program f n funcs)) x → ((f ≤ x) × (x < f + length funcs)) ⊎ (n ≤ x)
-  labels_are f n [] x has = absurd (not_in_none x has)
-  labels_are f n (g ∷ gs) x has =
-      let own = up_from n (length (block_names g)) in
-      let rest = labels_from (symbols_from program (f + 1) (n + length (block_names g)) gs) in
-      elim (cons_cases f (own ++ rest) x has) [
-        | inl same ↦ inl (omega arith, omega arith)
-        | inr behind ↦ elim (Contains-append_cases own rest x behind) [
-          | inl here ↦ let r = up_from_in n (length (block_names g)) x here in inr r.0
-          | inr later ↦ elim (labels_are (f + 1) (n + length (block_names g)) gs x later) [
-            | inl r ↦ let a = r.0 in let b = r.1 in inl (omega arith, omega arith)
-            | inr r ↦ inr (omega arith)
-          ]
-        ]
-      ]
-
-  labels_distinct : (f n : ℕ) (funcs : List Func) → f + length funcs ≤ n → AreDistinct (labels_from (symbols_from program f n funcs))
-  labels_distinct f n [] fits = tt
-  labels_distinct f n (g ∷ gs) fits =
-      let own = up_from n (length (block_names g)) in
-      let rest = labels_from (symbols_from program (f + 1) (n + length (block_names g)) gs) in
-      let kinds = λ (x : ℕ) (has : Contains rest x). labels_are (f + 1) (n + length (block_names g)) gs x has in (
-        λ has. elim (Contains-append_cases own rest f has) [
-          | inl h ↦ let r = up_from_in n (length (block_names g)) f h in let a = r.0 in absurd (omega arith)
-          | inr h ↦ elim (kinds f h) [
-            | inl r ↦ let a = r.0 in absurd (omega arith)
-            | inr r ↦ absurd (omega arith)
-          ]
-        ],
-        distinct_join own rest (up_from_distinct n (length (block_names g))) (labels_distinct (f + 1) (n + length (block_names g)) gs (omega arith)) (λ x h also.
-            let r = up_from_in n (length (block_names g)) x h in
-            let a = r.0 in
-            let b = r.1 in
-            elim (kinds x also) [
-              | inl s ↦ let c = s.1 in absurd (omega arith)
-              | inr s ↦ absurd (omega arith)
-            ]),
       )
 
 -- ---- main first
@@ -266,7 +202,7 @@ programs_have_their_labels program ok =
           let r = of_map (λ (e : FunctionSymbol). e.label) es f (functions_labelled program 0 n program.funcs f (omega arith) (omega arith)) in
           subst (Contains (function_labels (with_first m es))) r.2 (in_map (λ (e : FunctionSymbol). e.label) (with_first m es) r.0 (has_first r.0 r.1));
       blocks = λ f b func at less.
-          let r = of_flat_map own_labels es (block_label program f b) (blocks_labelled program 0 n program.funcs f b (block_label program f b) func at less refl) in
+          let r = of_flat_map own_labels es (label_of_block program f b) (blocks_labelled program 0 n program.funcs f b (label_of_block program f b) func at less refl) in
           let there = in_get (with_first m es) r.1 (has_first r.1 (get_in es r.0 r.1 r.2)) in
-          in_flat_map own_labels (with_first m es) there.0 r.1 (block_label program f b) there.1 r.3;
+          in_flat_map own_labels (with_first m es) there.0 r.1 (label_of_block program f b) there.1 r.3;
     }

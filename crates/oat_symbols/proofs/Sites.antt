@@ -1,11 +1,10 @@
 -- Numbers of sites in a built image.
-use Rattle.std.proofs.Common.{◌≡◌, ℕ, ◌+◌, ◌<◌, ◌≤◌, List, [], ◌∷◌, ◌++◌, length, map, refl, sym, ap, ◌∙◌, subst, Bool, true, false, ◌&&◌, Option, Some, arith, inl, inr, append_assoc}
-use Rattle.std.specs.Prelude.{slice_get, Contains, nat_lt, count_by, ◌⊎◌, ⊤}
+use Rattle.std.proofs.Common.{◌≡◌, ℕ, ◌+◌, ◌<◌, ◌≤◌, List, [], ◌∷◌, ◌++◌, length, refl, sym, ap, ◌∙◌, subst, Bool, ◌&&◌, Option, Some, arith, inl, inr, append_assoc}
+use Rattle.std.specs.Prelude.{slice_get, Contains, nat_lt, count_by, ◌⊎◌}
 use Rattle.std.specs.List.{AllByRecursion}
 use Rattle.std.specs.Option.{option_and_then}
-use Rattle.std.proofs.lemmas.Bool.{cases_Bool, eq-eqb, lt-ltb, le-ltb, true≢false}
+use Rattle.std.proofs.lemmas.Bool.{cases_Bool, eq-eqb, lt-ltb, le-ltb}
 use Rattle.std.proofs.lemmas.Option.{slice_get_within}
-use Rattle.std.proofs.lemmas.List.{map-append}
 use Rattle.std.proofs.lemmas.List.Concat.{flat_map-append}
 use Rattle.std.proofs.lemmas.List.Elements.{Contains-append_cases, Contains-append_right, Contains-append_left}
 use Rattle.oat_a64.specs.Step.{code_base}
@@ -15,103 +14,23 @@ use Rattle.oat_map.specs.Rows.{address_of}
 use Rattle.oat_map.specs.EdgeName.{site, place_of, place_name, is_numbered, is_same_place, is_numbered_before}
 use Rattle.oat_asm.specs.declared.mark.Mark.{Mark}
 use Rattle.oat_asm.specs.declared.mark.Mark.TheVariants.{Ret}
-use Rattle.oat_asm.specs.declared.note.Note.TheVariants.{Check}
-use Rattle.oat_asm.specs.declared.assembled.NoteAt.{NoteAt}
 use Rattle.oat_asm.specs.declared.item.Item.{Item}
 use Rattle.oat_asm.specs.declared.item.Item.TheVariants as item
 use Rattle.oat_asm.specs.Items.{item_words, place, label_place, address, StandsOnce}
-use Rattle.oat_asm.specs.Layout.{notes_of_item, items_give}
 use Rattle.oat_asm.specs.Expansion.{expanded, expansion}
-use Rattle.oat_asm.specs.NoteRows.{row_of}
-use Rattle.oat_asm.proofs.Giving.{get_left, get_right, gives-append, before_front, before_back}
+use Rattle.oat_asm.proofs.Giving.{get_left, get_right, before_front, before_back}
 use Rattle.oat_asm.proofs.LayoutLaws.{label_placed}
 use Rattle.oat_parts.specs.Symbols.{SymbolTable, labels_of}
 use Rattle.oat_parts.specs.Parts.{AreInParts}
 use Rattle.oat_parts.specs.Built.{built_address, built_map, HasLabelsOf}
 use Rattle.oat_parts.specs.Making.{words_become}
-use Rattle.oat_parts.proofs.Lists.{not_in_none, first_in, later_in, cons_cases, in_get, in_flat_map}
+use Rattle.oat_parts.proofs.Lists.{first_in, cons_cases, in_get, in_flat_map}
 use Rattle.oat_parts.proofs.Assembling.{parts_have_the_labels}
 use Rattle.oat_parts.proofs.Making.{words_add}
-use Rattle.oat_symbols.specs.Names.{HasItsNames, is_site, SitesAreCounted}
+use Rattle.oat_symbols.specs.Names.{HasItsNames, is_site_item, SitesAreCounted}
 use Rattle.oat_symbols.proofs.Names.{built_maps_have_names}
+use Rattle.oat_symbols.proofs.SiteRows.{rows_of, rows_append, HasFewNotes, all_sites, between, few_notes}
 use Rattle.oat_symbols.proofs.Counting.{count_both, count_more, count_same, count_none, three_false_first, three_false_middle, three_false_last, three_first, below, other_place}
-
--- ---- the rows of items
-
-abbrev rows_of : (ℕ → ℕ) → ℕ → List Item → List Row
-rows_of at here items = map (λ n. row_of at n.at n.note) (items_give (notes_of_item code_base) here (expansion items))
-
-rows_append : (at : ℕ → ℕ) (here : ℕ) (xs ys : List Item) → rows_of at here (xs ++ ys) ≡ rows_of at here xs ++ rows_of at (here + words_become xs) ys
-rows_append at here xs ys =
-    let row = λ (n : NoteAt). row_of at n.at n.note in
-    ap (λ (is : List Item). map row (items_give (notes_of_item code_base) here is)) (flat_map-append expanded xs ys)
-    ∙ ap (map row) (gives-append item_words (notes_of_item code_base) here (expansion xs) (expansion ys))
-    ∙ map-append row (items_give (notes_of_item code_base) here (expansion xs)) (items_give (notes_of_item code_base) (here + words_become xs) (expansion ys))
-
--- a note is that of a check
-abbrev HasFewNotes : Item → Type 0
-HasFewNotes (item.Note n) = n ≡ Check
-HasFewNotes _ = ⊤
-
--- an item has no row, or one, which has no number or stands over words
-data Own (at : ℕ → ℕ) (here : ℕ) (x : Item) : Type 0 where
-  none : rows_of at here (x ∷ []) ≡ [] → Own at here x
-  uncounted : (row : Row) → rows_of at here (x ∷ []) ≡ row ∷ [] → is_numbered row ≡ false → Own at here x
-  one : (row : Row) → rows_of at here (x ∷ []) ≡ row ∷ [] → address_of row ≡ address code_base here → 1 ≤ words_become (x ∷ []) → Own at here x
-
-own : (at : ℕ → ℕ) (here : ℕ) (x : Item) → HasFewNotes x → Own at here x
-own at here (item.Inst i) few = none refl
-own at here (item.Label l) few = none refl
-own at here (item.BranchTo form l) few = none refl
-own at here (item.AddressOf r l) few = none refl
-own at here (item.Note n) few = subst (λ m. Own at here (item.Note m)) (sym few) (uncounted _ refl refl)
-own at here (item.Mark Ret) few = one _ refl refl (omega arith)
-own at here (item.Mark _) few = one _ refl refl (omega arith)
-
-own_sites : (at : ℕ → ℕ) (here : ℕ) (x : Item) → HasFewNotes x → count_by is_numbered (rows_of at here (x ∷ [])) ≡ count_by is_site (x ∷ [])
-own_sites at here (item.Note n) few = subst (λ m. count_by is_numbered (rows_of at here (item.Note m ∷ [])) ≡ count_by is_site (item.Note m ∷ [])) (sym few) refl
-own_sites at here (item.Mark Ret) few = refl
-own_sites at here _ few = refl
-
-all_sites : (at : ℕ → ℕ) (here : ℕ) (items : List Item) → AllByRecursion HasFewNotes items → count_by is_numbered (rows_of at here items) ≡ count_by is_site items
-all_sites at here [] few = refl
-all_sites at here (x ∷ xs) few =
-    let split = ap (count_by is_numbered) (rows_append at here (x ∷ []) xs) in
-    let rows = count_both is_numbered (rows_of at here (x ∷ [])) (rows_of at (here + words_become (x ∷ [])) xs) in
-    omega (arith, split, rows, count_both is_site (x ∷ []) xs, own_sites at here x few.0, all_sites at (here + words_become (x ∷ [])) xs few.1)
-
--- a row with a number stands between the places of its items
-abbrev IsBetween : ℕ → ℕ → Row → Type 0
-IsBetween from to row = (address code_base from ≤ address_of row) × (address_of row < address code_base to)
-
-own_between : (at : ℕ → ℕ) (here : ℕ) (x : Item) (row : Row) → Contains (rows_of at here (x ∷ [])) row → is_numbered row ≡ true → Own at here x → IsBetween here (here + words_become (x ∷ [])) row
-own_between at here x row has counted (none e) = absurd (not_in_none row (subst (λ (rs : List Row). Contains rs row) e has))
-own_between at here x row has counted (uncounted r e free) =
-    elim (cons_cases r [] row (subst (λ (rs : List Row). Contains rs row) e has)) [
-      | inl same ↦ absurd (true≢false (sym counted ∙ sym (ap is_numbered same) ∙ free))
-      | inr later ↦ absurd (not_in_none row later)
-    ]
-own_between at here x row has counted (one r e there some) =
-    elim (cons_cases r [] row (subst (λ (rs : List Row). Contains rs row) e has)) [
-      | inl same ↦ let a : address_of r ≡ address_of row = ap address_of same in (omega arith, omega arith)
-      | inr later ↦ absurd (not_in_none row later)
-    ]
-
-between : (at : ℕ → ℕ) (here : ℕ) (items : List Item) (row : Row) → AllByRecursion HasFewNotes items → Contains (rows_of at here items) row → is_numbered row ≡ true → IsBetween here (here + words_become items) row
-between at here [] row few has counted = absurd (not_in_none row has)
-between at here (x ∷ xs) row few has counted =
-    let front = words_become (x ∷ []) in
-    let sum : words_become (x ∷ xs) ≡ front + words_become xs = words_add (x ∷ []) xs in
-    elim (Contains-append_cases (rows_of at here (x ∷ [])) (rows_of at (here + front) xs) row (subst (λ (rs : List Row). Contains rs row) (rows_append at here (x ∷ []) xs) has)) [
-      | inl here_ ↦ let r = own_between at here x row here_ counted (own at here x few.0) in let a = r.0 in let b = r.1 in (omega arith, omega arith)
-      | inr later ↦ let r = between at (here + front) xs row few.1 later counted in let a = r.0 in let b = r.1 in (omega arith, omega arith)
-    ]
-
-few_notes : (items : List Item) → ((x : Item) → Contains items x → HasFewNotes x) → AllByRecursion HasFewNotes items
-few_notes [] each = tt
-few_notes (x ∷ xs) each = (each x (first_in x xs), few_notes xs (λ y has. each y (later_in x xs y has)))
-
--- ---- the site
 
 module _ (t : SymbolTable) (before middle behind : List Item) (l : ℕ) (m : Mark) (unlabelled : (x : ℕ) → Contains middle (item.Label x) → ⊥) where
   abbrev tail : List Item
@@ -288,14 +207,14 @@ module _ (t : SymbolTable) (before middle behind : List Item) (l : ℕ) (m : Mar
           | inl counted ↦ three_false_middle (is_numbered row) (near row) (same row) (le-ltb (address_of row) target (between at here tail row few_tail has counted).0)
         ])
 
-    number : count_by counts flow.rows ≡ count_by is_site middle
+    number : count_by counts flow.rows ≡ count_by is_site_item middle
     number =
         let mid = rows_of at start (item.Label l ∷ middle) in
         let back = rows_of at here tail in
         let all = ap (count_by counts) rows_are in
-        omega (arith, all, count_both counts (rows_of at 0 before) (mid ++ back), count_both counts mid back, none_before, all_between, none_behind, all_sites at start (item.Label l ∷ middle) few_middle, count_more is_site (item.Label l) middle)
+        omega (arith, all, count_both counts (rows_of at 0 before) (mid ++ back), count_both counts mid back, none_before, all_between, none_behind, all_sites at start (item.Label l ∷ middle) few_middle, count_more is_site_item (item.Label l) middle)
 
-    pub site_is : site flow target ≡ record { place = place_name flow (at l); number = count_by is_site middle }
+    pub site_is : site flow target ≡ record { place = place_name flow (at l); number = count_by is_site_item middle }
     site_is =
         ap (λ (o : Option ℕ). record { place = option_and_then (place_name flow) o; number = count_by counts flow.rows }) place_here
         ∙ ap (λ (n : ℕ). record { place = place_name flow (at l); number = n }) number
@@ -306,5 +225,5 @@ sites_are_counted t items before middle behind l m table made is unlabelled =
     let made_so : AreInParts t ys = subst (λ (zs : List Item). AreInParts t zs) is made in
     let there : address code_base (0 + words_become before + words_become (item.Label l ∷ middle)) ≡ address code_base (words_become before + words_become middle) = omega arith in
     let found = site_is t before middle behind l m unlabelled (parts_have_the_labels t ys table made_so) (built_maps_have_names t ys table made_so) in
-    subst (λ (zs : List Item). site (built_map t zs) (address code_base (words_become before + words_become middle)) ≡ record { place = place_name (built_map t zs) (built_address zs l); number = count_by is_site middle }) (sym is)
-    (subst (λ (a : ℕ). site (built_map t ys) a ≡ record { place = place_name (built_map t ys) (built_address ys l); number = count_by is_site middle }) there found)
+    subst (λ (zs : List Item). site (built_map t zs) (address code_base (words_become before + words_become middle)) ≡ record { place = place_name (built_map t zs) (built_address zs l); number = count_by is_site_item middle }) (sym is)
+    (subst (λ (a : ℕ). site (built_map t ys) a ≡ record { place = place_name (built_map t ys) (built_address ys l); number = count_by is_site_item middle }) there found)

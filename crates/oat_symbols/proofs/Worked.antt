@@ -15,7 +15,7 @@ use Rattle.oat_ir.specs.Indices.{HasLocal, IsInstr}
 use Rattle.oat_ir.specs.WellFormed.{IsLocal, IsBlockIr, IsFunc, IsProgram, IsGlobal}
 use Rattle.oat_ir.specs.WorkedPrograms.{idle, idle_main, idle_program}
 use Rattle.oat_check.specs.Rules.{IsChecked}
-use Rattle.oat_parts.specs.Parts.{plain, mark}
+use Rattle.oat_parts.specs.Parts.{simple, mark}
 use Rattle.oat_parts.specs.Making.{AreCodes}
 use Rattle.oat_parts.proofs.Lists.{not_in_none, cons_cases}
 use Rattle.oat_symbols.specs.Programs.{symbols_of, IsNamed}
@@ -93,13 +93,13 @@ are_codes : AreCodes (symbols_of idle_program) (symbols_of idle_program).functio
 are_codes = (
   record {
     prologue = record {
-      made = record { parts = plain (SubImm 31 31 16) ∷ []; are = refl; each = (((omega arith, (omega arith, (omega arith, tt))), refl), tt); paced = (tt, refl); labelled = refl; begins = refl };
+      made = record { parts = simple (SubImm 31 31 16) ∷ []; are = refl; each = (((omega arith, (omega arith, (omega arith, tt))), refl), tt); paced = (tt, refl); labelled = refl; begins = refl };
       word = omega arith;
     };
     blocks = (
       record {
         made = record {
-          parts = mark (Call 0) ∷ plain (Svc 0) ∷ [];
+          parts = mark (Call 0) ∷ simple (Svc 0) ∷ [];
           are = refl;
           each = ((1, omega arith, refl), (((omega arith, tt), refl), tt));
           paced = (tt, (tt, refl));

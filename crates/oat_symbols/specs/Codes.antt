@@ -58,7 +58,7 @@ ProgramsAreBuilt =
 
 -- ---- where the code of functions and blocks stands
 
-pub record CodeStands (i : Image) (label : ℕ → ℕ) (e : FunctionSymbol) (c : FunctionCode) : Type 0 where
+pub record FunctionStands (i : Image) (label : ℕ → ℕ) (e : FunctionSymbol) (c : FunctionCode) : Type 0 where
   pub prologue_stands : ItemsStand i label (label e.label) (expansion c.prologue)
   pub first : 1 ≤ length c.blocks → label e.first ≡ label e.label + 4 * words_become c.prologue
   pub blocks_follow : (b : ℕ) (body : List Item) → slice_get c.blocks b ≡ Some body → b + 1 < length c.blocks
@@ -68,7 +68,7 @@ pub record CodeStands (i : Image) (label : ℕ → ℕ) (e : FunctionSymbol) (c 
 abbrev pub CodesStand : Type 0
 CodesStand =
     (i : Image) (label : ℕ → ℕ) (p k : ℕ) (es : List FunctionSymbol) (cs : List FunctionCode) (e : FunctionSymbol) (c : FunctionCode)
-    → ItemsStand i label p (expansion (code_from es cs)) → slice_get es k ≡ Some e → slice_get cs k ≡ Some c → CodeStands i label e c
+    → ItemsStand i label p (expansion (code_from es cs)) → slice_get es k ≡ Some e → slice_get cs k ≡ Some c → FunctionStands i label e c
 
 abbrev pub function_words : FunctionSymbol → FunctionCode → ℕ
 function_words e c = words_become c.prologue + words_become (blocks_code e.first c.blocks)

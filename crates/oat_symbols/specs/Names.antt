@@ -42,9 +42,9 @@ is_site_mark (ICall params) = true
 is_site_mark Ret = true
 is_site_mark _ = false
 
-abbrev pub is_site : Item → Bool
-is_site (item.Mark m) = is_site_mark m
-is_site _ = false
+abbrev pub is_site_item : Item → Bool
+is_site_item (item.Mark m) = is_site_mark m
+is_site_item _ = false
 
 -- the site of a mark has the place of the last label before it, and its number counts the sites between
 abbrev pub SitesAreCounted : Type 0
@@ -52,7 +52,7 @@ SitesAreCounted =
     (t : SymbolTable) (items before middle behind : List Item) (l : ℕ) (m : Mark) → IsSymbolTable t → AreInParts t items
     → items ≡ before ++ item.Label l ∷ (middle ++ item.Mark m ∷ behind) → ((x : ℕ) → Contains middle (item.Label x) → ⊥)
     → site (built_map t items) (address code_base (words_become before + words_become middle))
-    ≡ record { place = place_name (built_map t items) (built_address items l); number = count_by is_site middle }
+    ≡ record { place = place_name (built_map t items) (built_address items l); number = count_by is_site_item middle }
 
 -- in an image with the shape a return site is named by its call
 abbrev pub CallSitesAreFound : Type 0

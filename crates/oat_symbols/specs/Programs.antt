@@ -37,8 +37,8 @@ symbols_from program f first (func ∷ funcs) = symbol_for program f first func 
 abbrev pub all_symbols : Program → List FunctionSymbol
 all_symbols program = symbols_from program 0 (length program.funcs) program.funcs
 
-abbrev pub block_label : Program → ℕ → ℕ → ℕ
-block_label program f b = length program.funcs + length (flat_map block_names (take f program.funcs)) + b
+abbrev pub label_of_block : Program → ℕ → ℕ → ℕ
+label_of_block program f b = length program.funcs + length (flat_map block_names (take f program.funcs)) + b
 
 -- the m-th first
 abbrev pub with_first : {X : Type 0} → ℕ → List X → List X
@@ -77,7 +77,7 @@ ProgramsHaveSymbols = (program : Program) → IsChecked program → IsNamed prog
 pub record HasItsLabels (program : Program) : Type 0 where
   pub functions : (f : ℕ) → f < length program.funcs → IsFunctionLabel (symbols_of program) f
   pub blocks : (f b : ℕ) (func : Func) → slice_get program.funcs f ≡ Some func → b < length func.blocks
-      → IsBlockLabel (symbols_of program) (block_label program f b)
+      → IsBlockLabel (symbols_of program) (label_of_block program f b)
 
 abbrev pub ProgramsHaveTheirLabels : Type 0
 ProgramsHaveTheirLabels = (program : Program) → IsChecked program → HasItsLabels program
