@@ -6,6 +6,7 @@ mod Places
 mod Codes
 mod Finding
 mod Names
+mod SourceNames
 mod CallSites
 mod Counting
 mod SiteRows

@@ -174,7 +174,7 @@ programs_have_symbols program ok named =
     subst (λ (es : List FunctionSymbol). IsSymbolTable (with_functions t es)) (sym (ap (λ (h : List FunctionSymbol). h ++ (take m (all_symbols program) ++ drop (m + 1) (all_symbols program))) s.2))
     (main_first t (take m (all_symbols program)) (drop (m + 1) (all_symbols program)) s.0 ordered)
 
-first_has : {A : Type 0} (m : ℕ) (xs : List A) (x : A) → m < length xs → Contains xs x → Contains (with_first m xs) x
+pub first_has : {A : Type 0} (m : ℕ) (xs : List A) (x : A) → m < length xs → Contains xs x → Contains (with_first m xs) x
 first_has m xs x less has =
     let s = split_at m xs less in
     let front = take m xs in

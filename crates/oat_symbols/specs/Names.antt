@@ -13,10 +13,18 @@ use Rattle.oat_asm.specs.declared.mark.Mark.TheVariants.{Jump, Branch, Call, ICa
 use Rattle.oat_asm.specs.declared.item.Item.{Item}
 use Rattle.oat_asm.specs.declared.item.Item.TheVariants as item
 use Rattle.oat_asm.specs.Items.{address}
+use Rattle.oat_ir.specs.declared.program.Program.{Program}
+use Rattle.oat_ir.specs.declared.func.Func.{Func}
+use Rattle.oat_ir.specs.declared.func.BlockIr.{BlockIr}
+use Rattle.oat_ir.specs.declared.source.SourceSite.{SourceSite}
+use Rattle.oat_check.specs.Naming.{source_func_name, source_block_name}
+use Rattle.oat_check.specs.Rules.{IsChecked}
 use Rattle.oat_parts.specs.Symbols.{FunctionSymbol, SymbolTable, IsSymbolTable, labels_of}
 use Rattle.oat_parts.specs.Parts.{AreInParts}
 use Rattle.oat_parts.specs.Built.{built_address, built_map}
-use Rattle.oat_parts.specs.Making.{words_become}
+use Rattle.oat_parts.specs.Making.{FunctionCode, AreCodes, words_become}
+use Rattle.oat_symbols.specs.Programs.{label_of_block, symbols_of, IsNamed}
+use Rattle.oat_symbols.specs.Codes.{items_for}
 
 -- functions and blocks have their names at their labels, and the place of an address is the last label at or below it
 pub record HasItsNames (t : SymbolTable) (m : Map) (address_of_label : ℕ → ℕ) : Type 0 where
@@ -30,6 +38,18 @@ pub record HasItsNames (t : SymbolTable) (m : Map) (address_of_label : ℕ → �
 abbrev pub BuiltMapsHaveNames : Type 0
 BuiltMapsHaveNames =
     (t : SymbolTable) (items : List Item) → IsSymbolTable t → AreInParts t items → HasItsNames t (built_map t items) (built_address items)
+
+-- the places of a program's functions and blocks have the names that its source has
+pub record HasSourceNames (program : Program) (m : Map) (address_of_label : ℕ → ℕ) : Type 0 where
+  pub functions : (at : SourceSite) (func : Func) → slice_get program.funcs at.func ≡ Some func
+      → place_name m (address_of_label at.func) ≡ source_func_name program at
+  pub blocks : (at : SourceSite) (func : Func) (block : BlockIr) → slice_get program.funcs at.func ≡ Some func → slice_get func.blocks at.block ≡ Some block
+      → place_name m (address_of_label (label_of_block program at.func at.block)) ≡ source_block_name program at
+
+abbrev pub PlacesAreNamedBySource : Type 0
+PlacesAreNamedBySource =
+    (program : Program) (codes : List FunctionCode) → IsChecked program → IsNamed program → AreCodes (symbols_of program) (symbols_of program).functions codes
+    → HasSourceNames program (built_map (symbols_of program) (items_for program codes)) (built_address (items_for program codes))
 
 -- ---- sites
 

@@ -1,6 +1,6 @@
 //! Laws of symbol tables and built images, each the contract of a function that does nothing.
 ghost use Rattle.oat_symbols.specs.Codes.{CodesAreOfTheProgram, CodesFollow, CodesStand, ProgramsAreBuilt};
-ghost use Rattle.oat_symbols.specs.Names.{BuiltMapsHaveNames, CallSitesAreFound, SitesAreCounted};
+ghost use Rattle.oat_symbols.specs.Names.{BuiltMapsHaveNames, CallSitesAreFound, PlacesAreNamedBySource, SitesAreCounted};
 ghost use Rattle.oat_symbols.specs.Programs.{ProgramsHaveSymbols, ProgramsHaveTheirLabels};
 ghost use Rattle.oat_symbols.specs.Worked.{IdleIsBuilt};
 
@@ -41,6 +41,11 @@ pub fn codes_follow()
 /// Functions and blocks have their names in the map, and the place of an address is the last label at or below it.
 pub fn built_maps_have_names()
     ensures { BuiltMapsHaveNames }
+{}
+
+/// The places of a program's functions and blocks have the names that its source has.
+pub fn places_are_named_by_source()
+    ensures { PlacesAreNamedBySource }
 {}
 
 /// A return site is named by its call.
