@@ -106,6 +106,8 @@ goes_fits flow (rows.Begin at op) before step to goes = absurd goes
 goes_fits flow (rows.End at op) before step to goes = absurd goes
 goes_fits flow (rows.UseCell at cell) before step to goes = no_return step passed goes.0 refl
 goes_fits flow (rows.DefCell at cell) before step to goes = no_return step passed goes.0 refl
+goes_fits flow (rows.UseAt at cell len) before step to goes = no_return step passed goes.0 refl
+goes_fits flow (rows.DefAt at cell len) before step to goes = no_return step passed goes.0 refl
 goes_fits flow (rows.Check at) before step to goes = no_return step passed goes.0 refl
 
 path_more : (step : Step) (steps : List Step) → returns_of (path_of (step ∷ steps)) ≡ cons_option (option_and_then return_of (edge_of step)) (returns_of (path_of steps))

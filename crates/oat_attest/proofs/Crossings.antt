@@ -17,7 +17,7 @@ use Rattle.oat_shape.specs.Groups.{Stands}
 use Rattle.oat_journal.specs.Run.{Entry}
 use Rattle.oat_journal.specs.Journal.{takes_input}
 use Rattle.oat_journal.specs.Window.{shown_edge, edge_over}
-use Rattle.oat_attest.specs.Lockstep.{plain, calling}
+use Rattle.oat_attest.specs.Lockstep.{Placed, plain, calling}
 use Rattle.oat_shape.specs.Laid.{IsLaid}
 use Rattle.oat_attest.proofs.Stretches.{Runs, machine, moved_to, GoesOn, no_runs, entry_by, pop, Crossed, arrives, crossed_cons}
 
@@ -44,8 +44,16 @@ next_at p q is low =
     mod-eq_of_lt small ∙ sym is
 
 -- the edge of a transfer whose row and place are known
-edge_is : (flow : Map) (over row : Option Row) (p q to : ℕ) (edge : Option Edge) → over ≡ row → q ≡ to → edge_over flow row p to ≡ edge → edge_over flow over p q ≡ edge
+pub edge_is : (flow : Map) (over row : Option Row) (p q to : ℕ) (edge : Option Edge) → over ≡ row → q ≡ to → edge_over flow row p to ≡ edge → edge_over flow over p q ≡ edge
 edge_is flow over row p q to edge one two is = ap₂ (λ (o : Option Row) (x : ℕ). edge_over flow o p x) one two ∙ is
+
+-- an instruction in front that makes no call and shows no edge
+pub silent : (image : Image) (op : ℕ) {i : Inst} {r : Regs} {p q : ℕ} {s : (ℕ → ℕ) → Regs} {es : List Entry} (a : Led image op i r p q s es) (group : List Placed) (to : ℕ)
+    → shown_edge image.map op (entry_by i (moved_to r p) a.memory) ≡ None → monitor_call i (moved_to r p) ≡ None
+    → Crossed image op a.rest group [] to → Crossed image op es (plain p ∷ group) [] to
+silent image op {i} {r} {p} {q} {s} {es} a group to shows none crossed =
+    subst (λ (call : Option MonitorCall). Crossed image op es (record { at = p; call = call } ∷ group) [] to) none
+    (crossed_cons image op i (moved_to r p) a.memory a.rest es group None [] to a.whole shows (λ c v u. let both : None ≡ Some (svc.Use c v) = sym none ∙ u in cc) crossed)
 
 -- ---- jumps and calls
 
@@ -173,46 +181,37 @@ stuck code op r p number stands (e ∷ es) runs =
     (subst (λ (xs : List Entry). Runs code op (moved_to r p) xs) rest
     (subst (λ (q : Regs). Runs code op q a.rest) (traps_stay number r p a.memory) a.runs))
 
--- a skip by a test of a register or of the flags
-skips : (image : Image) → IsLaid image → (op at number : ℕ) → Contains image.map.rows (rows.Check at) → (r : Regs) (es : List Entry)
-    → (i : Inst) → Stands image.code at i → Stands image.code (at + 4) (Brk number) → takes_input i ≡ false → monitor_call i (moved_to r at) ≡ None
-    → (test : Bool) → ((memory : ℕ → ℕ) → (act i (machine (moved_to r at) memory)).machine.regs ≡ moved_to r (cond test (branch_target at (pos 2)) (next_pc at)))
-    → ((memory : ℕ → ℕ) → shown_edge image.map op (entry_by i (moved_to r at) memory) ≡ None)
-    → Runs image.code op (moved_to r at) es → Crossed image op es (plain at ∷ []) [] (at + 8)
-skips image laid op at number has r es i stands trap dry none true leaves silent runs =
-    let (fits, short, ends) = laid.low (rows.Check at) has in
-    let low : at + 8 < 2 ^ 64 = omega arith in
-    let on : branch_target at (pos 2) ≡ at + 8 = mod-eq_of_lt low in
-    let a = lead image op i r at (at + 8) (λ _. r) es stands dry (λ o h. let both : None ≡ Some (svc.End o) = sym none ∙ h in cc) (λ m. leaves m ∙ ap (moved_to r) on) runs in
-    subst (λ (call : Option MonitorCall). Crossed image op es (record { at = at; call = call } ∷ []) [] (at + 8)) none
-    (crossed_cons image op i (moved_to r at) a.memory a.rest es [] None [] (at + 8) a.whole (silent a.memory)
-    (λ c v u. let both : None ≡ Some (svc.Use c v) = sym none ∙ u in cc)
-    (arrives image op r a.rest (at + 8) (at + 8) refl a.runs))
-skips image laid op at number has r es i stands trap dry none false leaves silent runs =
-    let (fits, short, ends) = laid.low (rows.Check at) has in
-    let low : at + 4 < 2 ^ 64 = omega arith in
-    let a = lead image op i r at (at + 4) (λ _. r) es stands dry (λ o h. let both : None ≡ Some (svc.End o) = sym none ∙ h in cc) (λ m. leaves m ∙ ap (moved_to r) (next_at at (at + 4) refl low)) runs in
-    absurd (stuck image.code op r (at + 4) number trap a.rest a.runs)
+-- A test that skips a trap holds, since the run goes on: it leads behind the trap.
+pub skips : (image : Image) (op p q to number : ℕ) → q ≡ p + 4 → to ≡ p + 8 → to < 2 ^ 64 → (r : Regs) (es : List Entry)
+    → (i : Inst) → Stands image.code p i → Stands image.code q (Brk number) → takes_input i ≡ false → monitor_call i (moved_to r p) ≡ None
+    → (test : Bool) → ((memory : ℕ → ℕ) → (act i (machine (moved_to r p) memory)).machine.regs ≡ moved_to r (cond test (branch_target p (pos 2)) (next_pc p)))
+    → Runs image.code op (moved_to r p) es → (test ≡ true) × Led image op i r p to (λ _. r) es
+skips image op p q to number q_is to_is low r es i stands trap dry none true leaves runs =
+    let small : p + 8 < 2 ^ 64 = omega arith in
+    let on : branch_target p (pos 2) ≡ to = mod-eq_of_lt small ∙ sym to_is in
+    (refl, lead image op i r p to (λ _. r) es stands dry (λ o h. let both : None ≡ Some (svc.End o) = sym none ∙ h in cc) (λ m. leaves m ∙ ap (moved_to r) on) runs)
+skips image op p q to number q_is to_is low r es i stands trap dry none false leaves runs =
+    let a = lead image op i r p q (λ _. r) es stands dry (λ o h. let both : None ≡ Some (svc.End o) = sym none ∙ h in cc)
+    (λ m. leaves m ∙ ap (moved_to r) (next_at p q q_is (omega arith))) runs in
+    absurd (stuck image.code op r q number trap a.rest a.runs)
 
-if_leads : (t : Bool) (a b : Effect) (r : Regs) (p q : ℕ) → a.machine.regs ≡ moved_to r p → b.machine.regs ≡ moved_to r q → (cond t a b).machine.regs ≡ moved_to r (cond t p q)
+pub if_leads : (t : Bool) (a b : Effect) (r : Regs) (p q : ℕ) → a.machine.regs ≡ moved_to r p → b.machine.regs ≡ moved_to r q → (cond t a b).machine.regs ≡ moved_to r (cond t p q)
 if_leads true a b r p q x y = x
 if_leads false a b r p q x y = y
-
-silent_check : (flow : Map) (over : Option Row) (at p q : ℕ) → over ≡ Some (rows.Check at) → edge_over flow over p q ≡ None
-silent_check flow over at p q is = ap (λ (o : Option Row). edge_over flow o p q) is
 
 pub cross_check : (image : Image) → IsLaid image → (op at : ℕ) → Contains image.map.rows (rows.Check at) → (r : Regs) (es : List Entry)
     → Runs image.code op (moved_to r at) es → Crossed image op es (plain at ∷ []) [] (at + 8)
 cross_check image laid op at has r es runs =
+    let (fits, short, ends) = laid.low (rows.Check at) has in
     let over = laid.over (rows.Check at) at has (omega arith, omega arith) in
     let group = laid.group (rows.Check at) has in
     elim group.0 [
       | inl (rt, stands) ↦
-          skips image laid op at group.1.0 has r es (Cbnz rt (pos 2)) stands group.1.1 refl refl (not (eqb (reg r rt) 0))
-          (λ memory. if_leads (not (eqb (reg r rt) 0)) _ _ r (branch_target at (pos 2)) (next_pc at) refl refl)
-          (λ memory. silent_check image.map _ at at _ over) runs
+          let a = skips image op at (at + 4) (at + 8) group.1.0 refl refl (omega arith) r es (Cbnz rt (pos 2)) stands group.1.1 refl refl (not (eqb (reg r rt) 0))
+          (λ memory. if_leads (not (eqb (reg r rt) 0)) _ _ r (branch_target at (pos 2)) (next_pc at) refl refl) runs in
+          silent image op a.1 [] (at + 8) (edge_is image.map _ _ at _ _ None over refl refl) refl (arrives image op r a.1.rest (at + 8) (at + 8) refl a.1.runs)
       | inr (c, stands) ↦
-          skips image laid op at group.1.0 has r es (BCond c (pos 2)) stands group.1.1 refl refl (holds c (moved_to r at))
-          (λ memory. if_leads (holds c (moved_to r at)) _ _ r (branch_target at (pos 2)) (next_pc at) refl refl)
-          (λ memory. silent_check image.map _ at at _ over) runs
+          let a = skips image op at (at + 4) (at + 8) group.1.0 refl refl (omega arith) r es (BCond c (pos 2)) stands group.1.1 refl refl (holds c (moved_to r at))
+          (λ memory. if_leads (holds c (moved_to r at)) _ _ r (branch_target at (pos 2)) (next_pc at) refl refl) runs in
+          silent image op a.1 [] (at + 8) (edge_is image.map _ _ at _ _ None over refl refl) refl (arrives image op r a.1.rest (at + 8) (at + 8) refl a.1.runs)
     ]

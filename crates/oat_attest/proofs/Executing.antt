@@ -103,6 +103,10 @@ group_records flow (rows.UseCell at cell) before step to group goes made =
     records_by step _ group _ goes.0 made.3 (record { bits = refl; targets = refl; returns = refl; some = omega arith })
 group_records flow (rows.DefCell at cell) before step to group goes made =
     records_by step _ group _ goes.0 made.3 (record { bits = refl; targets = refl; returns = refl; some = omega arith })
+group_records flow (rows.UseAt at first len) before step to group goes made =
+    records_by step _ group _ goes.0 made.3 (record { bits = refl; targets = refl; returns = refl; some = omega arith })
+group_records flow (rows.DefAt at first len) before step to group goes made =
+    records_by step _ group _ goes.0 made.3 (record { bits = refl; targets = refl; returns = refl; some = omega arith })
 group_records flow (rows.Check at) before step to group goes made =
     records_by step _ group _ goes.0 made (record { bits = refl; targets = refl; returns = refl; some = omega arith })
 
@@ -216,6 +220,12 @@ group_cells image laid (rows.UseCell at cell) before step to group has goes made
     let there : slice_get image.cells own ≡ Some index = ap (slice_get image.cells) named ∙ cell_is in
     (own, named, ap (seen_placed (used image.cells)) is ∙ ap (λ (o : Option ℕ). cons_option (option_map (λ i. own) o) []) there)
 group_cells image laid (rows.DefCell at cell) before step to group has goes made = cells_by image (rows.DefCell at cell) group _ made.3 refl
+group_cells image laid (rows.UseAt at first len) before step to group has goes made =
+    let (index, elements, stands) = laid.group (rows.UseAt at first len) has in
+    let (own, value, named, is) = made in
+    let there : slice_get image.cells own ≡ Some (index + named.0) = ap (slice_get image.cells) named.2 ∙ elements.consecutive named.0 named.1 in
+    (own, named, ap (seen_placed (used image.cells)) is ∙ ap (λ (o : Option ℕ). cons_option (option_map (λ i. own) o) []) there)
+group_cells image laid (rows.DefAt at first len) before step to group has goes made = cells_by image (rows.DefAt at first len) group _ made.3 refl
 group_cells image laid (rows.Check at) before step to group has goes made = cells_by image (rows.Check at) group _ made refl
 
 -- The cells that a window uses are those of the rows that its steps pass.

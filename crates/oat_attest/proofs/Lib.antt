@@ -4,7 +4,9 @@ mod TrueReturns
 mod Stretches
 mod Skips
 mod Crossings
+mod Accesses
 mod CellCrossings
+mod ElementCrossings
 mod Places
 mod RowRuns
 mod Executing

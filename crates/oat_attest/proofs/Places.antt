@@ -9,7 +9,7 @@ use Rattle.oat_map.specs.declared.edge.Edge.TheVariants as edges
 use Rattle.oat_map.specs.declared.map.Map.{Map}
 use Rattle.oat_map.specs.declared.map.Function.{Function}
 use Rattle.oat_map.specs.declared.row.Row.{Row}
-use Rattle.oat_map.specs.declared.row.Row.TheVariants.{Jump, Branch, Call, ICall, Ret, Begin, End, UseCell, DefCell, Check}
+use Rattle.oat_map.specs.declared.row.Row.TheVariants.{Jump, Branch, Call, ICall, Ret, Begin, End, UseCell, DefCell, UseAt, DefAt, Check}
 use Rattle.oat_map.specs.Rows.{after, entries_of, IsIndirectTarget, is_call, is_called_at, is_returned_to}
 use Rattle.oat_map.specs.Walk.{Step, passed, moved, return_site_of, Returns, RowGoes}
 use Rattle.oat_image.specs.declared.image.Image.{Image}
@@ -60,6 +60,8 @@ goes_site flow (Begin at op) before step to has g = absurd g
 goes_site flow (End at op) before step to has g = absurd g
 goes_site flow (UseCell at cell) before step to has g = no_site flow.rows step passed g.0 refl
 goes_site flow (DefCell at cell) before step to has g = no_site flow.rows step passed g.0 refl
+goes_site flow (UseAt at cell len) before step to has g = no_site flow.rows step passed g.0 refl
+goes_site flow (DefAt at cell len) before step to has g = no_site flow.rows step passed g.0 refl
 goes_site flow (Check at) before step to has g = no_site flow.rows step passed g.0 refl
 
 pub returns_site : (rows : List Row) (before : List Step) (to : ℕ) → AreCalled rows before → Returns before to → IsReturnSite rows to
@@ -94,6 +96,8 @@ goes_clear image laid (Begin at op) before step to has called g = absurd g
 goes_clear image laid (End at op) before step to has called g = absurd g
 goes_clear image laid (UseCell at cell) before step to has called g = clear_behind image laid (UseCell at cell) to has g.1
 goes_clear image laid (DefCell at cell) before step to has called g = clear_behind image laid (DefCell at cell) to has g.1
+goes_clear image laid (UseAt at cell len) before step to has called g = clear_behind image laid (UseAt at cell len) to has g.1
+goes_clear image laid (DefAt at cell len) before step to has called g = clear_behind image laid (DefAt at cell len) to has g.1
 goes_clear image laid (Check at) before step to has called g = clear_behind image laid (Check at) to has g.1
 
 -- no branch leads into its own group

@@ -23,6 +23,7 @@ use Rattle.oat_attest.proofs.Stretches.{Runs, moved_to, runs_stand, Crossed, Ski
 use Rattle.oat_attest.proofs.Skips.{skip}
 use Rattle.oat_attest.proofs.Crossings.{cross_jump, cross_call, cross_icall, cross_ret, cross_taken, cross_other, cross_check}
 use Rattle.oat_attest.proofs.CellCrossings.{cross_use, cross_define, cross_end, cross_begin, BegunBy}
+use Rattle.oat_attest.proofs.ElementCrossings.{cross_use_at, cross_define_at}
 
 -- From an address on a run makes the group of a row, and goes on.
 pub record Past (image : Image) (op from : ℕ) (row : Row) (shown : List Edge) (to : ℕ) (es : List Entry) : Type 0 where
@@ -55,6 +56,8 @@ RowRuns image op from (rows.Begin at begun) es = BegunBy es
 RowRuns image op from (rows.End at ended) es = Over image op from at ended es
 RowRuns image op from (rows.UseCell at cell) es = Past image op from (rows.UseCell at cell) [] (after (rows.UseCell at cell)) es
 RowRuns image op from (rows.DefCell at cell) es = Past image op from (rows.DefCell at cell) [] (after (rows.DefCell at cell)) es
+RowRuns image op from (rows.UseAt at cell len) es = Past image op from (rows.UseAt at cell len) [] (after (rows.UseAt at cell len)) es
+RowRuns image op from (rows.DefAt at cell len) es = Past image op from (rows.DefAt at cell len) [] (after (rows.DefAt at cell len)) es
 RowRuns image op from (rows.Check at) es = Past image op from (rows.Check at) [] (after (rows.Check at)) es
 
 -- a run that has come to the next row
@@ -220,6 +223,14 @@ run_come image op from (rows.DefCell at cell) es come =
     let row = rows.DefCell at cell in
     let d = cross_define image come.laid op at cell come.has come.skipped.regs come.skipped.rest come.skipped.runs in
     behind image op from row (at + 20) es come (come.laid.low row come.has).2 (past image op from row [] (at + 20) es _ come d.crossed (cell, d.value, refl, refl))
+run_come image op from (rows.UseAt at cell len) es come =
+    let row = rows.UseAt at cell len in
+    let u = cross_use_at image come.laid op at cell len come.has come.skipped.regs come.skipped.rest come.skipped.runs in
+    behind image op from row (at + 40) es come (come.laid.low row come.has).2 (past image op from row [] (at + 40) es _ come u.crossed (cell + u.element, u.value, (u.element, u.below, refl), refl))
+run_come image op from (rows.DefAt at cell len) es come =
+    let row = rows.DefAt at cell len in
+    let d = cross_define_at image come.laid op at cell len come.has come.skipped.regs come.skipped.rest come.skipped.runs in
+    behind image op from row (at + 40) es come (come.laid.low row come.has).2 (past image op from row [] (at + 40) es _ come d.crossed (cell + d.element, d.value, (d.element, d.below, refl), refl))
 run_come image op from (rows.Check at) es come =
     let row = rows.Check at in
     behind image op from row (at + 8) es come (come.laid.low row come.has).2

@@ -3,11 +3,11 @@ use Rattle.std.proofs.Common.{◌≡◌, ℕ, zero, suc, Contains, ◌+◌, ◌*
 use Rattle.std.specs.List.{slice_get, find}
 use Rattle.std.proofs.lemmas.Bool.{cases_lt, cases_Bool, or_parts, le-leb, leb-false, ne_eqb}
 use Rattle.oat_a64.specs.declared.inst.Inst.{Inst}
-use Rattle.oat_a64.specs.declared.inst.Inst.TheVariants.{B, Bl, BCond, Cbz, Cbnz, Blr, Ret, Ldr, Str, Svc, Brk}
-use Rattle.oat_a64.specs.Step.{Regs, Machine, Effect, act, next_pc, wrap, reg_or_sp, instruction_at}
+use Rattle.oat_a64.specs.declared.inst.Inst.TheVariants.{B, Bl, BCond, Cbz, Cbnz, Blr, Ret, Ldr, Str, LdrReg, StrReg, Svc, Brk}
+use Rattle.oat_a64.specs.Step.{Regs, Machine, Effect, act, next_pc, wrap, reg, reg_or_sp, instruction_at}
 use Rattle.oat_mem.specs.DataMemory.{can_access}
 use Rattle.oat_map.specs.declared.row.Row.{Row}
-use Rattle.oat_map.specs.declared.row.Row.TheVariants.{Jump, Branch, Call, ICall, Begin, End, UseCell, DefCell, Check}
+use Rattle.oat_map.specs.declared.row.Row.TheVariants.{Jump, Branch, Call, ICall, Begin, End, UseCell, DefCell, UseAt, DefAt, Check}
 use Rattle.oat_map.specs.declared.row.Row.TheVariants as rows
 use Rattle.oat_map.specs.Rows.{address_of, next}
 use Rattle.oat_image.specs.declared.image.Image.{Image}
@@ -71,6 +71,8 @@ plain_pc (Blr rn) m h = absurd (cc)
 plain_pc (Ret rn) m h = absurd (cc)
 plain_pc (Ldr rt rn imm) m h = stays_cond (can_access (wrap (reg_or_sp m.regs rn + 8 * imm))) _ _ _ (inr refl) (inl refl)
 plain_pc (Str rt rn imm) m h = stays_cond (can_access (wrap (reg_or_sp m.regs rn + 8 * imm))) _ _ _ (inr refl) (inl refl)
+plain_pc (LdrReg rt rn rm) m h = stays_cond (can_access (wrap (reg_or_sp m.regs rn + 8 * reg m.regs rm))) _ _ _ (inr refl) (inl refl)
+plain_pc (StrReg rt rn rm) m h = stays_cond (can_access (wrap (reg_or_sp m.regs rn + 8 * reg m.regs rm))) _ _ _ (inr refl) (inl refl)
 plain_pc (Svc n) m h = stays_cond (leb n 9) _ _ _ (inr refl) (inl refl)
 plain_pc (Brk n) m h = stays_cond (leb 1 n && leb n 4) _ _ _ (inl refl) (inl refl)
 plain_pc _ m h = inr refl
@@ -167,6 +169,8 @@ group_coded image laid (Begin at op) g = laid.coded at _ g.0
 group_coded image laid (End at op) g = laid.coded at _ g.0
 group_coded image laid (UseCell at cell) g = laid.coded at _ g.2.0.0
 group_coded image laid (DefCell at cell) g = laid.coded at _ g.2.0.0
+group_coded image laid (UseAt at cell len) g = laid.coded at _ g.2.0.0
+group_coded image laid (DefAt at cell len) g = laid.coded at _ g.2.0.0
 group_coded image laid (Check at) (inl s, b) = laid.coded at _ s.1
 group_coded image laid (Check at) (inr s, b) = laid.coded at _ s.1
 

@@ -204,6 +204,10 @@ turn image op before t (rows.UseCell at cell) step to steps place finish es call
     advance image op before t (rows.UseCell at cell) step passed to _ steps place finish es f f.goes.0 f.goes.1 p
 turn image op before t (rows.DefCell at cell) step to steps place finish es called f p =
     advance image op before t (rows.DefCell at cell) step passed to _ steps place finish es f f.goes.0 f.goes.1 p
+turn image op before t (rows.UseAt at cell len) step to steps place finish es called f p =
+    advance image op before t (rows.UseAt at cell len) step passed to _ steps place finish es f f.goes.0 f.goes.1 p
+turn image op before t (rows.DefAt at cell len) step to steps place finish es called f p =
+    advance image op before t (rows.DefAt at cell len) step passed to _ steps place finish es f f.goes.0 f.goes.1 p
 turn image op before t (rows.Check at) step to steps place finish es called f p =
     advance image op before t (rows.Check at) step passed to _ steps place finish es f f.goes.0 f.goes.1 p
 

@@ -5,7 +5,7 @@ use Rattle.oat_map.specs.declared.edge.Edge.{Edge}
 use Rattle.oat_map.specs.declared.edge.Edge.TheVariants as edges
 use Rattle.oat_map.specs.declared.map.Map.{Map}
 use Rattle.oat_map.specs.declared.row.Row.{Row}
-use Rattle.oat_map.specs.declared.row.Row.TheVariants.{Jump, Branch, Call, ICall, Ret, Begin, End, UseCell, DefCell, Check}
+use Rattle.oat_map.specs.declared.row.Row.TheVariants.{Jump, Branch, Call, ICall, Ret, Begin, End, UseCell, DefCell, UseAt, DefAt, Check}
 use Rattle.oat_map.specs.Walk.{Step, passed, moved, edge_of, path_of, Returns, RowGoes, Leads}
 use Rattle.oat_attest.specs.Lockstep.{AllReturnsMatch}
 use Rattle.oat_attest.proofs.Moves.{returns_moves}
@@ -24,6 +24,8 @@ ret_goes flow (Begin a o) before to at goes g = absurd g
 ret_goes flow (End a o) before to at goes g = absurd g
 ret_goes flow (UseCell a c) before to at goes g = let h = g.0 in absurd (cc)
 ret_goes flow (DefCell a c) before to at goes g = let h = g.0 in absurd (cc)
+ret_goes flow (UseAt a c l) before to at goes g = let h = g.0 in absurd (cc)
+ret_goes flow (DefAt a c l) before to at goes g = let h = g.0 in absurd (cc)
 ret_goes flow (Check a) before to at goes g = let h = g.0 in absurd (cc)
 
 head_is : (e f : Edge) (es fs : List Edge) → e ∷ es ≡ f ∷ fs → e ≡ f

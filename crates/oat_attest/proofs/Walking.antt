@@ -145,6 +145,12 @@ turn image op before calls t (rows.UseCell at cell) es f p =
 turn image op before calls t (rows.DefCell at cell) es f p =
     advance image op before calls calls t (rows.DefCell at cell) passed _ es f (refl, refl) p (IsStack-passed before calls f.stack)
     (goes_back image op before calls t (rows.DefCell at cell) es [] _ f p)
+turn image op before calls t (rows.UseAt at cell len) es f p =
+    advance image op before calls calls t (rows.UseAt at cell len) passed _ es f (refl, refl) p (IsStack-passed before calls f.stack)
+    (goes_back image op before calls t (rows.UseAt at cell len) es [] _ f p)
+turn image op before calls t (rows.DefAt at cell len) es f p =
+    advance image op before calls calls t (rows.DefAt at cell len) passed _ es f (refl, refl) p (IsStack-passed before calls f.stack)
+    (goes_back image op before calls t (rows.DefAt at cell len) es [] _ f p)
 turn image op before calls t (rows.Check at) es f p =
     advance image op before calls calls t (rows.Check at) passed _ es f (refl, refl) p (IsStack-passed before calls f.stack)
     (goes_back image op before calls t (rows.Check at) es [] _ f p)

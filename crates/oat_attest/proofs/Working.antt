@@ -1,21 +1,21 @@
 -- The worked windows and paths.
-use Rattle.std.proofs.Common.{◌+◌, ◌≡◌, ℕ, suc, zero, List, [], ◌∷◌, ◌++◌, map, Some, length, ◌≤◌, refl, sym, ap, subst, ◌∙◌, arith, inl, Contains, append-nil}
+use Rattle.std.proofs.Common.{◌+◌, ◌*◌, ◌≡◌, ℕ, pos, suc, zero, List, [], ◌∷◌, ◌++◌, map, Some, length, ◌≤◌, refl, sym, ap, subst, ◌∙◌, arith, inl, Contains, append-nil}
 use Rattle.std.specs.List.{slice_get}
 use Rattle.std.specs.Option.{option_and_then}
 use Rattle.oat_map.specs.declared.edge.Edge.TheVariants as edges
 use Rattle.oat_map.specs.declared.row.Row.{Row}
 use Rattle.oat_map.specs.declared.row.Row.TheVariants as rows
-use Rattle.oat_map.specs.Walk.{Step, moved, Returns, return_site_of}
+use Rattle.oat_map.specs.Walk.{Step, passed, moved, Returns, return_site_of}
 use Rattle.oat_map.proofs.WalkLemmas.{Returns-one}
 use Rattle.oat_journal.specs.Run.{Entry, pc_of}
 use Rattle.oat_attest.specs.Headline.{IsUseOf, IsLoadOf, AllReadByLoad}
 use Rattle.oat_attest.specs.Lockstep.{Placed, placed_of, Makes, Executes, PassesCells, AllReturnsMatch}
-use Rattle.oat_a64.specs.declared.inst.Inst.TheVariants.{Movz, Movk, Ldr, Svc}
+use Rattle.oat_a64.specs.declared.inst.Inst.TheVariants.{AddReg, SubsReg, Movz, Movk, Ldr, LdrReg, BCond, Svc}
 use Rattle.oat_mem.specs.DataMemory.{word_in}
 use Rattle.oat_attest.proofs.Lists.{get_contains}
 use Rattle.oat_attest.proofs.Stretches.{none_read, read_cons}
-use Rattle.oat_attest.proofs.CellCrossings.{loads_use}
-use Rattle.oat_attest.specs.Worked.{two_uses, two_uses_map, made_at, use_at, both_passed, cells_used, TwoUses, three_calls, SecondIsFalse}
+use Rattle.oat_attest.proofs.Accesses.{loads_use}
+use Rattle.oat_attest.specs.Worked.{two_uses, two_uses_map, made_at, use_at, both_passed, cells_used, TwoUses, one_element, made_at_element, use_element, OneElement, three_calls, SecondIsFalse}
 
 -- ---- two uses
 
@@ -110,8 +110,8 @@ group_read : (memory : ℕ → ℕ) (at : ℕ) (rest : List Entry) → Contains 
 group_read memory at rest among all =
     read_cons two_uses (made_at memory at (Movz 11 0 0)) _ (λ c v u. cc)
     (read_cons two_uses (made_at memory (at + 4) (Movk 11 1 0x4000)) _ (λ c v u. cc)
-    (loads_use two_uses (rows.UseCell at 0) (made_at memory (at + 8) (Ldr 10 11 0)) (made_at memory (at + 12) (Movz 9 0 0)) (made_at memory (at + 16) (Svc 7)) rest
-    0 (word_in memory 0x40000000) 0 among refl refl refl refl refl refl (refl, refl, refl) (omega arith) refl all))
+    (loads_use two_uses (rows.UseCell at 0) (made_at memory (at + 8) (Ldr 10 11 0)) (made_at memory (at + 12) (Movz 9 0 0) ∷ []) (made_at memory (at + 16) (Svc 7)) rest
+    0 (word_in memory 0x40000000) 0 among (refl, refl, (refl, refl, tt)) refl refl refl refl (refl, refl, refl) (omega arith) refl all))
 
 own_load : (memory : ℕ → ℕ) → AllReadByLoad two_uses (use_at memory 0x10008 ++ use_at memory 0x1001C)
 own_load memory =
@@ -131,6 +131,61 @@ two_uses_are_paired memory = record {
   own_load = own_load memory;
   other_load = other_load memory;
 }
+
+-- ---- one element
+
+executed : (memory : ℕ → ℕ) → Executes one_element 1 [] 0x10008 (passed ∷ []) (use_element memory 1) 0x10030 []
+executed memory = (
+  rows.UseAt 0x10008 0 2,
+  0x10030,
+  [],
+  (refl, refl),
+  record {
+    stands = (_, refl, refl);
+    at_row = refl;
+    way = [];
+    quiet = tt;
+    group = use_element memory 1;
+    made = (1, _, (1, omega arith, refl), refl);
+    shows = refl;
+    whole = refl;
+  },
+  (refl, refl),
+)
+
+own_element : (memory : ℕ → ℕ) → AllReadByLoad one_element (use_element memory 1)
+own_element memory =
+    read_cons one_element (made_at_element memory 1 0x10008 (Movz 11 0 2)) _ (λ c v u. cc)
+    (read_cons one_element (made_at_element memory 1 0x1000C (SubsReg 31 12 11)) _ (λ c v u. cc)
+    (read_cons one_element (made_at_element memory 1 0x10010 (BCond 3 (pos 2))) _ (λ c v u. cc)
+    (read_cons one_element (made_at_element memory 1 0x10018 (Movz 11 0 0)) _ (λ c v u. cc)
+    (read_cons one_element (made_at_element memory 1 0x1001C (Movk 11 1 0x4000)) _ (λ c v u. cc)
+    (loads_use one_element (rows.UseAt 0x10008 0 2) (made_at_element memory 1 0x10020 (LdrReg 10 11 12)) (made_at_element memory 1 0x10024 (Movz 9 0 0) ∷ made_at_element memory 1 0x10028 (AddReg 9 9 12 0) ∷ [])
+    (made_at_element memory 1 0x1002C (Svc 7)) [] 1 (word_in memory 0x40000008) 1 (1, omega arith, refl) (refl, refl, (refl, refl, (refl, refl, tt))) refl refl (1, omega arith, refl) refl (refl, refl, refl) refl refl
+    (none_read one_element))))))
+
+-- the one row with uses
+element_row : (k : ℕ) (row : Row) (call : Entry) → slice_get one_element.map.rows k ≡ Some row → IsUseOf row call → row ≡ rows.UseAt 0x10008 0 2
+element_row zero row call is by = let same : rows.Begin 0x10000 1 ≡ row = cc in absurd (subst (λ (r : Row). IsUseOf r call) (sym same) by)
+element_row (suc zero) row call is by = let same : rows.UseAt 0x10008 0 2 ≡ row = cc in sym same
+element_row (suc (suc zero)) row call is by = let same : rows.End 0x10030 1 ≡ row = cc in absurd (subst (λ (r : Row). IsUseOf r call) (sym same) by)
+element_row (suc (suc (suc k))) row call is by = absurd (cc)
+
+other_element : (memory : ℕ → ℕ) → AllReadByLoad one_element (use_element memory 0) → ⊥
+other_element memory all =
+    let r = all 8 1 (word_in memory 0x40000008) 1 _ refl refl refl in
+    let row = element_row r.among.0 r.row _ (get_contains one_element.map.rows r.row r.among) r.called in
+    let loads = subst (λ (x : Row). IsLoadOf x r.load 0x40000008) row r.loaded in
+    let place : pc_of r.load ≡ 0x10020 = loads.0 in
+    let apart = r.apart in
+    let behind = r.behind in
+    let before : r.before ≡ 5 = omega arith in
+    let load = some_entry _ _ (subst (λ (k : ℕ). slice_get (use_element memory 0) k ≡ Some r.load) before r.stands) in
+    let address : 0x40000000 + 8 * 0 ≡ 0x40000008 = ap (λ (e : Entry). e.found.regs.x 11 + 8 * e.found.regs.x 12) load ∙ loads.2 in
+    absurd (omega arith)
+
+pub one_element_is_read : (memory : ℕ → ℕ) → OneElement memory
+one_element_is_read memory = record { executed = executed memory; own_element = own_element memory; other_element = other_element memory }
 
 -- ---- three calls
 

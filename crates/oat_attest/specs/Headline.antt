@@ -1,5 +1,5 @@
 -- The headline: what is claimed where the verifier accepts the blob of a device run (docs/PROMISES.md).
-use Rattle.std.specs.Prelude.{◌≡◌, ◌≢◌, ◌+◌, ◌*◌, ◌⊎◌, ℕ, ℤ, List, Option, Some, Contains, map, slice_get}
+use Rattle.std.specs.Prelude.{◌≡◌, ◌≢◌, ◌+◌, ◌*◌, ◌<◌, ◌⊎◌, ℕ, ℤ, List, Option, Some, Contains, map, slice_get}
 use Rattle.std.specs.List.{All}
 use Rattle.sha2.specs.Sha256.{sha256}
 use Rattle.oat_blob.specs.Body.{Body}

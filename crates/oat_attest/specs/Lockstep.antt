@@ -38,7 +38,7 @@ calling at call = record { at = at; call = Some call }
 
 -- where the instructions of an element's use or define stand before the monitor call; the trap isn't met
 abbrev pub element_places : ℕ → List ℕ
-element_places at = at ∷ at + 4 ∷ at + 8 ∷ at + 16 ∷ at + 20 ∷ at + 24 ∷ at + 28 ∷ at + 32 ∷ []
+element_places at = at ∷ (at + 4) ∷ (at + 8) ∷ (at + 16) ∷ (at + 20) ∷ (at + 24) ∷ (at + 28) ∷ (at + 32) ∷ []
 
 -- The instructions that the run makes of a row's group, where it shows these edges and goes on at `to`: all of them in their order, but for the last of a branch that is taken and of a check, and for the trap of an element's test.
 abbrev pub IsGroupRun : Row → List Edge → ℕ → List Placed → Type 0

@@ -1,8 +1,8 @@
--- Worked windows and paths that tell the statements apart from weaker ones: from equal lists of cells, from a load somewhere, and from a false return somewhere.
-use Rattle.std.specs.Prelude.{◌≡◌, ◌+◌, ◌==◌, if◌then◌else◌, ℕ, List, [], ◌∷◌, ◌++◌, map, codes, false}
+-- Worked windows and paths that tell the statements apart from weaker ones: from equal lists of cells, from a load somewhere, from the load of another element, and from a false return somewhere.
+use Rattle.std.specs.Prelude.{◌≡◌, ◌+◌, ◌==◌, if◌then◌else◌, ℕ, pos, List, [], ◌∷◌, ◌++◌, map, codes, false}
 use Rattle.oat_a64.specs.declared.inst.Inst.{Inst}
-use Rattle.oat_a64.specs.declared.inst.Inst.TheVariants.{Movz, Movk, Ldr, Svc}
-use Rattle.oat_a64.specs.Step.{Regs, Machine, act, first_regs}
+use Rattle.oat_a64.specs.declared.inst.Inst.TheVariants.{AddReg, SubsReg, Movz, Movk, Ldr, LdrReg, BCond, Svc}
+use Rattle.oat_a64.specs.Step.{Machine, act, first_regs}
 use Rattle.oat_mem.specs.DataMemory.{word_in}
 use Rattle.oat_map.specs.declared.edge.Edge.{Edge}
 use Rattle.oat_map.specs.declared.edge.Edge.TheVariants as edges
@@ -33,17 +33,15 @@ two_uses = record {
   map = two_uses_map;
 }
 
--- an instruction that is made at an address, where X9, X10 and X11 hold the cell's number, its word and that word's address
-abbrev pub regs_at : (ℕ → ℕ) → ℕ → Regs
-regs_at memory pc = record first_regs {
-  x = λ k. if k == 10 then word_in memory 0x40000000 else (if k == 11 then 0x40000000 else 0);
-  pc = pc;
-}
-
-abbrev pub made_at : (ℕ → ℕ) → ℕ → Inst → Entry
-made_at memory pc inst =
-    let m : Machine = record { regs = regs_at memory pc; memory = memory } in
+-- an instruction that is made at an address, with these registers
+abbrev pub made_with : (ℕ → ℕ) → (ℕ → ℕ) → ℕ → Inst → Entry
+made_with x memory pc inst =
+    let m : Machine = record { regs = record first_regs { x = x; pc = pc }; memory = memory } in
     record { inst = inst; found = m; left = (act inst m).machine.regs }
+
+-- one where X9, X10 and X11 hold the cell's number, its word and that word's address
+abbrev pub made_at : (ℕ → ℕ) → ℕ → Inst → Entry
+made_at memory pc inst = made_with (λ k. if k == 10 then word_in memory 0x40000000 else (if k == 11 then 0x40000000 else 0)) memory pc inst
 
 -- the group of a UseCell row of cell 0
 abbrev pub use_at : (ℕ → ℕ) → ℕ → List Entry
@@ -71,6 +69,37 @@ pub record TwoUses (memory : ℕ → ℕ) : Type 0 where
   -- each use is read by the load of its own group, and not by that of the other, though it stands two instructions before and reads the cell's word
   pub own_load : AllReadByLoad two_uses (use_at memory 0x10008 ++ use_at memory 0x1001C)
   pub other_load : AllReadByLoad two_uses (made_at memory 0x10010 (Ldr 10 11 0) ∷ made_at memory 0x10028 (Movz 9 0 0) ∷ made_at memory 0x1002C (Svc 7) ∷ []) → ⊥
+
+-- ---- an operation that uses an element of an array of two
+
+abbrev pub one_element : Image
+one_element = record {
+  code =
+      0xD2800029 ∷ 0xD4000021 ∷ 0xD280004B ∷ 0xEB0B019F ∷ 0x54000043 ∷ 0xD4200040 ∷ 0xD280000B ∷ 0xF2A8000B
+      ∷ 0xF86C796A ∷ 0xD2800009 ∷ 0x8B0C0129 ∷ 0xD40000E1 ∷ 0xD2800029 ∷ 0xD4000041 ∷ 0xD4000001 ∷ [];
+  words = [];
+  cells = 0 ∷ 1 ∷ [];
+  map = record two_uses_map { rows = rows.Begin 0x10000 1 ∷ rows.UseAt 0x10008 0 2 ∷ rows.End 0x10030 1 ∷ [] };
+}
+
+-- an instruction that is made at an address, where X9 and X10 hold the number and the word of the second element's cell, X11 the address of the first one's word, and X12 a number
+abbrev pub made_at_element : (ℕ → ℕ) → ℕ → ℕ → Inst → Entry
+made_at_element memory number pc inst =
+    made_with (λ k. if k == 9 then 1 else (if k == 10 then word_in memory 0x40000008 else (if k == 11 then 0x40000000 else (if k == 12 then number else 0)))) memory pc inst
+
+-- the group of its row, but for the trap, where the second element's cell is named
+abbrev pub use_element : (ℕ → ℕ) → ℕ → List Entry
+use_element memory number =
+    made_at_element memory number 0x10008 (Movz 11 0 2) ∷ made_at_element memory number 0x1000C (SubsReg 31 12 11) ∷ made_at_element memory number 0x10010 (BCond 3 (pos 2))
+    ∷ made_at_element memory number 0x10018 (Movz 11 0 0) ∷ made_at_element memory number 0x1001C (Movk 11 1 0x4000) ∷ made_at_element memory number 0x10020 (LdrReg 10 11 12)
+    ∷ made_at_element memory number 0x10024 (Movz 9 0 0) ∷ made_at_element memory number 0x10028 (AddReg 9 9 12 0) ∷ made_at_element memory number 0x1002C (Svc 7) ∷ []
+
+pub record OneElement (memory : ℕ → ℕ) : Type 0 where
+  -- the row is passed by its group without the trap, and it may use the second cell
+  pub executed : Executes one_element 1 [] 0x10008 (passed ∷ []) (use_element memory 1) 0x10030 []
+  -- the use is read by the load of its own group where X12 has the second element's number, and not where that load reads the first element
+  pub own_element : AllReadByLoad one_element (use_element memory 1)
+  pub other_element : AllReadByLoad one_element (use_element memory 0) → ⊥
 
 -- ---- three calls, of which the second returns to the first one's site again
 

@@ -3,7 +3,7 @@ ghost use Rattle.std.specs.Prelude.{ℕ};
 ghost use Rattle.oat_attest.specs.Headline.{Headline};
 ghost use Rattle.oat_attest.specs.Honest.{HonestRunsAreAccepted, HonestRunsWalk, SoundRunsAreAccepted, TracesAreWalks};
 ghost use Rattle.oat_attest.specs.Lockstep.{ClashOfUnequalReturns, ExactViolations, Lockstep, SamePath};
-ghost use Rattle.oat_attest.specs.Worked.{SecondIsFalse, TwoUses};
+ghost use Rattle.oat_attest.specs.Worked.{OneElement, SecondIsFalse, TwoUses};
 
 /// The violation that a sealed run reports is that of the first checked use that wasn't sound.
 pub fn exact_violations()
@@ -53,6 +53,11 @@ pub fn sound_runs_are_accepted()
 /// Two rows that use one cell are passed each by its own group, and a use is read by the load of its own group.
 pub fn uses_are_paired_by_groups()
     ensures { (memory : ℕ → ℕ) → TwoUses memory }
+{}
+
+/// A row that uses an element of an array is passed by its group without the trap, and the use is read by a load of that very element.
+pub fn elements_are_read_by_their_loads()
+    ensures { (memory : ℕ → ℕ) → OneElement memory }
 {}
 
 /// Where the second of three returns is false, run and path don't part at the third.

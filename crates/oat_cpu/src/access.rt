@@ -39,6 +39,7 @@ impl Cpu {
     pub(crate) fn element(&self, base: u8, number: u8) -> u64
         ensures { result ≡ wrap (reg_or_sp (regs_of self.now) base + 8 * reg (regs_of self.now) number) }
     {
-        self.reg_or_sp(base).wrapping_add(self.reg(number).wrapping_mul(8))
+        let offset = self.reg(number).wrapping_mul(8);
+        self.reg_or_sp(base).wrapping_add(offset)
     }
 }

@@ -1,5 +1,5 @@
 use crate::Cpu;
-use oat_a64::{Event, FaultKind};
+use oat_a64::{Event, FaultKind, Inst, decode};
 use oat_mem::Memory;
 use std::alloc::AllocError;
 
@@ -15,9 +15,37 @@ const LAST: u64 = STACK - 8;
 
 const UNDEFINED: Event = Event::Fault(FaultKind::Undefined(START));
 
+const LDR_REG: Inst = Inst::LdrReg {
+    rt: 0,
+    rn: 1,
+    rm: 2,
+};
+
+const STR_REG: Inst = Inst::StrReg {
+    rt: 0,
+    rn: 1,
+    rm: 2,
+};
+
+fn outside(address: u64) -> Event {
+    Event::Fault(FaultKind::Access(address))
+}
+
 // N, Z, C and V as the bits of a number, N the highest.
 fn flags_of(cpu: &Cpu) -> u8 {
     u8::from(cpu.n) * 8 + u8::from(cpu.z) * 4 + u8::from(cpu.c) * 2 + u8::from(cpu.v)
+}
+
+#[test]
+fn words_are_those_of_the_manual(rt: HostRuntime) {
+    for (word, inst) in [
+        (0xF862_7820, Some(LDR_REG)), // LDR X0, [X1, X2, LSL #3]
+        (0xF822_7820, Some(STR_REG)), // STR X0, [X1, X2, LSL #3]
+        (0xF862_6820, None), // LDR X0, [X1, X2]
+        (0xF862_F820, None), // LDR X0, [X1, X2, SXTX #3]
+    ] {
+        assert!(rt; decode(word) == inst, "{word:x}");
+    }
 }
 
 #[test]
@@ -47,12 +75,40 @@ fn values_are_those_of_the_manual(rt: HostRuntime) -> Result<(), AllocError> {
         (0xF2E0_0020, [0, 0, 0], 1 << 48, 0), // MOVK X0, #1, LSL #48
         (0x9A82_0420, [5, 6, 0], 7, 0), // CSINC X0, X1, X2, EQ
         (0xF940_0020, [LAST, 0, 0], 9, 0), // LDR X0, [X1]
+        (0xF862_7820, [LAST - 16, 2, 0], 9, 0), // LDR X0, [X1, X2, LSL #3]
+        (0xF862_7820, [STACK, u64::MAX, 0], 9, 0),
+        (0xF862_7820, [LAST - 8, LEAST / 4 + 1, 0], 9, 0),
+        (0xF87F_7820, [LAST, 0, 0], 9, 0), // LDR X0, [X1, XZR, LSL #3]
+        (0xF862_7BE0, [0, u64::MAX, 0], 9, 0), // LDR X0, [SP, X2, LSL #3]
+        (0xF862_783F, [LAST, 0, 0], 0, 0), // LDR XZR, [X1, X2, LSL #3]
     ] {
         let mut cpu = Cpu::start();
         [cpu.x[1], cpu.x[2], cpu.x[3]] = x;
         let told = cpu.step(&[word], &mut memory);
         let found = (told, cpu.pc, cpu.x[0], flags_of(&cpu));
         assert!(rt; found == (Event::Next, NEXT, x0, flags), "{word:x}");
+    }
+    Ok(())
+}
+
+#[test]
+fn words_are_stored_as_the_manual_says(rt: HostRuntime) -> Result<(), AllocError> {
+    let mut memory = Memory::zeroed(rt.alloc())?;
+    // A word, X1 to X3, and the last word of the stack after it.
+    for (word, x, stored) in [
+        (0xF900_0023, [LAST, 0, 4], 4), // STR X3, [X1]
+        (0xF822_7823, [LAST - 16, 2, 5], 5), // STR X3, [X1, X2, LSL #3]
+        (0xF822_7823, [STACK, u64::MAX, 6], 6),
+        (0xF822_7823, [LAST - 16, 1, 7], 6),
+        (0xF83F_7823, [LAST, 0, 8], 8), // STR X3, [X1, XZR, LSL #3]
+        (0xF822_7BE3, [0, u64::MAX, 9], 9), // STR X3, [SP, X2, LSL #3]
+        (0xF822_783F, [LAST, 0, 0], 0), // STR XZR, [X1, X2, LSL #3]
+    ] {
+        let mut cpu = Cpu::start();
+        [cpu.x[1], cpu.x[2], cpu.x[3]] = x;
+        let told = cpu.step(&[word], &mut memory);
+        let found = (told, cpu.pc, memory.read8(LAST));
+        assert!(rt; found == (Event::Next, NEXT, Some(stored)), "{word:x}");
     }
     Ok(())
 }
@@ -67,6 +123,9 @@ fn words_lead_where_the_manual_says(rt: HostRuntime) -> Result<(), AllocError> {
         (0xD420_0080, Event::Brk(4), (START, STACK, 0)), // BRK #4
         (0xD420_0000, UNDEFINED, (START, STACK, 0)), // BRK #0
         (0xD65F_03C1, UNDEFINED, (START, STACK, 0)), // RET X30 with a bit in a fixed place
+        (0xF862_6820, UNDEFINED, (START, STACK, 0)), // LDR X0, [X1, X2]
+        (0xF862_7BE0, outside(STACK), (START, STACK, 0)), // LDR X0, [SP, X2, LSL #3]
+        (0xF822_7820, outside(0), (START, STACK, 0)), // STR X0, [X1, X2, LSL #3]
         (0xD100_43FF, Event::Next, (NEXT, STACK - 16, 0)), // SUB SP, SP, #16
         (0xCB01_03FF, Event::Next, (NEXT, STACK, 0)), // SUB XZR, XZR, X1
         (0x97FF_FFFF, Event::Next, (START - 4, STACK, NEXT)), // BL, one word back

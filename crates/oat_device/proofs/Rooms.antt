@@ -7,7 +7,7 @@ use Rattle.oat_a64.specs.declared.event.Event.{Event}
 use Rattle.oat_a64.specs.declared.event.Event.TheVariants as event
 use Rattle.oat_a64.specs.declared.inst.Inst.{Inst}
 use Rattle.oat_a64.specs.Fetch.{inst_of}
-use Rattle.oat_a64.specs.declared.inst.Inst.TheVariants.{BCond, Cbz, Cbnz, Ldr, Str, Svc, Brk}
+use Rattle.oat_a64.specs.declared.inst.Inst.TheVariants.{BCond, Cbz, Cbnz, Ldr, Str, LdrReg, StrReg, Svc, Brk}
 use Rattle.oat_a64.specs.Step.{Regs, Machine, Effect, instruction_at, word_at, act, acts, decodes, step, holds, reg, reg_or_sp, wrap, next_pc}
 use Rattle.oat_mem.specs.DataMemory.{can_access}
 use Rattle.oat_case.specs.declared.case.Write.{Write}
@@ -63,6 +63,8 @@ calls-are (Cbz rt z) m = call-if (eqb (reg m.regs rt) 0) _ _ (Cbz rt z) m tt tt
 calls-are (Cbnz rt z) m = call-if (not (eqb (reg m.regs rt) 0)) _ _ (Cbnz rt z) m tt tt
 calls-are (Ldr rt rn imm) m = call-if (can_access (wrap (reg_or_sp m.regs rn + 8 * imm))) _ _ (Ldr rt rn imm) m tt tt
 calls-are (Str rt rn imm) m = call-if (can_access (wrap (reg_or_sp m.regs rn + 8 * imm))) _ _ (Str rt rn imm) m tt tt
+calls-are (LdrReg rt rn rm) m = call-if (can_access (wrap (reg_or_sp m.regs rn + 8 * reg m.regs rm))) _ _ (LdrReg rt rn rm) m tt tt
+calls-are (StrReg rt rn rm) m = call-if (can_access (wrap (reg_or_sp m.regs rn + 8 * reg m.regs rm))) _ _ (StrReg rt rn rm) m tt tt
 calls-are (Svc number) m = call-if (leb number 9) _ _ (Svc number) m (refl, refl) tt
 calls-are (Brk number) m = call-if (leb 1 number && leb number 4) _ _ (Brk number) m tt tt
 calls-are _ m = tt

@@ -4,7 +4,7 @@ use Rattle.oat_a64.specs.declared.event.Event.{Event}
 use Rattle.oat_a64.specs.declared.event.Event.TheVariants as event
 use Rattle.oat_a64.specs.declared.inst.Inst.{Inst}
 use Rattle.oat_a64.specs.Fetch.{inst_of}
-use Rattle.oat_a64.specs.declared.inst.Inst.TheVariants.{BCond, Cbz, Cbnz, Ldr, Str, Svc, Brk}
+use Rattle.oat_a64.specs.declared.inst.Inst.TheVariants.{BCond, Cbz, Cbnz, Ldr, Str, LdrReg, StrReg, Svc, Brk}
 use Rattle.oat_a64.specs.Step.{Regs, Machine, Effect, instruction_at, word_at, act, acts, decodes, step, holds, reg, reg_or_sp, wrap}
 use Rattle.oat_mem.specs.DataMemory.{can_access}
 use Rattle.oat_case.specs.declared.case.Write.{Write}
@@ -39,6 +39,8 @@ tells (Cbz rt z) m r = fits-if (eqb (reg m.regs rt) 0) _ _ (Cbz rt z) r refl ref
 tells (Cbnz rt z) m r = fits-if (not (eqb (reg m.regs rt) 0)) _ _ (Cbnz rt z) r refl refl
 tells (Ldr rt rn imm) m r = fits-if (can_access (wrap (reg_or_sp m.regs rn + 8 * imm))) _ _ (Ldr rt rn imm) r refl tt
 tells (Str rt rn imm) m r = fits-if (can_access (wrap (reg_or_sp m.regs rn + 8 * imm))) _ _ (Str rt rn imm) r refl tt
+tells (LdrReg rt rn rm) m r = fits-if (can_access (wrap (reg_or_sp m.regs rn + 8 * reg m.regs rm))) _ _ (LdrReg rt rn rm) r refl tt
+tells (StrReg rt rn rm) m r = fits-if (can_access (wrap (reg_or_sp m.regs rn + 8 * reg m.regs rm))) _ _ (StrReg rt rn rm) r refl tt
 tells (Svc number) m r = fits-if (leb number 9) _ _ (Svc number) r refl tt
 tells (Brk number) m r = fits-if (leb 1 number && leb number 4) _ _ (Brk number) r refl tt
 tells _ m r = refl

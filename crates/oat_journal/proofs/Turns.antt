@@ -4,7 +4,7 @@ use Rattle.std.specs.Option.{option_and_then}
 use Rattle.oat_a64.specs.declared.event.Event.{Event}
 use Rattle.oat_a64.specs.declared.event.Event.TheVariants as event
 use Rattle.oat_a64.specs.declared.inst.Inst.{Inst}
-use Rattle.oat_a64.specs.declared.inst.Inst.TheVariants.{BCond, Cbz, Cbnz, Ldr, Str, Svc, Brk}
+use Rattle.oat_a64.specs.declared.inst.Inst.TheVariants.{BCond, Cbz, Cbnz, Ldr, Str, LdrReg, StrReg, Svc, Brk}
 use Rattle.oat_a64.specs.Fetch.{inst_of}
 use Rattle.oat_a64.specs.Step.{Regs, Machine, Effect, instruction_at, word_at, decodes, acts, act, step, with_reg, unsigned, holds, reg, reg_or_sp, wrap}
 use Rattle.oat_mem.specs.DataMemory.{can_access}
@@ -91,6 +91,8 @@ asks-only (Cbz rt z) m h = cond-asks (eqb (reg m.regs rt) 0) _ _ refl refl
 asks-only (Cbnz rt z) m h = cond-asks (not (eqb (reg m.regs rt) 0)) _ _ refl refl
 asks-only (Ldr rt rn imm) m h = cond-asks (can_access (wrap (reg_or_sp m.regs rn + 8 * imm))) _ _ refl refl
 asks-only (Str rt rn imm) m h = cond-asks (can_access (wrap (reg_or_sp m.regs rn + 8 * imm))) _ _ refl refl
+asks-only (LdrReg rt rn rm) m h = cond-asks (can_access (wrap (reg_or_sp m.regs rn + 8 * reg m.regs rm))) _ _ refl refl
+asks-only (StrReg rt rn rm) m h = cond-asks (can_access (wrap (reg_or_sp m.regs rn + 8 * reg m.regs rm))) _ _ refl refl
 asks-only (Svc number) m h = cond-asks (leb number 9) _ _ h refl
 asks-only (Brk number) m h = cond-asks (leb 1 number && leb number 4) _ _ refl refl
 asks-only _ m h = refl

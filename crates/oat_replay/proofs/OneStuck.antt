@@ -3,7 +3,7 @@ use Rattle.std.proofs.Common.{◌≡◌, ℕ, ◌+◌, Bool, List, [], ◌∷◌
 use Rattle.std.proofs.lemmas.Bool.{cases_lt}
 use Rattle.std.proofs.lemmas.List.{append_cancel_left}
 use Rattle.oat_map.specs.declared.row.Row.{Row}
-use Rattle.oat_map.specs.declared.row.Row.TheVariants.{Jump, Branch, Call, ICall, Ret, Begin, End, UseCell, DefCell, Check}
+use Rattle.oat_map.specs.declared.row.Row.TheVariants.{Jump, Branch, Call, ICall, Ret, Begin, End, UseCell, DefCell, UseAt, DefAt, Check}
 use Rattle.oat_map.specs.declared.map.Map.{Map}
 use Rattle.oat_map.specs.Rows.{next}
 use Rattle.oat_map.specs.Walk.{Step, path_of, bits_of, targets_of, path_limit}
@@ -57,6 +57,8 @@ one_stop flow op (Some (Begin at begun)) steps b t cause other is is' = is ∙ s
 one_stop flow op (Some (End at ended)) steps b t cause other is is' = one_end op ended _ _ _ cause other is is'
 one_stop flow op (Some (UseCell at cell)) steps b t cause other is is' = absurd is
 one_stop flow op (Some (DefCell at cell)) steps b t cause other is is' = absurd is
+one_stop flow op (Some (UseAt at cell len)) steps b t cause other is is' = absurd is
+one_stop flow op (Some (DefAt at cell len)) steps b t cause other is is' = absurd is
 one_stop flow op (Some (Check at)) steps b t cause other is is' = absurd is
 
 no_steps : (rest : List Step) → length rest ≡ 0 → rest ≡ []

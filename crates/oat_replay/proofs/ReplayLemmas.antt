@@ -4,7 +4,7 @@ use Rattle.std.proofs.lemmas.Bool.{cases_lt}
 use Rattle.std.proofs.lemmas.List.{append_cancel_left}
 use Rattle.std.proofs.lemmas.List.Elements.{filter_map-append}
 use Rattle.oat_map.specs.declared.row.Row.{Row}
-use Rattle.oat_map.specs.declared.row.Row.TheVariants.{Jump, Branch, Call, ICall, Ret, Begin, End, UseCell, DefCell, Check}
+use Rattle.oat_map.specs.declared.row.Row.TheVariants.{Jump, Branch, Call, ICall, Ret, Begin, End, UseCell, DefCell, UseAt, DefAt, Check}
 use Rattle.oat_map.specs.declared.edge.Edge.{Edge}
 use Rattle.oat_map.specs.declared.edge.Edge.TheVariants as edges
 use Rattle.oat_map.specs.declared.map.Map.{Map}
@@ -49,6 +49,8 @@ no_step flow op (Begin at begun) steps b c t u cause step more to stops goes bit
 no_step flow op (End at ended) steps b c t u cause step more to stops goes bits targets = goes
 no_step flow op (UseCell at cell) steps b c t u cause step more to stops goes bits targets = stops
 no_step flow op (DefCell at cell) steps b c t u cause step more to stops goes bits targets = stops
+no_step flow op (UseAt at cell len) steps b c t u cause step more to stops goes bits targets = stops
+no_step flow op (DefAt at cell len) steps b c t u cause step more to stops goes bits targets = stops
 no_step flow op (Check at) steps b c t u cause step more to stops goes bits targets = stops
 
 -- nor is there a longer one

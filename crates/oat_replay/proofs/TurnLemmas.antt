@@ -4,7 +4,7 @@ use Rattle.std.specs.List.{slice_get}
 use Rattle.std.proofs.lemmas.List.{nil_from_length}
 use Rattle.std.proofs.lemmas.List.Elements.{filter_map-append}
 use Rattle.oat_map.specs.declared.row.Row.{Row}
-use Rattle.oat_map.specs.declared.row.Row.TheVariants.{Branch, End, UseCell, DefCell, Check}
+use Rattle.oat_map.specs.declared.row.Row.TheVariants.{Branch, End, UseCell, DefCell, UseAt, DefAt, Check}
 use Rattle.oat_map.specs.declared.edge.Edge.TheVariants as edges
 use Rattle.oat_map.specs.declared.map.Map.{Map}
 use Rattle.oat_map.specs.Rows.{after, next, IsIndirectTarget}
@@ -61,11 +61,16 @@ branch_goes flow at taken other steps false to is = inr (ap (λ place. moved (ed
 
 -- a row without a transfer is passed
 pub pass_goes : (flow : Map) (row : Row) (steps : List Step)
-    → ((at : ℕ) × (cell : ℕ) × (row ≡ UseCell at cell)) ⊎ (((at : ℕ) × (cell : ℕ) × (row ≡ DefCell at cell)) ⊎ ((at : ℕ) × (row ≡ Check at)))
+    → ((at : ℕ) × (cell : ℕ) × (row ≡ UseCell at cell))
+    ⊎ (((at : ℕ) × (cell : ℕ) × (row ≡ DefCell at cell))
+    ⊎ (((at : ℕ) × (cell : ℕ) × (len : ℕ) × (row ≡ UseAt at cell len))
+    ⊎ (((at : ℕ) × (cell : ℕ) × (len : ℕ) × (row ≡ DefAt at cell len)) ⊎ ((at : ℕ) × (row ≡ Check at)))))
     → RowGoes flow row steps passed (after row)
 pass_goes flow row steps (inl (at, cell, is)) = rw is (refl, refl)
 pass_goes flow row steps (inr (inl (at, cell, is))) = rw is (refl, refl)
-pass_goes flow row steps (inr (inr (at, is))) = rw is (refl, refl)
+pass_goes flow row steps (inr (inr (inl (at, cell, len, is)))) = rw is (refl, refl)
+pass_goes flow row steps (inr (inr (inr (inl (at, cell, len, is))))) = rw is (refl, refl)
+pass_goes flow row steps (inr (inr (inr (inr (at, is))))) = rw is (refl, refl)
 
 pub plus_none : (used before : ℕ) → used ≡ before → used ≡ before + 0
 plus_none used before same = omega arith

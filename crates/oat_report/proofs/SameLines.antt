@@ -11,7 +11,7 @@ use Rattle.std.proofs.lemmas.Option.{slice_get_within, get_or_from_slice_get}
 use Rattle.oat_lines.proofs.Steps.{some_is}
 use Rattle.oat_map.specs.Name.{IsName, is_name_byte}
 use Rattle.oat_map.specs.declared.row.Row.{Row}
-use Rattle.oat_map.specs.declared.row.Row.TheVariants.{Jump, Branch, Call, ICall, Ret, Begin, End, UseCell, DefCell, Check}
+use Rattle.oat_map.specs.declared.row.Row.TheVariants.{Jump, Branch, Call, ICall, Ret, Begin, End, UseCell, DefCell, UseAt, DefAt, Check}
 use Rattle.oat_map.specs.declared.edge.Edge.{Edge}
 use Rattle.oat_map.specs.declared.edge.Edge.TheVariants as edges
 use Rattle.oat_map.specs.declared.map.Function.{Function}
@@ -160,6 +160,8 @@ row_goes flow (Begin at op) before step to has taken goes = absurd goes
 row_goes flow (End at op) before step to has taken goes = absurd goes
 row_goes flow (UseCell at cell) before step to has taken goes = subst (IsStepOf flow) (sym goes.0) tt
 row_goes flow (DefCell at cell) before step to has taken goes = subst (IsStepOf flow) (sym goes.0) tt
+row_goes flow (UseAt at cell len) before step to has taken goes = subst (IsStepOf flow) (sym goes.0) tt
+row_goes flow (DefAt at cell len) before step to has taken goes = subst (IsStepOf flow) (sym goes.0) tt
 row_goes flow (Check at) before step to has taken goes = subst (IsStepOf flow) (sym goes.0) tt
 
 leads : (flow : Map) (before : List Step) (from : ℕ) (steps : List Step) (to : ℕ) → All (IsStepOf flow) before
