@@ -20,7 +20,7 @@ use Rattle.oat_asm.proofs.ExpansionProofs.{leaves_no_mark, keeps_labels, uses_on
 use Rattle.oat_image.specs.Grammar.{IsIndex, IsLength}
 use Rattle.oat_shape.specs.Groups.{AreElements}
 use Rattle.oat_parts.specs.Symbols.{SymbolTable, IsSymbolTable, AreDistinct, labels_of}
-use Rattle.oat_parts.specs.Parts.{CodePart, simple, label, reference, mark, check, items_of, all_items, IsMarkOf, IsCodePart, labels_in_part, labels_in, AreInParts}
+use Rattle.oat_parts.specs.Parts.{CodePart, simple, label, reference, mark, check, items_of, all_items, IsMarkOf, IsCodePart, labels_in_part, labels_in, IsMadeOfParts, AreInParts}
 use Rattle.oat_parts.specs.Built.{CanBeExpanded, PartsCanBeExpanded, PartsHaveTheLabels}
 use Rattle.oat_parts.proofs.Lists.{not_in_none, only_in, in_flat_map, first_in, later_in, cons_cases, in_get, all_get, all_in, of_flat_map}
 use Rattle.oat_parts.proofs.Orders.{function_in_labels, block_in_labels}
@@ -190,3 +190,10 @@ parts_have_the_labels t items table made = record {
   once = labels_once t items table made;
   checks = λ n has. item_fine t items table made (item.Note n) has;
 }
+
+-- items in parts without a label have none
+pub none_labelled : (t : SymbolTable) (begun : List ℕ) (items : List Item) → IsMadeOfParts t [] begun items → (l : ℕ) → Contains items (item.Label l) → ⊥
+none_labelled t begun items made l has =
+    let at = in_get items (item.Label l) has in
+    let none = ap (count_by (is_label l)) made.are ∙ all_count made.parts l ∙ ap (count_by (λ j. nat_eq j l)) made.labelled in
+    absurd (omega (arith, counted items at.0 l at.1, none))

@@ -11,4 +11,5 @@ mod CallSites
 mod Counting
 mod SiteRows
 mod Sites
+mod SourceSites
 mod Worked

@@ -20,7 +20,7 @@ use Rattle.oat_asm.specs.Items.{item_words, place, label_place, address, StandsO
 use Rattle.oat_asm.specs.Expansion.{expanded, expansion}
 use Rattle.oat_asm.proofs.Giving.{get_left, get_right, before_front, before_back}
 use Rattle.oat_asm.proofs.LayoutLaws.{label_placed}
-use Rattle.oat_parts.specs.Symbols.{SymbolTable, labels_of}
+use Rattle.oat_parts.specs.Symbols.{SymbolTable, IsSymbolTable, labels_of}
 use Rattle.oat_parts.specs.Parts.{AreInParts}
 use Rattle.oat_parts.specs.Built.{built_address, built_map, HasLabelsOf}
 use Rattle.oat_parts.specs.Making.{words_become}
@@ -227,3 +227,12 @@ sites_are_counted t items before middle behind l m table made is unlabelled =
     let found = site_is t before middle behind l m unlabelled (parts_have_the_labels t ys table made_so) (built_maps_have_names t ys table made_so) in
     subst (λ (zs : List Item). site (built_map t zs) (address code_base (words_become before + words_become middle)) ≡ record { place = place_name (built_map t zs) (built_address zs l); number = count_by is_site_item middle }) (sym is)
     (subst (λ (a : ℕ). site (built_map t ys) a ≡ record { place = place_name (built_map t ys) (built_address ys l); number = count_by is_site_item middle }) there found)
+
+-- the label stands behind the words of the items before it
+pub label_at : (t : SymbolTable) (items before middle behind : List Item) (l : ℕ) (m : Mark) → IsSymbolTable t → AreInParts t items → items ≡ before ++ item.Label l ∷ (middle ++ item.Mark m ∷ behind)
+    → ((x : ℕ) → Contains middle (item.Label x) → ⊥) → built_address items l ≡ address code_base (words_become before)
+label_at t items before middle behind l m table made is unlabelled =
+    let ys = before ++ item.Label l ∷ (middle ++ item.Mark m ∷ behind) in
+    let made_so : AreInParts t ys = subst (λ (zs : List Item). AreInParts t zs) is made in
+    let here = label_here t before middle behind l m unlabelled (parts_have_the_labels t ys table made_so) (built_maps_have_names t ys table made_so) in
+    ap (λ (zs : List Item). built_address zs l) is ∙ omega arith

@@ -37,20 +37,23 @@ symbol_at program f n (g ∷ gs) (suc k) func at =
     ∙ ap (λ (m : ℕ). Some (symbol_for program m (n + length (block_names g) + length rest) func)) one
     ∙ ap (λ (m : ℕ). Some (symbol_for program (f + suc k) m func)) two
 
+pub own_symbol : (program : Program) (f : ℕ) (func : Func) → slice_get program.funcs f ≡ Some func → slice_get (all_symbols program) f ≡ Some (symbol_for program f (label_of_block program f 0) func)
+own_symbol program f func at =
+    let n = length program.funcs in
+    let one : 0 + f ≡ f = omega arith in
+    let two : n + length (flat_map block_names (take f program.funcs)) ≡ label_of_block program f 0 = omega arith in
+    symbol_at program 0 n program.funcs f func at
+    ∙ ap (λ (m : ℕ). Some (symbol_for program m (n + length (flat_map block_names (take f program.funcs))) func)) one
+    ∙ ap (λ (m : ℕ). Some (symbol_for program f m func)) two
+
 -- and in the table, with main first
 symbol_in : (program : Program) → IsChecked program → (f : ℕ) (func : Func) → slice_get program.funcs f ≡ Some func
     → (k : ℕ) × (slice_get (symbols_of program).functions k ≡ Some (symbol_for program f (label_of_block program f 0) func))
 symbol_in program ok f func at =
-    let n = length program.funcs in
-    let many = symbols_many program 0 n program.funcs in
+    let many = symbols_many program 0 (length program.funcs) program.funcs in
     let main = main_within program ok in
-    let one : 0 + f ≡ f = omega arith in
-    let two : n + length (flat_map block_names (take f program.funcs)) ≡ label_of_block program f 0 = omega arith in
-    let own = symbol_at program 0 n program.funcs f func at
-    ∙ ap (λ (m : ℕ). Some (symbol_for program m (n + length (flat_map block_names (take f program.funcs))) func)) one
-    ∙ ap (λ (m : ℕ). Some (symbol_for program f m func)) two in
     let e = symbol_for program f (label_of_block program f 0) func in
-    in_get (with_first (main_at program) (all_symbols program)) e (first_has (main_at program) (all_symbols program) e (omega arith) (get_in (all_symbols program) f e own))
+    in_get (with_first (main_at program) (all_symbols program)) e (first_has (main_at program) (all_symbols program) e (omega arith) (get_in (all_symbols program) f e (own_symbol program f func at)))
 
 pub places_are_named : PlacesAreNamedBySource
 places_are_named program codes ok named are =

@@ -1,5 +1,5 @@
 -- Names of places in a built image, and numbers of sites (docs/FORMATS.md).
-use Rattle.std.specs.Prelude.{◌≡◌, ◌+◌, ◌≤◌, ℕ, Bool, true, false, IsTrue, List, ◌∷◌, ◌++◌, Some, None, slice_get, Contains, count_by}
+use Rattle.std.specs.Prelude.{◌≡◌, ◌+◌, ◌*◌, ◌≤◌, ℕ, Bool, true, false, IsTrue, List, ◌∷◌, ◌++◌, Some, None, slice_get, Contains, count_by}
 use Rattle.oat_a64.specs.Step.{code_base}
 use Rattle.oat_image.specs.declared.image.Image.{Image}
 use Rattle.oat_image.specs.Grammar.{IsWellFormedImage}
@@ -17,14 +17,14 @@ use Rattle.oat_ir.specs.declared.program.Program.{Program}
 use Rattle.oat_ir.specs.declared.func.Func.{Func}
 use Rattle.oat_ir.specs.declared.func.BlockIr.{BlockIr}
 use Rattle.oat_ir.specs.declared.source.SourceSite.{SourceSite}
-use Rattle.oat_check.specs.Naming.{source_func_name, source_block_name}
+use Rattle.oat_check.specs.Naming.{source_func_name, source_block_name, source_site_name}
 use Rattle.oat_check.specs.Rules.{IsChecked}
 use Rattle.oat_parts.specs.Symbols.{FunctionSymbol, SymbolTable, IsSymbolTable, labels_of}
 use Rattle.oat_parts.specs.Parts.{AreInParts}
 use Rattle.oat_parts.specs.Built.{built_address, built_map}
 use Rattle.oat_parts.specs.Making.{FunctionCode, AreCodes, words_become}
 use Rattle.oat_symbols.specs.Programs.{label_of_block, symbols_of, IsNamed}
-use Rattle.oat_symbols.specs.Codes.{items_for}
+use Rattle.oat_symbols.specs.Codes.{codes_of, IsCodeOf, items_for}
 
 -- functions and blocks have their names at their labels, and the place of an address is the last label at or below it
 pub record HasItsNames (t : SymbolTable) (m : Map) (address_of_label : ℕ → ℕ) : Type 0 where
@@ -79,3 +79,15 @@ abbrev pub CallSitesAreFound : Type 0
 CallSitesAreFound =
     (i : Image) (row : Row) → IsWellFormedImage i → IsShaped i → Contains i.map.rows row → IsTrue (is_call row)
     → call_site i.map (after row) ≡ site i.map (address_of row)
+
+-- the site of a mark in a block has the name of the source's site with as many sites before it in the block
+abbrev pub SitesAreNamedBySource : Type 0
+SitesAreNamedBySource =
+    (program : Program) (code : ℕ → Func → FunctionCode) → IsChecked program → IsNamed program
+    → ((f : ℕ) (func : Func) → slice_get program.funcs f ≡ Some func → IsCodeOf (symbols_of program) func (code f func))
+    → (at : SourceSite) (func : Func) (block : BlockIr) (front behind : List Item) (m : Mark)
+    → slice_get program.funcs at.func ≡ Some func → slice_get func.blocks at.block ≡ Some block
+    → slice_get (code at.func func).blocks at.block ≡ Some (front ++ item.Mark m ∷ behind) → count_by is_site_item front ≡ at.number
+    → site (built_map (symbols_of program) (items_for program (codes_of code program)))
+    (built_address (items_for program (codes_of code program)) (label_of_block program at.func at.block) + 4 * words_become front)
+    ≡ source_site_name program at

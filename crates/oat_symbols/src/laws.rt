@@ -1,6 +1,6 @@
 //! Laws of symbol tables and built images, each the contract of a function that does nothing.
 ghost use Rattle.oat_symbols.specs.Codes.{CodesAreOfTheProgram, CodesFollow, CodesStand, ProgramsAreBuilt};
-ghost use Rattle.oat_symbols.specs.Names.{BuiltMapsHaveNames, CallSitesAreFound, PlacesAreNamedBySource, SitesAreCounted};
+ghost use Rattle.oat_symbols.specs.Names.{BuiltMapsHaveNames, CallSitesAreFound, PlacesAreNamedBySource, SitesAreCounted, SitesAreNamedBySource};
 ghost use Rattle.oat_symbols.specs.Programs.{ProgramsHaveSymbols, ProgramsHaveTheirLabels};
 ghost use Rattle.oat_symbols.specs.Worked.{IdleIsBuilt};
 
@@ -56,6 +56,11 @@ pub fn call_sites_are_found()
 /// The number of a site counts the sites since the last label.
 pub fn sites_are_counted()
     ensures { SitesAreCounted }
+{}
+
+/// The site of a mark in a block has the name of the source's site with as many sites before it.
+pub fn sites_are_named_by_source()
+    ensures { SitesAreNamedBySource }
 {}
 
 /// A worked program has all that the laws ask for, and is built.
