@@ -1,5 +1,6 @@
 mod Distinct
 mod Globals
+mod Elements
 mod Labels
 mod Programs
 mod Places

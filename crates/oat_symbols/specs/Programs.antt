@@ -3,11 +3,14 @@ use Rattle.std.specs.Prelude.{◌≡◌, ◌+◌, ℕ, nat_eq, if◌then◌else�
 use Rattle.std.specs.List.{position_or_len, flat_map}
 use Rattle.oat_map.specs.Name.{IsName}
 use Rattle.oat_image.specs.declared.image.InitWord.{InitWord}
+use Rattle.oat_image.specs.Grammar.{IsLength}
+use Rattle.oat_shape.specs.Groups.{AreElements}
 use Rattle.oat_ir.specs.declared.program.Program.{Program}
 use Rattle.oat_ir.specs.declared.program.GlobalItem.{GlobalItem}
+use Rattle.oat_ir.specs.declared.program.GlobalItem.TheVariants.{CriticalArray}
 use Rattle.oat_ir.specs.declared.func.Func.{Func}
 use Rattle.oat_ir.specs.declared.func.BlockIr.{BlockIr}
-use Rattle.oat_check.specs.Globals.{size_in_words, start_of, cell_words}
+use Rattle.oat_check.specs.Globals.{size_in_words, start_of, cell_words, cell_number, word_number}
 use Rattle.oat_check.specs.Keeping.{is_referenced}
 use Rattle.oat_check.specs.Rules.{is_main, IsChecked}
 use Rattle.oat_check.specs.Steps.{operation_number}
@@ -81,3 +84,12 @@ pub record HasItsLabels (program : Program) : Type 0 where
 
 abbrev pub ProgramsHaveTheirLabels : Type 0
 ProgramsHaveTheirLabels = (program : Program) → IsChecked program → HasItsLabels program
+
+-- each cell of the program is one of the table with the word of its element, and the cells of a critical array are those that its marks name
+pub record HasItsCells (program : Program) : Type 0 where
+  pub elements : (g i cell word : ℕ) → cell_number program g i ≡ Some cell → word_number program g i ≡ Some word → slice_get (symbols_of program).cells cell ≡ Some word
+  pub arrays : (g cell word len : ℕ) (name : List ℕ) → slice_get program.globals g ≡ Some (CriticalArray name len) → cell_number program g 0 ≡ Some cell → word_number program g 0 ≡ Some word
+      → AreElements (symbols_of program).cells cell len word × IsLength len
+
+abbrev pub ProgramsHaveTheirCells : Type 0
+ProgramsHaveTheirCells = (program : Program) → IsChecked program → HasItsCells program

@@ -1,10 +1,11 @@
 //! Laws of symbol tables and built images, each the contract of a function that does nothing.
 ghost use Rattle.oat_symbols.specs.Codes.{CodesAreOfTheProgram, CodesFollow, CodesStand, ProgramsAreBuilt};
 ghost use Rattle.oat_symbols.specs.Names.{BuiltMapsHaveNames, CallSitesAreFound, PlacesAreNamedBySource, SitesAreCounted, SitesAreNamedBySource};
-ghost use Rattle.oat_symbols.specs.Programs.{ProgramsHaveSymbols, ProgramsHaveTheirLabels};
+ghost use Rattle.oat_symbols.specs.Programs.{ProgramsHaveSymbols, ProgramsHaveTheirCells, ProgramsHaveTheirLabels};
 ghost use Rattle.oat_symbols.specs.Worked.{IdleIsBuilt};
 
 use oat_a64::laws::fetches_by_the_table;
+use oat_check::laws::cells_have_words;
 
 /// What an image has of a checked program is a symbol table.
 pub fn programs_have_symbols()
@@ -15,6 +16,13 @@ pub fn programs_have_symbols()
 pub fn programs_have_their_labels()
     ensures { ProgramsHaveTheirLabels }
 {}
+
+/// The cells of the program are those of its table, and the cells of a critical array are consecutive.
+pub fn programs_have_their_cells()
+    ensures { ProgramsHaveTheirCells }
+{
+    cells_have_words();
+}
 
 /// Where each function has its code, the functions of the table have theirs.
 pub fn codes_are_of_the_program()
