@@ -25,7 +25,7 @@ use Rattle.oat_parts.proofs.Lists.{first_in, later_in, cons_cases, get_in, in_ge
 use Rattle.oat_symbols.proofs.Distinct.{distinct_texts, ids, distinct_ids}
 use Rattle.oat_symbols.proofs.Labels.{functions_labelled, blocks_labelled, labels_distinct}
 use Rattle.oat_symbols.proofs.Globals.{words_between, words_set, cells_between, all_by, rises_map, rising}
-use Rattle.oat_symbols.specs.Programs.{block_names, symbols_from, all_symbols, label_of_block, with_first, main_at, words_from, symbols_of, IsNamed, ProgramsHaveSymbols, ProgramsHaveTheirLabels}
+use Rattle.oat_symbols.specs.Programs.{block_names, symbols_from, all_symbols, label_of_block, with_first, main_at, words_from, symbols_of, HasValidNames, ProgramsHaveSymbols, ProgramsHaveTheirLabels}
 
 -- ---- the functions
 
@@ -130,7 +130,7 @@ pub symbols_many : (program : Program) (f n : ℕ) (funcs : List Func) → lengt
 symbols_many program f n [] = refl
 symbols_many program f n (g ∷ gs) = ap suc (symbols_many program (f + 1) (n + length (block_names g)) gs)
 
-in_order : (program : Program) → IsChecked program → IsNamed program
+in_order : (program : Program) → IsChecked program → HasValidNames program
     → IsSymbolTable (record { functions = all_symbols program; words = words_from 0 program.globals; cells = cell_words program.globals })
 in_order program ok named =
     let formed : IsProgram program = ok.well_formed in

@@ -18,7 +18,7 @@ use Rattle.oat_check.specs.Rules.{IsChecked}
 use Rattle.oat_parts.specs.Parts.{simple, mark}
 use Rattle.oat_parts.specs.Making.{AreCodes}
 use Rattle.oat_parts.proofs.Lists.{not_in_none, cons_cases}
-use Rattle.oat_symbols.specs.Programs.{symbols_of, IsNamed}
+use Rattle.oat_symbols.specs.Programs.{symbols_of, HasValidNames}
 use Rattle.oat_symbols.specs.Worked.{idle_codes, IdleIsBuilt}
 use Rattle.oat_symbols.proofs.Codes.{programs_are_built}
 
@@ -81,7 +81,7 @@ of_one P b one c has =
       | inr none ↦ absurd (not_in_none c none)
     ]
 
-named : IsNamed idle_program
+named : HasValidNames idle_program
 named = record {
   functions = of_both (λ (f : Func). IsName f.name) (name_from_test (codes "idle") refl) (name_from_test (codes "main") refl);
   blocks = λ f b has also.

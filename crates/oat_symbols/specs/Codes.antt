@@ -15,7 +15,7 @@ use Rattle.oat_check.specs.Steps.{operation_number}
 use Rattle.oat_parts.specs.Symbols.{FunctionSymbol, SymbolTable}
 use Rattle.oat_parts.specs.Built.{built_address, built_image, CanBeExpanded, IsBuiltWell}
 use Rattle.oat_parts.specs.Making.{FunctionCode, blocks_code, code_from, words_become, IsStretch, AreCodes}
-use Rattle.oat_symbols.specs.Programs.{with_first, main_at, symbols_of, IsNamed}
+use Rattle.oat_symbols.specs.Programs.{with_first, main_at, symbols_of, HasValidNames}
 
 -- the code of each function, that of main first
 abbrev pub codes_from : (ℕ → Func → FunctionCode) → ℕ → List Func → List FunctionCode
@@ -52,7 +52,7 @@ pub record IsBuiltWhole (program : Program) (items : List Item) : Type 0 where
 
 abbrev pub ProgramsAreBuilt : Type 0
 ProgramsAreBuilt =
-    (program : Program) (codes : List FunctionCode) → IsChecked program → IsNamed program → AreCodes (symbols_of program) (symbols_of program).functions codes
+    (program : Program) (codes : List FunctionCode) → IsChecked program → HasValidNames program → AreCodes (symbols_of program) (symbols_of program).functions codes
     → CanBeExpanded (items_for program codes)
     × (words_needed (expansion (items_for program codes)) ≤ code_limit → IsBuiltWhole program (items_for program codes))
 

@@ -23,7 +23,7 @@ use Rattle.oat_parts.specs.Symbols.{FunctionSymbol, SymbolTable, IsSymbolTable, 
 use Rattle.oat_parts.specs.Parts.{AreInParts}
 use Rattle.oat_parts.specs.Built.{built_address, built_map}
 use Rattle.oat_parts.specs.Making.{FunctionCode, AreCodes, words_become}
-use Rattle.oat_symbols.specs.Programs.{label_of_block, symbols_of, IsNamed}
+use Rattle.oat_symbols.specs.Programs.{label_of_block, symbols_of, HasValidNames}
 use Rattle.oat_symbols.specs.Codes.{codes_of, IsCodeOf, items_for}
 
 -- functions and blocks have their names at their labels, and the place of an address is the last label at or below it
@@ -48,7 +48,7 @@ pub record HasSourceNames (program : Program) (m : Map) (address_of_label : ℕ 
 
 abbrev pub PlacesAreNamedBySource : Type 0
 PlacesAreNamedBySource =
-    (program : Program) (codes : List FunctionCode) → IsChecked program → IsNamed program → AreCodes (symbols_of program) (symbols_of program).functions codes
+    (program : Program) (codes : List FunctionCode) → IsChecked program → HasValidNames program → AreCodes (symbols_of program) (symbols_of program).functions codes
     → HasSourceNames program (built_map (symbols_of program) (items_for program codes)) (built_address (items_for program codes))
 
 -- ---- sites
@@ -83,7 +83,7 @@ CallSitesAreFound =
 -- the site of a mark in a block has the name of the source's site with as many sites before it in the block
 abbrev pub SitesAreNamedBySource : Type 0
 SitesAreNamedBySource =
-    (program : Program) (code : ℕ → Func → FunctionCode) → IsChecked program → IsNamed program
+    (program : Program) (code : ℕ → Func → FunctionCode) → IsChecked program → HasValidNames program
     → ((f : ℕ) (func : Func) → slice_get program.funcs f ≡ Some func → IsCodeOf (symbols_of program) func (code f func))
     → (at : SourceSite) (func : Func) (block : BlockIr) (front behind : List Item) (m : Mark)
     → slice_get program.funcs at.func ≡ Some func → slice_get func.blocks at.block ≡ Some block

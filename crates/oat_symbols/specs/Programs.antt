@@ -69,12 +69,12 @@ symbols_of program = record {
 }
 
 -- names are names, as the type of a program has it
-pub record IsNamed (program : Program) : Type 0 where
+pub record HasValidNames (program : Program) : Type 0 where
   pub functions : (func : Func) → Contains program.funcs func → IsName func.name
   pub blocks : (func : Func) (block : BlockIr) → Contains program.funcs func → Contains func.blocks block → IsName block.label
 
 abbrev pub ProgramsHaveSymbols : Type 0
-ProgramsHaveSymbols = (program : Program) → IsChecked program → IsNamed program → IsSymbolTable (symbols_of program)
+ProgramsHaveSymbols = (program : Program) → IsChecked program → HasValidNames program → IsSymbolTable (symbols_of program)
 
 -- each function and block has its label in the table
 pub record HasItsLabels (program : Program) : Type 0 where

@@ -11,7 +11,7 @@ use Rattle.oat_ir.specs.WorkedPrograms.{idle_program}
 use Rattle.oat_check.specs.Rules.{IsChecked}
 use Rattle.oat_parts.specs.Built.{built_map}
 use Rattle.oat_parts.specs.Making.{FunctionCode, AreCodes}
-use Rattle.oat_symbols.specs.Programs.{symbols_of, IsNamed}
+use Rattle.oat_symbols.specs.Programs.{symbols_of, HasValidNames}
 use Rattle.oat_symbols.specs.Codes.{items_for, IsBuiltWhole}
 
 -- the code of main, which stands first, and that of the operation
@@ -26,7 +26,7 @@ idle_items = items_for idle_program idle_codes
 -- all premises hold of it, and so it is built
 pub record IdleIsBuilt : Type 0 where
   pub checked : IsChecked idle_program
-  pub named : IsNamed idle_program
+  pub named : HasValidNames idle_program
   pub codes : AreCodes (symbols_of idle_program) (symbols_of idle_program).functions idle_codes
   pub few : words_needed (expansion idle_items) ≤ code_limit
   pub rows : (built_map (symbols_of idle_program) idle_items).rows ≡ row.Call 0x10004 0x1000C ∷ row.Begin 0x1000C 1 ∷ row.End 0x10014 1 ∷ row.Ret 0x1001C ∷ []
