@@ -1,6 +1,7 @@
 -- What things give that stand one behind the other, for all things and sizes.
-use Rattle.std.proofs.Common.{◌≡◌, ℕ, zero, suc, ◌+◌, ◌≤◌, List, [], ◌∷◌, ◌++◌, length, refl, sym, ap, ◌∙◌, subst, Some, arith, inl, inr, append_assoc}
+use Rattle.std.proofs.Common.{◌≡◌, ℕ, zero, suc, ◌+◌, ◌≤◌, List, [], ◌∷◌, ◌++◌, length, refl, sym, ap, ◌∙◌, subst, Some, arith, inl, inr, append_assoc, length-append}
 use Rattle.std.specs.Prelude.{slice_get, Contains}
+use Rattle.std.specs.List.{flat_map}
 use Rattle.std.proofs.lemmas.List.Elements.{Contains-append_left, Contains-append_right, Contains-append_cases}
 use Rattle.oat_asm.specs.Giving.{words_in, words_before, gives_from}
 
@@ -32,6 +33,16 @@ module _ {X : Type 0} (size : X → ℕ) where
   before_within xs zero = omega arith
   before_within [] (suc k) = omega arith
   before_within (x ∷ xs) (suc k) = omega (arith, before_within xs k)
+
+  pub before_front : (xs ys : List X) (k : ℕ) → k ≤ length xs → words_before size (xs ++ ys) k ≤ words_in size xs
+  before_front xs ys zero within = omega arith
+  before_front [] ys (suc k) within = absurd (omega arith)
+  before_front (x ∷ xs) ys (suc k) within = omega (arith, before_front xs ys k (omega arith))
+
+  pub before_back : (xs ys : List X) (k j : ℕ) → k ≡ length xs + j → words_before size (xs ++ ys) k ≡ words_in size xs + words_before size ys j
+  before_back [] ys k j is = let e : k ≡ j = omega arith in let f = ap (words_before size ys) e in omega arith
+  before_back (x ∷ xs) ys zero j is = absurd (omega arith)
+  before_back (x ∷ xs) ys (suc k) j is = omega (arith, before_back xs ys k j (omega arith))
 
 -- ---- lists in two
 
@@ -106,3 +117,23 @@ module _ {X A : Type 0} (size : X → ℕ) (gives : ℕ → X → List A) where
   reads_at sized here (y ∷ xs) (suc k) x there r n a at is index has =
       get_right (gives here y) (gives_from size gives (here + size y) xs) (words_before size xs k + r) n (omega (arith, sized here y))
       ∙ reads_at sized (here + size y) xs k x there r (words_before size xs k + r) a at (omega arith) refl has
+
+  pub gives-length : GivesItsSize → (here : ℕ) (xs : List X) → length (gives_from size gives here xs) ≡ words_in size xs
+  gives-length sized here [] = refl
+  gives-length sized here (x ∷ xs) =
+      let both = length-append (gives here x) (gives_from size gives (here + size x) xs) in
+      omega (arith, both, sized here x, gives-length sized (here + size x) xs)
+
+-- ---- things that are made of others
+
+module _ {X Y : Type 0} (size : Y → ℕ) (made_of : X → List Y) where
+  pub words-flat : (xs : List X) → words_in size (flat_map made_of xs) ≡ words_in (λ x. words_in size (made_of x)) xs
+  words-flat [] = refl
+  words-flat (x ∷ xs) = words-append size (made_of x) (flat_map made_of xs) ∙ ap (λ n. words_in size (made_of x) + n) (words-flat xs)
+
+  pub gives-flat : {A : Type 0} (gives : ℕ → Y → List A) (here : ℕ) (xs : List X)
+      → gives_from size gives here (flat_map made_of xs) ≡ gives_from (λ x. words_in size (made_of x)) (λ h x. gives_from size gives h (made_of x)) here xs
+  gives-flat gives here [] = refl
+  gives-flat gives here (x ∷ xs) =
+      gives-append size gives here (made_of x) (flat_map made_of xs)
+      ∙ ap (λ rest. gives_from size gives here (made_of x) ++ rest) (gives-flat gives (here + words_in size (made_of x)) xs)

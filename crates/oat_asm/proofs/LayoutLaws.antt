@@ -1,7 +1,7 @@
 -- What stands at the address of an item, and what is listed.
 use Rattle.std.proofs.Common.{◌≡◌, ℕ, zero, suc, ◌+◌, ◌-◌, ◌/◌, ◌%◌, ◌^◌, ◌≤◌, List, [], ◌∷◌, ◌++◌, length, refl, sym, ap, ◌∙◌, subst, Bool, true, false, cond, Some, eq-eqb, arith, inl, inr}
 use Rattle.std.specs.Prelude.{slice_get, nat_eq, nat_le, nat_lt, Contains}
-use Rattle.std.specs.List.{count_by}
+use Rattle.std.specs.List.{count_by, position_or_len}
 use Rattle.std.specs.Option.{option_and_then}
 use Rattle.std.proofs.lemmas.Bool.{ltb-true, ltb-false, le-leb}
 use Rattle.std.proofs.lemmas.List.Elements.{Contains-push, Contains-push_cases}
@@ -11,12 +11,14 @@ use Rattle.oat_a64.specs.Table.{IsInRange, word_of}
 use Rattle.oat_a64.specs.Fetch.{inst_of}
 use Rattle.oat_a64.specs.Laws.{FetchesByTheTable}
 use Rattle.oat_a64.specs.Step.{code_base, instruction_at, branch_target}
+use Rattle.oat_shape.specs.Groups.{Stands, Branches}
+use Rattle.oat_asm.specs.declared.branch_form.BranchForm.{BranchForm}
 use Rattle.oat_asm.specs.declared.item.Item.{Item}
 use Rattle.oat_asm.specs.declared.item.Item.TheVariants as item
 use Rattle.oat_asm.specs.declared.note.Note.{Note}
 use Rattle.oat_asm.specs.declared.assembled.LabelAt.{LabelAt}
 use Rattle.oat_asm.specs.declared.assembled.NoteAt.{NoteAt}
-use Rattle.oat_asm.specs.Items.{item_words, words_needed, place, label_place, address, code_limit, is_label, StandsOnce}
+use Rattle.oat_asm.specs.Items.{item_words, words_needed, place, label_place, address, code_limit, is_label, StandsOnce, IsBranch}
 use Rattle.oat_asm.specs.Layout.{branch, distance, words_of_item, labels_of_item, notes_of_item, items_give}
 use Rattle.oat_asm.specs.Laws.{code_of, item_address, ItemsFollowOneAnother, PlacesRise, LayoutsAreOfTwo, LabelsHaveThePlacesOfTheirItems, LabelsStandBehindOthers, WordsStandAtTheirPlaces, BranchesReachPlaces, InstructionsStandAtTheirAddresses, BranchesLeadToTheirLabels, AddressesArePut, LabelsAreListed, NotesAreListed, NotesAreInOrder}
 use Rattle.oat_asm.proofs.Giving.{before_next, before_grows, before_within, gives-append, GivenBy, given_by, gives_at, reads_at}
@@ -39,7 +41,7 @@ of_two label_place base =
 
 -- ---- the place of a label
 
-counted : (items : List Item) (k : ℕ) (label : ℕ) → slice_get items k ≡ Some (item.Label label) → 1 ≤ count_by (is_label label) items
+pub counted : (items : List Item) (k : ℕ) (label : ℕ) → slice_get items k ≡ Some (item.Label label) → 1 ≤ count_by (is_label label) items
 counted [] k label h = absurd cc
 counted (i ∷ items) zero label h =
     let e : i ≡ item.Label label = cc in
@@ -76,7 +78,7 @@ skipped (x ∷ xs) ys label none =
 
 -- ---- words, and the instructions that they encode
 
-words_are_counted : (label_place : ℕ → ℕ) (base here : ℕ) (i : Item) → length (words_of_item label_place base here i) ≡ item_words i
+pub words_are_counted : (label_place : ℕ → ℕ) (base here : ℕ) (i : Item) → length (words_of_item label_place base here i) ≡ item_words i
 words_are_counted label_place base here (item.Inst i) = refl
 words_are_counted label_place base here (item.BranchTo form label) = refl
 words_are_counted label_place base here (item.AddressOf register label) = refl
@@ -121,28 +123,47 @@ pub branches_reach : BranchesReachPlaces
 branches_reach form from to is_branch f t =
     (branch_in_range form from to is_branch f t, leads_by from to (nat_lt to from) refl f t)
 
+-- a branch leads to the place of its label, wherever that is
+pub branch_stands : FetchesByTheTable → (items : List Item) (k : ℕ) (form : BranchForm) (label : ℕ) → IsBranch form → words_needed items ≤ code_limit
+    → slice_get items k ≡ Some (item.BranchTo form label) → Branches (code_of items) (item_address items k) (branch form) (address code_base (label_place items label))
+branch_stands fetches items k form label is_branch small at =
+    let from = place items k in
+    let to = label_place items label in
+    let offset = distance from to in
+    let reach = branches_reach form from to is_branch (omega (arith, before_within item_words items k)) (omega (arith, before_within item_words items (position_or_len (is_label label) items))) in
+    let here = stands_in fetches items k 0 (item.BranchTo form label) (branch form offset) reach.0 at refl in
+    (offset, subst (λ a. instruction_at (code_of items) a ≡ Some (branch form offset)) (first_place items k) here, reach.1)
+
 pub branches_lead : FetchesByTheTable → BranchesLeadToTheirLabels
 branches_lead fetches items k j form label is_branch once small at labelled =
-    let from = place items k in
-    let to = place items j in
-    let from_small : from ≤ code_limit = omega (arith, before_within item_words items k) in
-    let to_small : to ≤ code_limit = omega (arith, before_within item_words items j) in
-    let offset = distance from to in
-    let reach = branches_reach form from to is_branch from_small to_small in
-    let word = ap (λ p. Some (word_of (branch form (distance from p)))) (label_placed items j label once labelled) in
-    let here = stands_in fetches items k 0 (item.BranchTo form label) (branch form offset) reach.0 at word in
-    (offset, subst (λ a. instruction_at (code_of items) a ≡ Some (branch form offset)) (first_place items k) here, reach.1)
+    subst (λ to. Branches (code_of items) (item_address items k) (branch form) (address code_base to)) (label_placed items j label once labelled)
+    (branch_stands fetches items k form label is_branch small at)
+
+abbrev Puts : List Item → ℕ → ℕ → ℕ → Type 0
+Puts items at register to =
+    Stands (code_of items) at (Movz register 0 (to % 2 ^ 16)) × Stands (code_of items) (at + 4) (Movk register 1 (to / 2 ^ 16))
+
+pub low_in_range : (register to : ℕ) → register ≤ 30 → IsInRange (Movz register 0 (to % 2 ^ 16))
+low_in_range register to few = (omega arith, (omega arith, (omega arith, tt)))
+
+pub high_in_range : (register place : ℕ) → register ≤ 30 → place ≤ code_limit → IsInRange (Movk register 1 (address code_base place / 2 ^ 16))
+high_in_range register place few small = (omega arith, (omega arith, (omega arith, tt)))
+
+-- the address of a label's place is put, wherever that is
+pub address_stands : FetchesByTheTable → (items : List Item) (k register label : ℕ) → register ≤ 30 → words_needed items ≤ code_limit
+    → slice_get items k ≡ Some (item.AddressOf register label) → Puts items (item_address items k) register (address code_base (label_place items label))
+address_stands fetches items k register label few small at =
+    let to = address code_base (label_place items label) in
+    let low_range = low_in_range register to few in
+    let high_range = high_in_range register (label_place items label) few (omega (arith, before_within item_words items (position_or_len (is_label label) items))) in
+    let low = stands_in fetches items k 0 (item.AddressOf register label) (Movz register 0 (to % 2 ^ 16)) low_range at refl in
+    let high = stands_in fetches items k 1 (item.AddressOf register label) (Movk register 1 (to / 2 ^ 16)) high_range at refl in
+    (subst (λ a. instruction_at (code_of items) a ≡ Some (Movz register 0 (to % 2 ^ 16))) (first_place items k) low, subst (λ a. instruction_at (code_of items) a ≡ Some (Movk register 1 (to / 2 ^ 16))) (second_place items k) high)
 
 pub addresses_put : FetchesByTheTable → AddressesArePut
 addresses_put fetches items k j register label few once small at labelled =
-    let to_small : place items j ≤ code_limit = omega (arith, before_within item_words items j) in
-    let e = label_placed items j label once labelled in
-    let i = item.AddressOf register label in
-    let low_range : IsInRange (Movz register 0 (item_address items j % 2 ^ 16)) = (omega arith, (omega arith, (omega arith, tt))) in
-    let high_range : IsInRange (Movk register 1 (item_address items j / 2 ^ 16)) = (omega arith, (omega arith, (omega arith, tt))) in
-    let low = stands_in fetches items k 0 i _ low_range at (ap (λ p. Some (word_of (Movz register 0 (address code_base p % 2 ^ 16)))) e) in
-    let high = stands_in fetches items k 1 i _ high_range at (ap (λ p. Some (word_of (Movk register 1 (address code_base p / 2 ^ 16)))) e) in
-    (subst (λ a. instruction_at (code_of items) a ≡ Some (Movz register 0 (item_address items j % 2 ^ 16))) (first_place items k) low, subst (λ a. instruction_at (code_of items) a ≡ Some (Movk register 1 (item_address items j / 2 ^ 16))) (second_place items k) high)
+    subst (λ to. Puts items (item_address items k) register (address code_base to)) (label_placed items j label once labelled)
+    (address_stands fetches items k register label few small at)
 
 -- ---- what is listed
 

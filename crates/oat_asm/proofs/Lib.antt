@@ -1,10 +1,10 @@
-mod Giving
+pub mod Giving
 mod Loops
-mod Seen
+pub mod Seen
 mod ItemWords
 mod Ranges
-mod LayoutLaws
-mod ExpansionProofs
-mod Standing
-pub mod StandingLaws
+pub mod LayoutLaws
+pub mod ExpansionProofs
+pub mod Standing
+pub mod StandingItems
 mod RangeLaws

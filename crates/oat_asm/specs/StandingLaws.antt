@@ -1,51 +1,63 @@
--- What holds of items that stand in an image (docs/PROMISES.md): two lists stand one behind the other, and the items of a layout stand in its code.
-use Rattle.std.specs.Prelude.{◌≡◌, ◌+◌, ◌*◌, ◌≤◌, ℕ, List, ◌++◌, slice_get, Some}
+-- Items that are laid out stand in the image that has their words, and their words are instructions' (docs/PROMISES.md).
+use Rattle.std.specs.Prelude.{◌≡◌, ◌+◌, ◌*◌, ◌≤◌, ℕ, List, ◌++◌, length, Contains}
 use Rattle.oat_a64.specs.declared.inst.Inst.{Inst}
-use Rattle.oat_a64.specs.Table.{IsInRange}
+use Rattle.oat_a64.specs.Table.{IsInRange, word_of}
+use Rattle.oat_a64.specs.Step.{code_base}
 use Rattle.oat_image.specs.declared.image.Image.{Image}
-use Rattle.oat_asm.specs.declared.branch_form.BranchForm.{BranchForm}
+use Rattle.oat_asm.specs.declared.note.Note.{Note}
 use Rattle.oat_asm.specs.declared.item.Item.{Item}
 use Rattle.oat_asm.specs.declared.item.Item.TheVariants as item
-use Rattle.oat_asm.specs.declared.mark.Mark.{Mark}
-use Rattle.oat_asm.specs.declared.note.Note.{Note}
-use Rattle.oat_asm.specs.Items.{words_needed, code_limit, StandsOnce, IsBranch}
-use Rattle.oat_asm.specs.Laws.{code_of, item_address}
+use Rattle.oat_asm.specs.Items.{words_needed, label_place, address, code_limit, StandsOnce, UsedLabelsStandOnce, NoMarkIsLeft, InstructionsAreInRange, BranchesAreInRange, AddressesHaveRegisters}
+use Rattle.oat_asm.specs.Layout.{layout}
 use Rattle.oat_asm.specs.NoteRows.{row_of}
+use Rattle.oat_asm.specs.Laws.{code_of}
 use Rattle.oat_asm.specs.Standing.{IsOver, ItemsStand}
 
--- of two lists of items, the second needs its words behind those of the first, and stands there
+-- what the assembler asks of the items
+pub record CanBeAssembled (items : List Item) : Type 0 where
+  pub used : UsedLabelsStandOnce items
+  pub unmarked : NoMarkIsLeft items
+  pub instructions : InstructionsAreInRange items
+  pub branches : BranchesAreInRange items
+  pub registers : AddressesHaveRegisters items
+  pub few : words_needed items ≤ code_limit
+
+-- each label among the items stands once
+abbrev pub LabelsStandOnce : List Item → Type 0
+LabelsStandOnce items = (label : ℕ) → Contains items (item.Label label) → StandsOnce items label
+
+-- the address of the item at which a label stands
+abbrev pub label_address : List Item → ℕ → ℕ
+label_address items label = address code_base (label_place items label)
+
+-- the row of each note is the one over its group
+abbrev pub RowsAreOver : Image → List Item → Type 0
+RowsAreOver i items =
+    (note : Note) (at : ℕ) → Contains (layout items code_base).notes (record { note = note; at = at }) → IsOver i.map.rows (row_of (label_address items) at note)
+
+-- the items of a layout stand in the image that has its words, where each row is the one over its group
+abbrev pub LaidItemsStand : Type 0
+LaidItemsStand =
+    (i : Image) (items : List Item) → CanBeAssembled items → LabelsStandOnce items → i.code ≡ code_of items → RowsAreOver i items
+    → ItemsStand i (label_address items) code_base items
+
+-- two lists of items need the words of both
 abbrev pub WordsOfTwo : Type 0
 WordsOfTwo = (xs ys : List Item) → words_needed (xs ++ ys) ≡ words_needed xs + words_needed ys
 
-abbrev pub TwoStandInTurn : Type 0
-TwoStandInTurn =
-    (i : Image) (label : ℕ → ℕ) (xs ys : List Item) (p : ℕ) → ItemsStand i label p (xs ++ ys)
+-- where two lists of items stand, each stands, the second behind the words of the first
+abbrev pub ItemsStandInTwo : Type 0
+ItemsStandInTwo =
+    (i : Image) (label : ℕ → ℕ) (p : ℕ) (xs ys : List Item) → ItemsStand i label p (xs ++ ys)
     → ItemsStand i label p xs × ItemsStand i label (p + 4 * words_needed xs) ys
 
--- ---- layouts
+-- the word of an instruction
+pub record IsEncoded (word : ℕ) : Type 0 where
+  pub inst : Inst
+  pub range : IsInRange inst
+  pub is : word_of inst ≡ word
 
--- a label stands among the items, and once
-pub record HasLabel (all : List Item) (label : ℕ) : Type 0 where
-  pub once : StandsOnce all label
-  pub at : ℕ
-  pub is : slice_get all at ≡ Some (item.Label label)
-
--- An image's code is the layout of items without marks, each label has its address, and the map has the row of each note over its group.
-pub record IsLayoutOf (i : Image) (label : ℕ → ℕ) (all : List Item) : Type 0 where
-  pub code : i.code ≡ code_of all
-  pub fits : words_needed all ≤ code_limit
-  pub range : (k : ℕ) (x : Inst) → slice_get all k ≡ Some (item.Inst x) → IsInRange x
-  pub labels : (k l : ℕ) → slice_get all k ≡ Some (item.Label l) → label l ≡ item_address all k
-  pub branches : (k : ℕ) (form : BranchForm) (l : ℕ) → slice_get all k ≡ Some (item.BranchTo form l) → IsBranch form × HasLabel all l
-  pub puts : (k r l : ℕ) → slice_get all k ≡ Some (item.AddressOf r l) → (r ≤ 30) × HasLabel all l
-  pub marks : (k : ℕ) (m : Mark) → slice_get all k ≡ Some (item.Mark m) → ⊥
-  pub notes : (k : ℕ) (n : Note) → slice_get all k ≡ Some (item.Note n) → IsOver i.map.rows (row_of label (item_address all k) n)
-
--- these items are those among all from number k on
-abbrev pub AreItemsFrom : List Item → ℕ → List Item → Type 0
-AreItemsFrom all k is = (j : ℕ) (x : Item) → slice_get is j ≡ Some x → slice_get all (k + j) ≡ Some x
-
-abbrev pub LayoutsStand : Type 0
-LayoutsStand =
-    (i : Image) (label : ℕ → ℕ) (all : List Item) → IsLayoutOf i label all
-    → (is : List Item) (k : ℕ) → AreItemsFrom all k is → ItemsStand i label (item_address all k) is
+-- a layout has as many words as its items need, and each is an instruction's
+abbrev pub LaidWordsEncode : Type 0
+LaidWordsEncode =
+    (items : List Item) → CanBeAssembled items → (length (code_of items) ≡ words_needed items) × ((word : ℕ) → Contains (code_of items) word → IsEncoded word)

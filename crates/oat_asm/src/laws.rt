@@ -24,7 +24,12 @@ ghost use Rattle.oat_asm.specs.ExpansionLaws.{
 ghost use Rattle.oat_asm.specs.NoteRows.{GroupsHaveTheWordsOfTheirRows};
 ghost use Rattle.oat_asm.specs.Ranges.{RangesGoByItem};
 ghost use Rattle.oat_asm.specs.Standing.{GroupsAreThoseOfRows};
-ghost use Rattle.oat_asm.specs.StandingLaws.{LayoutsStand, TwoStandInTurn, WordsOfTwo};
+ghost use Rattle.oat_asm.specs.StandingLaws.{
+  ItemsStandInTwo,
+  LaidItemsStand,
+  LaidWordsEncode,
+  WordsOfTwo,
+};
 
 use oat_a64::laws::fetches_by_the_table;
 
@@ -134,17 +139,22 @@ pub fn words_of_two()
     ensures { WordsOfTwo }
 {}
 
-/// Of two lists of items, the second stands behind the words of the first.
-pub fn two_stand_in_turn()
-    ensures { TwoStandInTurn }
+/// Where two lists of items stand, each stands.
+pub fn items_stand_in_two()
+    ensures { ItemsStandInTwo }
 {}
 
-/// The items of a layout stand in its code.
-pub fn layouts_stand()
-    ensures { LayoutsStand }
+/// The items of a layout stand in the image that has its words.
+pub fn laid_items_stand()
+    ensures { LaidItemsStand }
 {
     fetches_by_the_table();
 }
+
+/// A layout has the words that its items need, and each is an instruction's.
+pub fn laid_words_encode()
+    ensures { LaidWordsEncode }
+{}
 
 /// Where each item is in range, all instructions, branches, registers and marks are.
 pub fn ranges_go_by_item()

@@ -4,7 +4,7 @@ use Rattle.std.specs.List.{slice_get}
 use Rattle.std.proofs.lemmas.Option.{slice_get_within}
 use Rattle.oat_asm.specs.declared.item.Item.{Item}
 use Rattle.oat_asm.specs.Items.{words_needed}
-use Rattle.oat_asm.proofs.StandingLaws.{words_of_two, two_stand_in_turn}
+use Rattle.oat_asm.proofs.StandingItems.{words_of_two, stand_in_two}
 use Rattle.oat_frames.specs.Code.{CodeStands}
 use Rattle.oat_frames.specs.Frames.{World, line_address}
 use Rattle.oat_frames.specs.Lines.{lines_code, words_before_line, LinesStand, WordsAddUp}
@@ -32,9 +32,9 @@ line-stands w [] l p is all h = absurd (cc)
 line-stands w (c ∷ cs) zero p is all h =
     let same : c ≡ is = cc in
     let e : p ≡ p + 4 * 0 = omega arith in
-    subst (λ (t : ℕ). CodeStands w t is) e (subst (λ (js : List Item). CodeStands w p js) same (two_stand_in_turn w.image w.label c (lines_code cs) p all).0)
+    subst (λ (t : ℕ). CodeStands w t is) e (subst (λ (js : List Item). CodeStands w p js) same (stand_in_two w.image w.label p c (lines_code cs) all).0)
 line-stands w (c ∷ cs) (suc l) p is all h =
-    let rest = line-stands w cs l (p + 4 * words_needed c) is (two_stand_in_turn w.image w.label c (lines_code cs) p all).1 h in
+    let rest = line-stands w cs l (p + 4 * words_needed c) is (stand_in_two w.image w.label p c (lines_code cs) all).1 h in
     subst (λ (t : ℕ). CodeStands w t is) (later p (words_needed c) (words_before_line cs l) (words_before_line (c ∷ cs) (suc l)) (words_of_two c (lines_code (take l cs)))) rest where
       later : (p a b c : ℕ) → c ≡ a + b → p + 4 * a + 4 * b ≡ p + 4 * c
       later p a b c e = omega arith

@@ -1,0 +1,16 @@
+mod Distinct
+mod Globals
+mod Elements
+mod Labels
+mod Programs
+mod Places
+mod Codes
+mod Finding
+mod Names
+mod SourceNames
+mod CallSites
+mod Counting
+mod SiteRows
+mod Sites
+mod SourceSites
+mod Worked

@@ -1,0 +1,5 @@
+use Rattle.oat_symbols.proofs.Programs.{programs_have_symbols}
+use Rattle.oat_symbols.proofs.laws.programs_have_symbols.Goals as goal
+
+pub returns : goal.returns
+returns c = programs_have_symbols
