@@ -1,0 +1,5 @@
+mod Outputs
+pub mod Reaching
+mod Showing
+mod Naming
+mod Stepping

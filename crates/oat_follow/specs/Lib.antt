@@ -1,0 +1,6 @@
+pub mod Events
+pub mod Placement
+pub mod Reaching
+pub mod Steps
+pub mod Following
+pub mod Worked
