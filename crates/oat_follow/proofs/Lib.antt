@@ -3,3 +3,8 @@ pub mod Reaching
 mod Showing
 mod Naming
 mod Stepping
+mod Sounding
+mod Ordering
+mod Several
+mod OnBare
+mod OnDevice

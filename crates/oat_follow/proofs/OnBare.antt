@@ -1,0 +1,299 @@
+-- What holds of whole bare runs where each step is followed.
+use Rattle.std.proofs.Common.{◌≡◌, ◌+◌, ◌*◌, ◌≤◌, ℕ, zero, suc, ℤ, Bool, true, false, cond, ◌&&◌, eqb, List, [], ◌∷◌, ◌++◌, map, filter_map, Option, Some, None, option_map, option_and_then, refl, sym, ap, subst, ◌∙◌, arith, eqb-true, eq-eqb}
+use Rattle.std.proofs.lemmas.List.{map-append}
+use Rattle.std.proofs.lemmas.List.Elements.{filter_map-append}
+use Rattle.oat_events.specs.Cells.{Cells}
+use Rattle.oat_events.specs.Events.{Passes, SourceEvent, takes, enters, leaves, loads, stores, outputs, is_entered, is_left}
+use Rattle.oat_events.specs.Source.{CellValue, Finish, SourceKeeps, SourceMachine, edge_taken, end_after, events_after, has_completed, load_in, output_in, outputs_of, store_in, stretch}
+use Rattle.oat_events.specs.Windows.{Agrees, inside, is_closed, up_to}
+use Rattle.oat_events.proofs.WindowLaws.{closed_alike, closed_stays, inside_alike, inside_stays, shown_at_once, up_to_alike, up_to_stays, windows_are_parts}
+use Rattle.oat_image.specs.declared.image.Image.{Image}
+use Rattle.oat_map.specs.declared.edge.Edge.{Edge}
+use Rattle.oat_map.specs.declared.edge.Edge.TheVariants as edges
+use Rattle.oat_map.specs.EdgeName.{name_of}
+use Rattle.oat_measure.specs.declared.call.MonitorCall.{MonitorCall}
+use Rattle.oat_measure.specs.declared.call.MonitorCall.TheVariants as svc
+use Rattle.oat_journal.specs.declared.end.DeviceEnd.{DeviceEnd}
+use Rattle.oat_journal.specs.Measured.{start_cells}
+use Rattle.oat_journal.specs.Run.{Entry, bare, journal, started}
+use Rattle.oat_journal.specs.Window.{executed_path, made_call, opens_window, seals_window, up_to_window, window}
+use Rattle.oat_follow.specs.Events.{MachineEvent, call_in, edge_in, events_of, print_in, told_at}
+use Rattle.oat_follow.specs.Following.{EndsAs, HasEnded, KeepOrder, RunsAs, ShowsTheCall, defines_up_to_window, event_of_call, is_window_closed, uses_in_window, value_defined, value_found}
+use Rattle.oat_follow.specs.Placement.{Placement, seen_at}
+use Rattle.oat_follow.specs.Reaching.{run_on, shown_on}
+use Rattle.oat_follow.specs.Steps.{FollowsSteps, device_end}
+use Rattle.oat_follow.proofs.Naming.{named-call}
+use Rattle.oat_follow.proofs.Ordering.{Ordered, Parted, parted, source-ordered}
+use Rattle.oat_follow.proofs.Outputs.{outputs-are, printed_at}
+use Rattle.oat_follow.proofs.Reaching.{shown-adds}
+use Rattle.oat_follow.proofs.Showing.{event_in, map-shown, opens-agree, seals-agree, shown-calls, shown-path, shown-prints}
+use Rattle.oat_follow.proofs.Sounding.{Checks, checks, holds-behind, holds-first}
+use Rattle.oat_follow.proofs.Stepping.{ended-by, has-ended, lags, shows-by, stands}
+
+-- ---- what a seen event gives
+
+enter-agrees : (q op at begun : ℕ) → (q ≡ op → begun ≡ at) → (b : Bool) → eqb q op ≡ b → b ≡ (b && eqb begun at)
+enter-agrees q op at begun same true is = sym (eq-eqb begun at (same (eqb-true q op is)))
+enter-agrees q op at begun same false is = refl
+
+enters-agree : {E : Type 0} (p : Placement E) (op at : ℕ) → at ≡ p.begin op → Agrees (λ (e : SourceEvent E). Some (seen_at p e)) (is_entered op) (opens_window call_in op at)
+enters-agree p op at begun (takes edge) = refl
+enters-agree p op at begun (enters q) =
+    enter-agrees q op at (p.begin q) (λ (same : q ≡ op). ap (λ (n : ℕ). p.begin n) same ∙ sym begun) (eqb q op) refl
+enters-agree p op at begun (leaves q) = refl
+enters-agree p op at begun (loads cell value) = refl
+enters-agree p op at begun (stores cell value) = refl
+enters-agree p op at begun (outputs value) = refl
+
+leaves-agree : {E : Type 0} (p : Placement E) (op : ℕ) → Agrees (λ (e : SourceEvent E). Some (seen_at p e)) (is_left op) (seals_window call_in op)
+leaves-agree p op (takes edge) = refl
+leaves-agree p op (enters q) = refl
+leaves-agree p op (leaves q) = refl
+leaves-agree p op (loads cell value) = refl
+leaves-agree p op (stores cell value) = refl
+leaves-agree p op (outputs value) = refl
+
+output-seen : {E : Type 0} (p : Placement E) (e : SourceEvent E) → output_in e ≡ option_and_then print_in (Some (seen_at p e))
+output-seen p (takes edge) = refl
+output-seen p (enters q) = refl
+output-seen p (leaves q) = refl
+output-seen p (loads cell value) = refl
+output-seen p (stores cell value) = refl
+output-seen p (outputs value) = refl
+
+abbrev load_seen : MachineEvent → Option CellValue
+load_seen e = option_and_then load_in (event_in e)
+
+abbrev store_seen : MachineEvent → Option CellValue
+store_seen e = option_and_then store_in (event_in e)
+
+load-seen : {E : Type 0} (p : Placement E) (e : SourceEvent E) → load_in e ≡ option_and_then load_seen (Some (seen_at p e))
+load-seen p (takes edge) = refl
+load-seen p (enters q) = refl
+load-seen p (leaves q) = refl
+load-seen p (loads cell value) = refl
+load-seen p (stores cell value) = refl
+load-seen p (outputs value) = refl
+
+store-seen : {E : Type 0} (p : Placement E) (e : SourceEvent E) → store_in e ≡ option_and_then store_seen (Some (seen_at p e))
+store-seen p (takes edge) = refl
+store-seen p (enters q) = refl
+store-seen p (leaves q) = refl
+store-seen p (loads cell value) = refl
+store-seen p (stores cell value) = refl
+store-seen p (outputs value) = refl
+
+define-call : (c : Option MonitorCall) → value_defined c ≡ option_and_then store_in (event_of_call c)
+define-call None = refl
+define-call (Some (svc.Begin q at)) = refl
+define-call (Some (svc.End q)) = refl
+define-call (Some (svc.Bit value)) = refl
+define-call (Some (svc.Target address)) = refl
+define-call (Some (svc.Return address)) = refl
+define-call (Some (svc.Define cell value)) = refl
+define-call (Some (svc.Use cell value)) = refl
+
+end-seen : {E : Type 0} (place : E → Edge) (finish : ℕ → E) (op : ℕ) → place (finish op) ≡ edges.End op → (b : Bool)
+    → option_map place (cond b (Some (finish op)) None) ≡ cond b (Some (edges.End op)) None
+end-seen place finish op is true = ap Some is
+end-seen place finish op is false = refl
+
+edge-seen : {E : Type 0} (p : Placement E) (finish : ℕ → E) (op : ℕ) → p.edge (finish op) ≡ edges.End op → (e : SourceEvent E)
+    → option_map p.edge (edge_taken finish op e) ≡ option_and_then (edge_in op) (Some (seen_at p e))
+edge-seen p finish op is (takes edge) = refl
+edge-seen p finish op is (enters q) = refl
+edge-seen p finish op is (leaves q) = end-seen p.edge finish op is (eqb q op)
+edge-seen p finish op is (loads cell value) = refl
+edge-seen p finish op is (stores cell value) = refl
+edge-seen p finish op is (outputs value) = refl
+
+map-then : {A B : Type 0} (f : A → B) (o : Option A) → option_map f o ≡ option_and_then (λ (a : A). Some (f a)) o
+map-then f None = refl
+map-then f (Some a) = refl
+
+-- what is given by seen events, by the events
+of-seen : {E Z : Type 0} (p : Placement E) (g : MachineEvent → Option Z) (h : SourceEvent E → Option Z) → ((e : SourceEvent E) → h e ≡ option_and_then g (Some (seen_at p e)))
+    → (es : List (SourceEvent E)) → filter_map g (map (seen_at p) es) ≡ filter_map h es
+of-seen {E} p g h same es =
+    ap (filter_map g) (map-shown (seen_at p) es) ∙ sym (shown_at_once (λ (e : SourceEvent E). Some (seen_at p e)) g h same es)
+
+path-seen : {E : Type 0} (p : Placement E) (finish : ℕ → E) (op : ℕ) → p.edge (finish op) ≡ edges.End op → (es : List (SourceEvent E))
+    → filter_map (edge_in op) (map (seen_at p) es) ≡ map p.edge (filter_map (edge_taken finish op) es)
+path-seen {E} p finish op is es =
+    of-seen p (edge_in op) (λ (e : SourceEvent E). option_map p.edge (edge_taken finish op e)) (edge-seen p finish op is) es
+    ∙ shown_at_once (edge_taken finish op) (λ (a : E). Some (p.edge a)) (λ (e : SourceEvent E). option_map p.edge (edge_taken finish op e)) (λ e. map-then p.edge (edge_taken finish op e)) es
+    ∙ sym (map-shown p.edge (filter_map (edge_taken finish op) es))
+
+-- the defines of entries, by the source events of their calls
+defines-made : (js : List Entry) → filter_map (λ (e : Entry). value_defined (made_call e)) js ≡ filter_map store_in (filter_map event_of_call (map made_call js))
+defines-made js =
+    shown_at_once (λ (e : Entry). event_of_call (made_call e)) store_in (λ (e : Entry). value_defined (made_call e)) (λ e. define-call (made_call e)) js
+    ∙ ap (filter_map store_in) (shown_at_once (λ (e : Entry). Some (made_call e)) event_of_call (λ (e : Entry). event_of_call (made_call e)) (λ e. refl) js
+    ∙ ap (filter_map event_of_call) (sym (map-shown made_call js)))
+
+-- ---- whole runs
+
+module _ (S : SourceMachine) (image : Image) (p : Placement S.Edge) (inputs : List ℤ)
+    (K : SourceKeeps S (start_cells image)) (M : FollowsSteps S image p inputs) (op : ℕ) where
+
+  abbrev js : ℕ → List Entry
+  js n = journal image inputs [] n
+
+  abbrev evs : ℕ → List MachineEvent
+  evs n = events_of image.map (js n)
+
+  abbrev words : Cells
+  words = start_cells image
+
+  run-ordered : (n : ℕ) → KeepOrder words (map made_call (js n))
+  run-ordered n =
+      let behind_it = lags S image p inputs words K M n in
+      let source = source-ordered S words K p n in
+      let whole : filter_map event_in (map (seen_at p) (events_after S n)) ≡ filter_map event_in (evs n) ++ filter_map event_in behind_it.rest =
+      ap (filter_map event_in) (sym behind_it.more) ∙ filter_map-append event_in (evs n) behind_it.rest in
+      let w = parted None words (filter_map event_in (evs n)) (filter_map event_in behind_it.rest) source.later source.behind
+      (subst (λ (es : List (SourceEvent Edge)). Passes None words es source.later source.behind) whole source.passes) in
+      record {
+        active = w.active_between;
+        cells = w.cells_between;
+        passes = subst (λ (es : List (SourceEvent Edge)). Passes None words es w.active_between w.cells_between) (sym (shown-calls image.map (js n))) w.first;
+      }
+
+  -- ---- outputs
+
+  outputs-shown : (n : ℕ) → (bare image inputs [] n).outputs ≡ filter_map print_in (evs n)
+  outputs-shown n = outputs-are image.code [] n (started image inputs) ∙ shown-prints image.map (js n)
+
+  outputs-of : (k : ℕ) → filter_map print_in (map (seen_at p) (events_after S k)) ≡ outputs_of (events_after S k)
+  outputs-of k = of-seen p print_in output_in (output-seen p) (events_after S k)
+
+  forth : (k n : ℕ) (why : Finish) → end_after S k ≡ Some why → 300 * (k + 1) ≤ n → EndsAs S (bare image inputs [] n).end (bare image inputs [] n).outputs k why
+  forth k n why is enough =
+      let w = ended-by S image p inputs words K M k n why is enough in
+      record {
+        ended = w.end;
+        same = outputs-shown n ∙ ap (filter_map print_in) w.alike ∙ outputs-of k;
+      }
+
+  back : (n : ℕ) (why : DeviceEnd) → (bare image inputs [] n).end ≡ Some why → HasEnded S (bare image inputs [] n).outputs n why
+  back n why is =
+      let w = has-ended S image p inputs words K M n why is in
+      record {
+        finish = w.finish;
+        ends = w.is;
+        alike = w.end;
+        same = outputs-shown n ∙ ap (filter_map print_in) w.alike ∙ outputs-of n;
+      }
+
+  prefix : (n : ℕ) → (rest : List ℤ) × ((bare image inputs [] n).outputs ++ rest ≡ outputs_of (events_after S n))
+  prefix n =
+      let w = lags S image p inputs words K M n in
+      (filter_map print_in w.rest,
+      ap (λ (xs : List ℤ). xs ++ filter_map print_in w.rest) (outputs-shown n) ∙ sym (filter_map-append print_in (evs n) w.rest) ∙ ap (filter_map print_in) w.more ∙ outputs-of n)
+
+  -- ---- windows
+
+  abbrev opens_e : MachineEvent → Bool
+  opens_e e = opens_window call_in op (p.begin op) e
+
+  abbrev seals_e : MachineEvent → Bool
+  seals_e e = seals_window call_in op e
+
+  run-closed : (s : ℕ) (xs : List Entry) → is_closed opens_e seals_e s (events_of image.map xs) ≡ is_window_closed op (p.begin op) s xs
+  run-closed s xs = closed_alike (told_at image.map) (opens_window made_call op (p.begin op)) (seals_window made_call op) opens_e seals_e (opens-agree image.map op (p.begin op)) (seals-agree image.map op) s xs
+
+  source-closed : (s : ℕ) (es : List (SourceEvent S.Edge)) → is_closed opens_e seals_e s (map (seen_at p) es) ≡ has_completed op s es
+  source-closed s es =
+      ap (is_closed opens_e seals_e s) (map-shown (seen_at p) es)
+      ∙ closed_alike (λ (e : SourceEvent S.Edge). Some (seen_at p e)) (is_entered op) (is_left op) opens_e seals_e (enters-agree p op (p.begin op) refl) (leaves-agree p op) s es
+
+  completes : (s k n : ℕ) → has_completed op s (events_after S k) ≡ true → 300 * (k + 1) ≤ n → is_window_closed op (p.begin op) s (js n) ≡ true
+  completes s k n has enough =
+      let w = shows-by S image p inputs words K M k n enough in
+      sym (run-closed s (js n)) ∙ ap (is_closed opens_e seals_e s) (sym w.more)
+      ∙ closed_stays opens_e seals_e s (map (seen_at p) (events_after S k)) w.rest (source-closed s (events_after S k) ∙ has)
+
+  completed : (s n : ℕ) → is_window_closed op (p.begin op) s (js n) ≡ true → has_completed op s (events_after S n) ≡ true
+  completed s n is =
+      let w = lags S image p inputs words K M n in
+      sym (source-closed s (events_after S n)) ∙ ap (is_closed opens_e seals_e s) (sym w.more)
+      ∙ closed_stays opens_e seals_e s (evs n) w.rest (run-closed s (js n) ∙ is)
+
+  -- window s shows what call s shows
+  record Alike (s k n : ℕ) : Type 0 where
+    pub window : events_of image.map (window made_call op (p.begin op) s (js n)) ≡ map (seen_at p) (stretch op s (events_after S k))
+    pub before : events_of image.map (up_to_window made_call op (p.begin op) s (js n)) ≡ map (seen_at p) (up_to (is_entered op) (is_left op) s (events_after S k))
+
+  alike : (s k n : ℕ) → has_completed op s (events_after S k) ≡ true → is_window_closed op (p.begin op) s (js n) ≡ true → Alike s k n
+  alike s k n has is =
+      let far = n + 300 * (k + 1) in
+      let w = shows-by S image p inputs words K M k far (omega arith) in
+      let more = shown_on image (300 * (k + 1)) (run_on image n (started image inputs)) in
+      let longer : evs n ++ more ≡ map (seen_at p) (events_after S k) ++ w.rest = sym (shown-adds image n (300 * (k + 1)) (started image inputs)) ∙ sym w.more in
+      let here : is_closed opens_e seals_e s (evs n) ≡ true = run-closed s (js n) ∙ is in
+      let there : is_closed opens_e seals_e s (map (seen_at p) (events_after S k)) ≡ true = source-closed s (events_after S k) ∙ has in
+      record {
+        window = sym (inside_alike (told_at image.map) (opens_window made_call op (p.begin op)) (seals_window made_call op) opens_e seals_e (opens-agree image.map op (p.begin op)) (seals-agree image.map op) s (js n))
+            ∙ sym (inside_stays opens_e seals_e s (evs n) more here) ∙ ap (inside opens_e seals_e s) longer ∙ inside_stays opens_e seals_e s (map (seen_at p) (events_after S k)) w.rest there
+            ∙ ap (inside opens_e seals_e s) (map-shown (seen_at p) (events_after S k))
+            ∙ inside_alike (λ (e : SourceEvent S.Edge). Some (seen_at p e)) (is_entered op) (is_left op) opens_e seals_e (enters-agree p op (p.begin op) refl) (leaves-agree p op) s (events_after S k)
+            ∙ sym (map-shown (seen_at p) (stretch op s (events_after S k)));
+        before = sym (up_to_alike (told_at image.map) (opens_window made_call op (p.begin op)) (seals_window made_call op) opens_e seals_e (opens-agree image.map op (p.begin op)) (seals-agree image.map op) s (js n))
+            ∙ sym (up_to_stays opens_e seals_e s (evs n) more here) ∙ ap (up_to opens_e seals_e s) longer ∙ up_to_stays opens_e seals_e s (map (seen_at p) (events_after S k)) w.rest there
+            ∙ ap (up_to opens_e seals_e s) (map-shown (seen_at p) (events_after S k))
+            ∙ up_to_alike (λ (e : SourceEvent S.Edge). Some (seen_at p e)) (is_entered op) (is_left op) opens_e seals_e (enters-agree p op (p.begin op) refl) (leaves-agree p op) s (events_after S k)
+            ∙ sym (map-shown (seen_at p) (up_to (is_entered op) (is_left op) s (events_after S k)));
+      }
+
+  abbrev events_made : List Entry → List (SourceEvent Edge)
+  events_made xs = filter_map event_of_call (map made_call xs)
+
+  made-append : (xs ys : List Entry) → events_made (xs ++ ys) ≡ events_made xs ++ events_made ys
+  made-append xs ys = ap (filter_map event_of_call) (map-append made_call xs ys) ∙ filter_map-append event_of_call (map made_call xs) (map made_call ys)
+
+  uses-checked : (s n : ℕ) → Checks (uses_in_window words op (p.begin op) s (js n)) (events_made (window made_call op (p.begin op) s (js n)))
+  uses-checked s n =
+      let f = run-ordered n in
+      let before = up_to_window made_call op (p.begin op) s (js n) in
+      let inner = window made_call op (p.begin op) s (js n) in
+      let a = windows_are_parts (opens_window made_call op (p.begin op)) (seals_window made_call op) s (js n) in
+      let whole : events_made (js n) ≡ (events_made before ++ events_made inner) ++ events_made a.0 =
+      ap (λ (xs : List Entry). events_made xs) (sym a.1) ∙ made-append (before ++ inner) a.0 ∙ ap (λ (es : List (SourceEvent Edge)). es ++ events_made a.0) (made-append before inner) in
+      let outer = parted None words (events_made before ++ events_made inner) (events_made a.0) f.active f.cells (subst (λ (es : List (SourceEvent Edge)). Passes None words es f.active f.cells) whole f.passes) in
+      let w = parted None words (events_made before) (events_made inner) outer.active_between outer.cells_between outer.first in
+      checks words (map made_call before) w.active_between w.cells_between (map made_call inner) outer.active_between outer.cells_between
+      (holds-behind words [] None words (map made_call before) w.active_between w.cells_between (holds-first words) w.first) w.second
+
+  shows : (s k n : ℕ) → has_completed op s (events_after S k) ≡ true → is_window_closed op (p.begin op) s (js n) ≡ true → ShowsTheCall S image p op s k (js n)
+  shows s k n has is =
+      let a = alike s k n has is in
+      let c = uses-checked s n in
+      let before = up_to_window made_call op (p.begin op) s (js n) in
+      let inner = window made_call op (p.begin op) s (js n) in
+      let ahead_of = up_to (is_entered op) (is_left op) s (events_after S k) in
+      let call_s = stretch op s (events_after S k) in
+      let path = shown-path image.map op inner ∙ ap (filter_map (edge_in op)) a.window ∙ path-seen p S.finish op (M.finish op).edge call_s in
+      let both : events_of image.map (before ++ inner) ≡ map (seen_at p) (ahead_of ++ call_s) =
+      filter_map-append (told_at image.map) before inner ∙ ap (λ (es : List MachineEvent). es ++ events_of image.map inner) a.before
+      ∙ ap (λ (es : List MachineEvent). map (seen_at p) ahead_of ++ es) a.window ∙ sym (map-append (seen_at p) ahead_of call_s) in
+      record {
+        path = path;
+        names = ap (map (name_of image.map)) path ∙ named-call image.map p S.name S.finish op s (events_after S k) (M.finish op).name (stands S image p inputs words K M k).named;
+        uses = c.found ∙ ap (filter_map load_in) (shown-calls image.map inner ∙ ap (filter_map event_in) a.window)
+            ∙ sym (shown_at_once event_in load_in load_seen (λ e. refl) (map (seen_at p) call_s)) ∙ of-seen p load_seen load_in (load-seen p) call_s;
+        sound = c.sound;
+        defines = defines-made (before ++ inner)
+            ∙ ap (filter_map store_in) (shown-calls image.map (before ++ inner) ∙ ap (filter_map event_in) both)
+            ∙ sym (shown_at_once event_in store_in store_seen (λ e. refl) (map (seen_at p) (ahead_of ++ call_s))) ∙ of-seen p store_seen store_in (store-seen p) (ahead_of ++ call_s);
+      }
+
+pub runs_as : (S : SourceMachine) (image : Image) (p : Placement S.Edge) (inputs : List ℤ) → SourceKeeps S (start_cells image) → FollowsSteps S image p inputs → RunsAs S image p inputs
+runs_as S image p inputs K M = record {
+  forth = forth S image p inputs K M zero;
+  back = back S image p inputs K M zero;
+  prefix = prefix S image p inputs K M zero;
+  completes = λ op. completes S image p inputs K M op;
+  completed = λ op. completed S image p inputs K M op;
+  shows = λ op. shows S image p inputs K M op;
+  ordered = run-ordered S image p inputs K M zero;
+}

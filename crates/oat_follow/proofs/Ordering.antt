@@ -1,0 +1,59 @@
+-- The rule of operations and cells: of the front of a list, of events as they are seen, and of whole runs of a source.
+use Rattle.std.proofs.Common.{◌≡◌, ℕ, List, [], ◌∷◌, ◌++◌, map, filter_map, Option, Some, None, refl, sym, subst}
+use Rattle.oat_events.specs.Cells.{Cells, defined}
+use Rattle.oat_events.specs.Events.{Passes, SourceEvent, takes, enters, leaves, loads, stores, outputs}
+use Rattle.oat_events.specs.Source.{SourceKeeps, SourceMachine, events_after, state_after}
+use Rattle.oat_events.proofs.SourceLaws.{passes_after}
+use Rattle.oat_map.specs.declared.edge.Edge.{Edge}
+use Rattle.oat_follow.specs.Placement.{Placement, seen_at}
+use Rattle.oat_follow.proofs.Showing.{event_in}
+
+-- ---- two parts of a list
+
+pub record Parted {E : Type 0} (active : Option ℕ) (cells : Cells) (xs ys : List (SourceEvent E)) (later : Option ℕ) (behind : Cells) : Type 0 where
+  pub active_between : Option ℕ
+  pub cells_between : Cells
+  pub first : Passes active cells xs active_between cells_between
+  pub second : Passes active_between cells_between ys later behind
+
+pub parted : {E : Type 0} (active : Option ℕ) (cells : Cells) (xs ys : List (SourceEvent E)) (later : Option ℕ) (behind : Cells) → Passes active cells (xs ++ ys) later behind → Parted active cells xs ys later behind
+parted active cells [] ys later behind h = record { active_between = active; cells_between = cells; first = (refl, refl); second = h }
+parted active cells (takes edge ∷ xs) ys later behind h =
+    let w = parted active cells xs ys later behind h in record { active_between = w.active_between; cells_between = w.cells_between; first = w.first; second = w.second }
+parted active cells (enters op ∷ xs) ys later behind h =
+    let w = parted (Some op) cells xs ys later behind h.1 in record { active_between = w.active_between; cells_between = w.cells_between; first = (h.0, w.first); second = w.second }
+parted active cells (leaves op ∷ xs) ys later behind h =
+    let w = parted None cells xs ys later behind h.1 in record { active_between = w.active_between; cells_between = w.cells_between; first = (h.0, w.first); second = w.second }
+parted active cells (loads cell value ∷ xs) ys later behind h =
+    let w = parted active cells xs ys later behind h.1 in record { active_between = w.active_between; cells_between = w.cells_between; first = (h.0, w.first); second = w.second }
+parted active cells (stores cell value ∷ xs) ys later behind h =
+    let w = parted active (defined cells cell value) xs ys later behind h in record { active_between = w.active_between; cells_between = w.cells_between; first = w.first; second = w.second }
+parted active cells (outputs value ∷ xs) ys later behind h =
+    let w = parted active cells xs ys later behind h in record { active_between = w.active_between; cells_between = w.cells_between; first = w.first; second = w.second }
+
+-- ---- events as they are seen
+
+passes-seen : {E : Type 0} (p : Placement E) (active : Option ℕ) (cells : Cells) (es : List (SourceEvent E)) (later : Option ℕ) (behind : Cells)
+    → Passes active cells es later behind → Passes active cells (filter_map event_in (map (seen_at p) es)) later behind
+passes-seen p active cells [] later behind h = h
+passes-seen p active cells (takes edge ∷ es) later behind h = passes-seen p active cells es later behind h
+passes-seen p active cells (enters op ∷ es) later behind h = (h.0, passes-seen p (Some op) cells es later behind h.1)
+passes-seen p active cells (leaves op ∷ es) later behind h = (h.0, passes-seen p None cells es later behind h.1)
+passes-seen p active cells (loads cell value ∷ es) later behind h = (h.0, passes-seen p active cells es later behind h.1)
+passes-seen p active cells (stores cell value ∷ es) later behind h = passes-seen p active (defined cells cell value) es later behind h
+passes-seen p active cells (outputs value ∷ es) later behind h = passes-seen p active cells es later behind h
+
+-- ---- whole runs
+
+pub record Ordered {E : Type 0} (words : Cells) (es : List (SourceEvent E)) : Type 0 where
+  pub later : Option ℕ
+  pub behind : Cells
+  pub passes : Passes None words es later behind
+
+pub source-ordered : (S : SourceMachine) (words : Cells) (K : SourceKeeps S words) (p : Placement S.Edge) (k : ℕ) → Ordered words (filter_map event_in (map (seen_at p) (events_after S k)))
+source-ordered S words K p k =
+    let later = K.active (state_after S k S.start) in
+    let behind = K.cells (state_after S k S.start) in
+    let none = subst (λ (active : Option ℕ). Passes active (K.cells S.start) (events_after S k) later behind) K.first_active (passes_after S words K k S.start K.good) in
+    let first = subst (λ (cells : Cells). Passes None cells (events_after S k) later behind) K.first_cells none in
+    record { later = later; behind = behind; passes = passes-seen p None words (events_after S k) later behind first }
