@@ -8,3 +8,4 @@ mod Ordering
 mod Several
 mod OnBare
 mod OnDevice
+mod OneJump

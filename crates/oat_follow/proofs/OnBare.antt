@@ -18,10 +18,10 @@ use Rattle.oat_journal.specs.Measured.{start_cells}
 use Rattle.oat_journal.specs.Run.{Entry, bare, journal, started}
 use Rattle.oat_journal.specs.Window.{executed_path, made_call, opens_window, seals_window, up_to_window, window}
 use Rattle.oat_follow.specs.Events.{MachineEvent, call_in, edge_in, events_of, print_in, told_at}
-use Rattle.oat_follow.specs.Following.{EndsAs, HasEnded, KeepOrder, RunsAs, ShowsTheCall, defines_up_to_window, event_of_call, is_window_closed, uses_in_window, value_defined, value_found}
+use Rattle.oat_follow.specs.Following.{EndsAs, HasEnded, KeepOrder, JournalShowsTheCall, RunsAs, defines_up_to_window, event_of_call, is_window_closed, uses_in_window, value_defined, value_found}
 use Rattle.oat_follow.specs.Placement.{Placement, seen_at}
 use Rattle.oat_follow.specs.Reaching.{run_on, shown_on}
-use Rattle.oat_follow.specs.Steps.{FollowsSteps, device_end}
+use Rattle.oat_follow.specs.Steps.{FollowsSteps, device_end, instructions_for}
 use Rattle.oat_follow.proofs.Naming.{named-call}
 use Rattle.oat_follow.proofs.Ordering.{Ordered, Parted, parted, source-ordered}
 use Rattle.oat_follow.proofs.Outputs.{outputs-are, printed_at}
@@ -167,7 +167,7 @@ module _ (S : SourceMachine) (image : Image) (p : Placement S.Edge) (inputs : Li
   outputs-of : (k : ℕ) → filter_map print_in (map (seen_at p) (events_after S k)) ≡ outputs_of (events_after S k)
   outputs-of k = of-seen p print_in output_in (output-seen p) (events_after S k)
 
-  forth : (k n : ℕ) (why : Finish) → end_after S k ≡ Some why → 300 * (k + 1) ≤ n → EndsAs S (bare image inputs [] n).end (bare image inputs [] n).outputs k why
+  forth : (k n : ℕ) (why : Finish) → end_after S k ≡ Some why → instructions_for k ≤ n → EndsAs S (bare image inputs [] n).end (bare image inputs [] n).outputs k why
   forth k n why is enough =
       let w = ended-by S image p inputs words K M k n why is enough in
       record {
@@ -207,7 +207,7 @@ module _ (S : SourceMachine) (image : Image) (p : Placement S.Edge) (inputs : Li
       ap (is_closed opens_e seals_e s) (map-shown (seen_at p) es)
       ∙ closed_alike (λ (e : SourceEvent S.Edge). Some (seen_at p e)) (is_entered op) (is_left op) opens_e seals_e (enters-agree p op (p.begin op) refl) (leaves-agree p op) s es
 
-  completes : (s k n : ℕ) → has_completed op s (events_after S k) ≡ true → 300 * (k + 1) ≤ n → is_window_closed op (p.begin op) s (js n) ≡ true
+  completes : (s k n : ℕ) → has_completed op s (events_after S k) ≡ true → instructions_for k ≤ n → is_window_closed op (p.begin op) s (js n) ≡ true
   completes s k n has enough =
       let w = shows-by S image p inputs words K M k n enough in
       sym (run-closed s (js n)) ∙ ap (is_closed opens_e seals_e s) (sym w.more)
@@ -226,10 +226,10 @@ module _ (S : SourceMachine) (image : Image) (p : Placement S.Edge) (inputs : Li
 
   alike : (s k n : ℕ) → has_completed op s (events_after S k) ≡ true → is_window_closed op (p.begin op) s (js n) ≡ true → Alike s k n
   alike s k n has is =
-      let far = n + 300 * (k + 1) in
+      let far = n + instructions_for k in
       let w = shows-by S image p inputs words K M k far (omega arith) in
-      let more = shown_on image (300 * (k + 1)) (run_on image n (started image inputs)) in
-      let longer : evs n ++ more ≡ map (seen_at p) (events_after S k) ++ w.rest = sym (shown-adds image n (300 * (k + 1)) (started image inputs)) ∙ sym w.more in
+      let more = shown_on image (instructions_for k) (run_on image n (started image inputs)) in
+      let longer : evs n ++ more ≡ map (seen_at p) (events_after S k) ++ w.rest = sym (shown-adds image n (instructions_for k) (started image inputs)) ∙ sym w.more in
       let here : is_closed opens_e seals_e s (evs n) ≡ true = run-closed s (js n) ∙ is in
       let there : is_closed opens_e seals_e s (map (seen_at p) (events_after S k)) ≡ true = source-closed s (events_after S k) ∙ has in
       record {
@@ -264,7 +264,7 @@ module _ (S : SourceMachine) (image : Image) (p : Placement S.Edge) (inputs : Li
       checks words (map made_call before) w.active_between w.cells_between (map made_call inner) outer.active_between outer.cells_between
       (holds-behind words [] None words (map made_call before) w.active_between w.cells_between (holds-first words) w.first) w.second
 
-  shows : (s k n : ℕ) → has_completed op s (events_after S k) ≡ true → is_window_closed op (p.begin op) s (js n) ≡ true → ShowsTheCall S image p op s k (js n)
+  shows : (s k n : ℕ) → has_completed op s (events_after S k) ≡ true → is_window_closed op (p.begin op) s (js n) ≡ true → JournalShowsTheCall S image p op s k (js n)
   shows s k n has is =
       let a = alike s k n has is in
       let c = uses-checked s n in
@@ -277,23 +277,21 @@ module _ (S : SourceMachine) (image : Image) (p : Placement S.Edge) (inputs : Li
       filter_map-append (told_at image.map) before inner ∙ ap (λ (es : List MachineEvent). es ++ events_of image.map inner) a.before
       ∙ ap (λ (es : List MachineEvent). map (seen_at p) ahead_of ++ es) a.window ∙ sym (map-append (seen_at p) ahead_of call_s) in
       record {
-        path = path;
+        edges = path;
         names = ap (map (name_of image.map)) path ∙ named-call image.map p S.name S.finish op s (events_after S k) (M.finish op).name (stands S image p inputs words K M k).named;
-        uses = c.found ∙ ap (filter_map load_in) (shown-calls image.map inner ∙ ap (filter_map event_in) a.window)
+        found = c.found ∙ ap (filter_map load_in) (shown-calls image.map inner ∙ ap (filter_map event_in) a.window)
             ∙ sym (shown_at_once event_in load_in load_seen (λ e. refl) (map (seen_at p) call_s)) ∙ of-seen p load_seen load_in (load-seen p) call_s;
         sound = c.sound;
-        defines = defines-made (before ++ inner)
+        stores = defines-made (before ++ inner)
             ∙ ap (filter_map store_in) (shown-calls image.map (before ++ inner) ∙ ap (filter_map event_in) both)
             ∙ sym (shown_at_once event_in store_in store_seen (λ e. refl) (map (seen_at p) (ahead_of ++ call_s))) ∙ of-seen p store_seen store_in (store-seen p) (ahead_of ++ call_s);
       }
 
 pub runs_as : (S : SourceMachine) (image : Image) (p : Placement S.Edge) (inputs : List ℤ) → SourceKeeps S (start_cells image) → FollowsSteps S image p inputs → RunsAs S image p inputs
 runs_as S image p inputs K M = record {
-  forth = forth S image p inputs K M zero;
-  back = back S image p inputs K M zero;
-  prefix = prefix S image p inputs K M zero;
-  completes = λ op. completes S image p inputs K M op;
-  completed = λ op. completed S image p inputs K M op;
+  ends = record { forth = forth S image p inputs K M zero; back = back S image p inputs K M zero; prefix = prefix S image p inputs K M zero };
+  closes = λ op. completes S image p inputs K M op;
+  closed = λ op. completed S image p inputs K M op;
   shows = λ op. shows S image p inputs K M op;
   ordered = run-ordered S image p inputs K M zero;
 }

@@ -16,7 +16,7 @@ use Rattle.oat_journal.specs.Run.{Entry, bare, journal}
 use Rattle.oat_journal.specs.Uses.{IsSound}
 use Rattle.oat_journal.specs.Window.{executed_path, made_call, opens_window, seals_window, window}
 use Rattle.oat_journal.proofs.RunLaws.{bodies_are_called_for}
-use Rattle.oat_follow.specs.Following.{EndsAs, HasEnded, KeepOrder, Means, RunsAs, ShowsTheCall, WindowShowsTheCall, defines_up_to_window, is_window_closed}
+use Rattle.oat_follow.specs.Following.{EndsAs, HasEnded, KeepOrder, Means, RunsAs, RunShowsTheCall, ShowsTheCall, defines_up_to_window, is_window_closed, uses_in_window}
 use Rattle.oat_follow.specs.Placement.{Placement}
 use Rattle.oat_follow.proofs.Several.{Seals, has_body, opening, sealing, several}
 use Rattle.oat_follow.proofs.Showing.{map-shown}
@@ -62,23 +62,24 @@ module _ (S : SourceMachine) (image : Image) (p : Placement S.Edge) (o : Opening
       let here : HasBody o (plain_run n) s body = subst (λ (r : Run). HasBody o r s body) (dev-is n) is in
       sym (has-body s n (bodies_are_called_for image o inputs [] n s body is)) ∙ ap (λ (b : Option Body). is_some b) here
 
-  shown-call : (s k n : ℕ) (body : Body) → has_completed o.op s (events_after S k) ≡ true → HasBody o (dev image o inputs [] n) s body → WindowShowsTheCall S image p o s k (plain_run n)
-  shown-call s k n body has is =
-      let w : ShowsTheCall S image p o.op s k (js n) = R.shows o.op s k n has (there s n body is) in
-      subst (λ (at : ℕ). ShowsAt at) begun (record { path = w.path; names = w.names; uses = w.uses; sound = w.sound; defines = w.defines }) where
-        ShowsAt : ℕ → Type 0
-        ShowsAt at = WindowShowsTheCall S image p (record o { begin_at = at }) s k (plain_run n)
+  shown-call : (s k n : ℕ) (body : Body) → has_completed o.op s (events_after S k) ≡ true → HasBody o (dev image o inputs [] n) s body → RunShowsTheCall S image p o s k (plain_run n)
+  shown-call s k n body has is = subst ShownFrom begun (R.shows o.op s k n has (there s n body is)) where
+    ShownFrom : ℕ → Type 0
+    ShownFrom at =
+        ShowsTheCall S image p o.op s k (executed_path image.map o.op (window made_call o.op at s (js n))) (uses_in_window (start_cells image) o.op at s (js n)) (defines_up_to_window o.op at s (js n))
 
   pub means : Means S image p o inputs
   means = record {
     whole = λ n. ap (λ (r : Run). r.journal) (dev-is n);
-    forth = λ k n finish ends enough. subst (λ (r : Run). EndsAs S r.end r.running.outputs k finish) (sym (dev-is n)) (R.forth k n finish ends enough);
-    back = λ n why is.
-        subst (λ (r : Run). HasEnded S r.running.outputs n why) (sym (dev-is n)) (R.back n why (ap (λ (r : Run). r.end) (sym (dev-is n)) ∙ is));
-    prefix = λ n. subst (λ (r : Run). (rest : List ℤ) × (r.running.outputs ++ rest ≡ outputs_of (events_after S n))) (sym (dev-is n)) (R.prefix n);
+    ends = record {
+      forth = λ k n finish ends enough. subst (λ (r : Run). EndsAs S r.end r.running.outputs k finish) (sym (dev-is n)) (R.ends.forth k n finish ends enough);
+      back = λ n why is.
+          subst (λ (r : Run). HasEnded S r.running.outputs n why) (sym (dev-is n)) (R.ends.back n why (ap (λ (r : Run). r.end) (sym (dev-is n)) ∙ is));
+      prefix = λ n. subst (λ (r : Run). (rest : List ℤ) × (r.running.outputs ++ rest ≡ outputs_of (events_after S n))) (sym (dev-is n)) (R.ends.prefix n);
+    };
     seals = λ s k n due has enough.
-        let found = body-there (slice_get (sealed_bodies o (measured_by n).measurements) s) (has-body s n due ∙ R.completes o.op s k n has enough) in
+        let found = body-there (slice_get (sealed_bodies o (measured_by n).measurements) s) (has-body s n due ∙ R.closes o.op s k n has enough) in
         (found.0, subst (λ (r : Run). HasBody o r s found.0) (sym (dev-is n)) found.1);
-    sealed = λ s n body is. R.completed o.op s n (there s n body is);
-    shows = λ s k n body has is. subst (λ (r : Run). WindowShowsTheCall S image p o s k r) (sym (dev-is n)) (shown-call s k n body has is);
+    sealed = λ s n body is. R.closed o.op s n (there s n body is);
+    shows = λ s k n body has is. subst (λ (r : Run). RunShowsTheCall S image p o s k r) (sym (dev-is n)) (shown-call s k n body has is);
   }

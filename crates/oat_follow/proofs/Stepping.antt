@@ -11,7 +11,7 @@ use Rattle.oat_journal.proofs.RunLaws.{ended_runs_rest, turns_add}
 use Rattle.oat_follow.specs.Events.{MachineEvent, events_of}
 use Rattle.oat_follow.specs.Placement.{AreNamed, Placement, seen_at}
 use Rattle.oat_follow.specs.Reaching.{run_on, shown_on}
-use Rattle.oat_follow.specs.Steps.{FollowsSteps, IsMatched, device_end}
+use Rattle.oat_follow.specs.Steps.{FollowsSteps, IsMatched, device_end, instructions_for, step_limit}
 use Rattle.oat_follow.proofs.Naming.{named-append}
 use Rattle.oat_follow.proofs.Reaching.{shown-adds}
 
@@ -55,7 +55,7 @@ module _ (S : SourceMachine) (image : Image) (p : Placement S.Edge) (inputs : Li
   pub record Reached (k : ℕ) (s : S.State) (m : Running) : Type 0 where
     pub count : ℕ
     pub some : k ≤ count
-    pub few : count ≤ 300 * k
+    pub few : count ≤ step_limit * k
     pub kept : M.Related (state_after S k s) (run_on image count m)
     pub alike : shown_on image count m ≡ map (seen_at p) (shown_from S k s)
     pub named : AreNamed image.map p S.name (shown_from S k s)
@@ -89,7 +89,7 @@ module _ (S : SourceMachine) (image : Image) (p : Placement S.Edge) (inputs : Li
   pub record Stands (k : ℕ) : Type 0 where
     pub count : ℕ
     pub some : k ≤ count
-    pub few : count ≤ 300 * (k + 1)
+    pub few : count ≤ instructions_for k
     pub kept : M.Related (state_after S k S.start) (run_on image count (started image inputs))
     pub alike : shown_on image count (started image inputs) ≡ map (seen_at p) (events_after S k)
     pub named : AreNamed image.map p S.name (events_after S k)
@@ -116,7 +116,7 @@ module _ (S : SourceMachine) (image : Image) (p : Placement S.Edge) (inputs : Li
     pub rest : List MachineEvent
     pub more : map (seen_at p) (events_after S k) ++ rest ≡ shown_on image n (started image inputs)
 
-  pub shows-by : (k n : ℕ) → 300 * (k + 1) ≤ n → Shows k n
+  pub shows-by : (k n : ℕ) → instructions_for k ≤ n → Shows k n
   shows-by k n enough =
       let w = stands k in
       let few = w.few in
@@ -147,7 +147,7 @@ module _ (S : SourceMachine) (image : Image) (p : Placement S.Edge) (inputs : Li
     pub end : (run_on image n (started image inputs)).end ≡ Some (device_end why)
     pub alike : shown_on image n (started image inputs) ≡ map (seen_at p) (events_after S k)
 
-  pub ended-by : (k n : ℕ) (why : Finish) → end_after S k ≡ Some why → 300 * (k + 1) ≤ n → Ended k n why
+  pub ended-by : (k n : ℕ) (why : Finish) → end_after S k ≡ Some why → instructions_for k ≤ n → Ended k n why
   unfolding ends-as
   ended-by k n why is enough =
       let w = stands k in

@@ -1,5 +1,5 @@
 -- An image follows a source step by step: each source step is matched by some instructions of the bare run that show the same.
-use Rattle.std.specs.Prelude.{◌≡◌, ◌≤◌, ℕ, ℤ, List, [], map, Option, None, option_map}
+use Rattle.std.specs.Prelude.{◌≡◌, ◌≤◌, ◌+◌, ◌*◌, ℕ, ℤ, List, [], map, Option, None, option_map}
 use Rattle.oat_events.specs.Source.{Finish, SourceMachine, halted, trapped}
 use Rattle.oat_image.specs.declared.image.Image.{Image}
 use Rattle.oat_map.specs.declared.edge.Edge.TheVariants as edges
@@ -14,11 +14,19 @@ abbrev pub device_end : Finish → DeviceEnd
 device_end halted = ends.Halted
 device_end (trapped kind) = ends.Trap kind
 
--- From related states: a source step, and 1 to 300 instructions.
+-- so many instructions at most match a source step
+abbrev pub step_limit : ℕ
+step_limit = 300
+
+-- so many at most lead from the start of a run to behind k source steps
+abbrev pub instructions_for : ℕ → ℕ
+instructions_for k = step_limit * (k + 1)
+
+-- From related states: a source step, and the instructions that match it, at least one.
 pub record IsMatched (S : SourceMachine) (image : Image) (p : Placement S.Edge) (Related : S.State → Running → Type 0) (s : S.State) (m : Running) : Type 0 where
   pub count : ℕ
   pub some : 1 ≤ count
-  pub few : count ≤ 300
+  pub few : count ≤ step_limit
   pub kept : Related (S.next s) (run_on image count m)
   pub alike : shown_on image count m ≡ map (seen_at p) (S.show s)
   pub named : AreNamed image.map p S.name (S.show s)
@@ -32,7 +40,7 @@ pub record FollowsSteps (S : SourceMachine) (image : Image) (p : Placement S.Edg
   pub Related : S.State → Running → Type 0
   -- the instructions before the first source step
   pub lead : ℕ
-  pub few : lead ≤ 300
+  pub few : lead ≤ step_limit
   pub first : Related S.start (run_on image lead (started image inputs))
   pub silent : shown_on image lead (started image inputs) ≡ []
   pub ends : (s : S.State) (m : Running) → Related s m → m.end ≡ option_map device_end (S.end s)

@@ -1,12 +1,12 @@
 -- A source of the smallest image with a jump (image/Worked): it enters an operation, jumps in it, leaves it, and halts.
-use Rattle.std.specs.Prelude.{ℕ, List, [], ◌∷◌, Option, Some, None}
+use Rattle.std.specs.Prelude.{◌≡◌, ℕ, List, [], ◌∷◌, Option, Some, None}
 use Rattle.oat_events.specs.Events.{SourceEvent, takes, enters, leaves}
 use Rattle.oat_events.specs.Source.{Finish, SourceMachine, halted}
 use Rattle.oat_image.specs.Worked.{one_jump}
 use Rattle.oat_map.specs.declared.edge.Edge.{Edge}
 use Rattle.oat_map.specs.declared.edge.Edge.TheVariants as edges
 use Rattle.oat_map.specs.EdgeName.{name_of}
-use Rattle.oat_journal.specs.Worked.{one_jump_opening}
+use Rattle.oat_measure.specs.declared.opening.Opening.{Opening}
 use Rattle.oat_follow.specs.Following.{Means}
 use Rattle.oat_follow.specs.Placement.{Placement}
 
@@ -49,5 +49,6 @@ one_jump_source = record {
 abbrev pub one_jump_placement : Placement Edge
 one_jump_placement = record { edge = λ edge. edge; begin = λ op. 0x10004 }
 
+-- in each session whose windows open there
 abbrev pub OneJumpMeans : Type 0
-OneJumpMeans = (nonce digest : List ℕ) → Means one_jump_source one_jump one_jump_placement (one_jump_opening nonce digest) []
+OneJumpMeans = (o : Opening) → o.begin_at ≡ 0x10004 → Means one_jump_source one_jump one_jump_placement o []
