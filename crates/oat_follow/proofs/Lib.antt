@@ -1,11 +1,12 @@
 mod Outputs
-pub mod Reaching
+mod Reaching
 mod Showing
 mod Naming
 mod Stepping
-mod Sounding
 mod Ordering
+mod Sounding
 mod Several
 mod OnBare
 mod OnDevice
 mod OneJump
+pub mod FollowLaws

@@ -18,16 +18,16 @@ use Rattle.oat_journal.specs.Measured.{start_cells}
 use Rattle.oat_journal.specs.Run.{Entry, bare, journal, started}
 use Rattle.oat_journal.specs.Window.{executed_path, made_call, opens_window, seals_window, up_to_window, window}
 use Rattle.oat_follow.specs.Events.{MachineEvent, call_in, edge_in, events_of, print_in, told_at}
-use Rattle.oat_follow.specs.Following.{EndsAs, HasEnded, KeepOrder, JournalShowsTheCall, RunsAs, defines_up_to_window, event_of_call, is_window_closed, uses_in_window, value_defined, value_found}
+use Rattle.oat_follow.specs.Following.{EndsAs, HasEnded, JournalShowsTheCall, RunsAs}
+use Rattle.oat_follow.specs.Order.{KeepOrder, event_of_call, is_window_closed, value_defined}
 use Rattle.oat_follow.specs.Placement.{Placement, seen_at}
 use Rattle.oat_follow.specs.Reaching.{run_on, shown_on}
 use Rattle.oat_follow.specs.Steps.{FollowsSteps, device_end, instructions_for}
 use Rattle.oat_follow.proofs.Naming.{named-call}
 use Rattle.oat_follow.proofs.Ordering.{Ordered, Parted, parted, source-ordered}
-use Rattle.oat_follow.proofs.Outputs.{outputs-are, printed_at}
 use Rattle.oat_follow.proofs.Reaching.{shown-adds}
-use Rattle.oat_follow.proofs.Showing.{event_in, map-shown, opens-agree, seals-agree, shown-calls, shown-path, shown-prints}
-use Rattle.oat_follow.proofs.Sounding.{Checks, checks, holds-behind, holds-first}
+use Rattle.oat_follow.proofs.Showing.{event_in, map-shown, opens-agree, outputs_are_shown, paths_are_shown, seals-agree, shown-calls}
+use Rattle.oat_follow.proofs.Sounding.{uses-checked}
 use Rattle.oat_follow.proofs.Stepping.{ended-by, has-ended, lags, shows-by, stands}
 
 -- ---- what a seen event gives
@@ -162,7 +162,7 @@ module _ (S : SourceMachine) (image : Image) (p : Placement S.Edge) (inputs : Li
   -- ---- outputs
 
   outputs-shown : (n : ℕ) → (bare image inputs [] n).outputs ≡ filter_map print_in (evs n)
-  outputs-shown n = outputs-are image.code [] n (started image inputs) ∙ shown-prints image.map (js n)
+  outputs-shown n = outputs_are_shown image inputs [] n
 
   outputs-of : (k : ℕ) → filter_map print_in (map (seen_at p) (events_after S k)) ≡ outputs_of (events_after S k)
   outputs-of k = of-seen p print_in output_in (output-seen p) (events_after S k)
@@ -245,34 +245,15 @@ module _ (S : SourceMachine) (image : Image) (p : Placement S.Edge) (inputs : Li
             ∙ sym (map-shown (seen_at p) (up_to (is_entered op) (is_left op) s (events_after S k)));
       }
 
-  abbrev events_made : List Entry → List (SourceEvent Edge)
-  events_made xs = filter_map event_of_call (map made_call xs)
-
-  made-append : (xs ys : List Entry) → events_made (xs ++ ys) ≡ events_made xs ++ events_made ys
-  made-append xs ys = ap (filter_map event_of_call) (map-append made_call xs ys) ∙ filter_map-append event_of_call (map made_call xs) (map made_call ys)
-
-  uses-checked : (s n : ℕ) → Checks (uses_in_window words op (p.begin op) s (js n)) (events_made (window made_call op (p.begin op) s (js n)))
-  uses-checked s n =
-      let f = run-ordered n in
-      let before = up_to_window made_call op (p.begin op) s (js n) in
-      let inner = window made_call op (p.begin op) s (js n) in
-      let a = windows_are_parts (opens_window made_call op (p.begin op)) (seals_window made_call op) s (js n) in
-      let whole : events_made (js n) ≡ (events_made before ++ events_made inner) ++ events_made a.0 =
-      ap (λ (xs : List Entry). events_made xs) (sym a.1) ∙ made-append (before ++ inner) a.0 ∙ ap (λ (es : List (SourceEvent Edge)). es ++ events_made a.0) (made-append before inner) in
-      let outer = parted None words (events_made before ++ events_made inner) (events_made a.0) f.active f.cells (subst (λ (es : List (SourceEvent Edge)). Passes None words es f.active f.cells) whole f.passes) in
-      let w = parted None words (events_made before) (events_made inner) outer.active_between outer.cells_between outer.first in
-      checks words (map made_call before) w.active_between w.cells_between (map made_call inner) outer.active_between outer.cells_between
-      (holds-behind words [] None words (map made_call before) w.active_between w.cells_between (holds-first words) w.first) w.second
-
   shows : (s k n : ℕ) → has_completed op s (events_after S k) ≡ true → is_window_closed op (p.begin op) s (js n) ≡ true → JournalShowsTheCall S image p op s k (js n)
   shows s k n has is =
       let a = alike s k n has is in
-      let c = uses-checked s n in
+      let c = uses-checked words op (p.begin op) s (js n) (run-ordered n) in
       let before = up_to_window made_call op (p.begin op) s (js n) in
       let inner = window made_call op (p.begin op) s (js n) in
       let ahead_of = up_to (is_entered op) (is_left op) s (events_after S k) in
       let call_s = stretch op s (events_after S k) in
-      let path = shown-path image.map op inner ∙ ap (filter_map (edge_in op)) a.window ∙ path-seen p S.finish op (M.finish op).edge call_s in
+      let path = paths_are_shown image.map op inner ∙ ap (filter_map (edge_in op)) a.window ∙ path-seen p S.finish op (M.finish op).edge call_s in
       let both : events_of image.map (before ++ inner) ≡ map (seen_at p) (ahead_of ++ call_s) =
       filter_map-append (told_at image.map) before inner ∙ ap (λ (es : List MachineEvent). es ++ events_of image.map inner) a.before
       ∙ ap (λ (es : List MachineEvent). map (seen_at p) ahead_of ++ es) a.window ∙ sym (map-append (seen_at p) ahead_of call_s) in

@@ -10,7 +10,7 @@ use Rattle.oat_journal.specs.Run.{Running, Entry, found, entry, made_entry, from
 use Rattle.oat_journal.specs.TurnLaws.{AddsUp, MakesOne}
 use Rattle.oat_journal.proofs.RunLaws.{one_turn, turns_add}
 use Rattle.oat_follow.specs.Events.{MachineEvent, told_at, events_of}
-use Rattle.oat_follow.specs.Reaching.{RunsTo, inst_makes, inst_entry, run_on, shown_on}
+use Rattle.oat_follow.specs.Reaching.{InstructionsFollow, InstructionsLead, LastInstructionsLead, RunsTo, inst_makes, inst_entry, run_on, shown_on}
 
 pub shown-adds : (image : Image) (a b : ℕ) (m : Running) → shown_on image (a + b) m ≡ shown_on image a m ++ shown_on image b (run_on image a m)
 shown-adds image a b m =
@@ -26,8 +26,7 @@ unfolding turns
 just-one code m = refl
 
 -- an instruction that doesn't end the run
-pub goes : (image : Image) (m : Running) (i : Inst) → m.end ≡ None → instruction_at image.code m.machine.regs.pc ≡ Some i → (inst_makes m i).end ≡ None
-    → RunsTo image 1 m (inst_makes m i) (cons_option (told_at image.map (inst_entry m i)) [])
+pub goes : InstructionsLead
 goes image m i going at on =
     let one : MakesOne image.code [] m i = one_turn image.code [] m i going at in
     let noted : entry image.code [] m ≡ Some (inst_entry m i) =
@@ -35,8 +34,7 @@ goes image m i going at on =
     record { run = just-one image.code m ∙ one.next; told = ap (events_of image.map) (one-entry image.code m (Some (inst_entry m i)) noted) }
 
 -- an instruction that ends the run
-pub stops : (image : Image) (m : Running) (i : Inst) (why : DeviceEnd) → m.end ≡ None → instruction_at image.code m.machine.regs.pc ≡ Some i → (inst_makes m i).end ≡ Some why
-    → RunsTo image 1 m (inst_makes m i) []
+pub stops : LastInstructionsLead
 stops image m i why going at off =
     let one : MakesOne image.code [] m i = one_turn image.code [] m i going at in
     let ends : (turn image.code [] m).end ≡ Some why = ap (λ (r : Running). r.end) one.next ∙ off in
@@ -48,7 +46,7 @@ pub still : (image : Image) (m : Running) → RunsTo image 0 m m []
 unfolding turns journal_from
 still image m = record { run = refl; told = refl }
 
-pub thence : (image : Image) (a b : ℕ) (m k l : Running) (xs ys : List MachineEvent) → RunsTo image a m k xs → RunsTo image b k l ys → RunsTo image (a + b) m l (xs ++ ys)
+pub thence : InstructionsFollow
 thence image a b m k l xs ys first second =
     let adds : AddsUp image.code [] a b m = turns_add image.code [] a b m in
     record {

@@ -17,7 +17,7 @@ use Rattle.oat_measure.specs.Measurement.{Stage, State, after_window, before_win
 use Rattle.oat_measure.specs.Monitor.{opens, seals}
 use Rattle.oat_measure.specs.Shelving.{Measured, Measurements, body_of, is_due, measured_on, measures, reopened, sealed_bodies, settled, shelving, with_rest, with_state}
 use Rattle.oat_journal.specs.Window.{is_made}
-use Rattle.oat_follow.specs.Following.{event_of_call}
+use Rattle.oat_follow.specs.Order.{event_of_call}
 
 abbrev Calls : Type 0
 Calls = List (Option MonitorCall)

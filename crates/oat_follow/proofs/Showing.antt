@@ -15,11 +15,11 @@ use Rattle.oat_map.specs.Rows.{row_over}
 use Rattle.oat_measure.specs.declared.call.MonitorCall.{MonitorCall}
 use Rattle.oat_measure.specs.declared.call.MonitorCall.TheVariants as svc
 use Rattle.oat_measure.specs.Monitor.{call_numbered, monitor_call, opens, seals}
-use Rattle.oat_journal.specs.Run.{Entry, next_of}
+use Rattle.oat_journal.specs.Run.{Entry, journal, next_of, started}
 use Rattle.oat_journal.specs.Window.{edge_over, executed_path, is_made, made_call, opens_window, seals_window, shown_edge}
-use Rattle.oat_follow.specs.Events.{MachineEvent, moves, prints, call_in, edge_in, events_of, print_in, printed, shown_call, told_at, told_by}
-use Rattle.oat_follow.specs.Following.{event_of_call}
-use Rattle.oat_follow.proofs.Outputs.{printed_at}
+use Rattle.oat_follow.specs.Events.{MachineEvent, OutputsAreShown, PathsAreShown, moves, prints, call_in, edge_in, events_of, print_in, printed, shown_call, told_at, told_by}
+use Rattle.oat_follow.specs.Order.{event_of_call}
+use Rattle.oat_follow.proofs.Outputs.{outputs-are, printed_at}
 
 -- the call of an event that a call shows
 abbrev shown : Option MonitorCall → Option MonitorCall
@@ -121,11 +121,14 @@ entry-call flow e = by-call flow e.found.regs (next_of e) e.inst
 
 -- ---- lists of entries
 
-pub shown-prints : (flow : Map) (js : List Entry) → filter_map printed_at js ≡ filter_map print_in (events_of flow js)
+shown-prints : (flow : Map) (js : List Entry) → filter_map printed_at js ≡ filter_map print_in (events_of flow js)
 shown-prints flow js = shown_at_once (told_at flow) print_in printed_at (λ e. by-print flow e.found.regs (next_of e) e.inst) js
 
-pub shown-path : (flow : Map) (op : ℕ) (js : List Entry) → executed_path flow op js ≡ filter_map (edge_in op) (events_of flow js)
-shown-path flow op js = shown_at_once (told_at flow) (edge_in op) (shown_edge flow op) (λ e. by-edge flow e.found.regs (next_of e) op e.inst) js
+pub paths_are_shown : PathsAreShown
+paths_are_shown flow op js = shown_at_once (told_at flow) (edge_in op) (shown_edge flow op) (λ e. by-edge flow e.found.regs (next_of e) op e.inst) js
+
+pub outputs_are_shown : OutputsAreShown
+outputs_are_shown image inputs writes n = outputs-are image.code writes n (started image inputs) ∙ shown-prints image.map (journal image inputs writes n)
 
 -- the source event that an event shows by a call
 abbrev pub event_in : MachineEvent → Option (SourceEvent Edge)

@@ -1,6 +1,7 @@
 -- Each checked use of calls that keep order finds what its cell was last defined as.
 use Rattle.std.proofs.Common.{◌≡◌, ℕ, Bool, true, false, cond, ◌&&◌, eqb, List, [], ◌∷◌, ◌++◌, map, filter_map, Option, Some, None, is_some, option_map, All, refl, sym, ap, subst, ◌∙◌, append_assoc, append-nil}
 use Rattle.std.specs.List.{cons_option}
+use Rattle.std.proofs.lemmas.List.{map-append}
 use Rattle.std.proofs.lemmas.List.Elements.{filter_map-append, All-nil, All-cons}
 use Rattle.oat_events.specs.Cells.{Cells, defined}
 use Rattle.oat_events.specs.Events.{Passes, SourceEvent, loads}
@@ -9,7 +10,11 @@ use Rattle.oat_map.specs.declared.edge.Edge.{Edge}
 use Rattle.oat_measure.specs.declared.call.MonitorCall.{MonitorCall}
 use Rattle.oat_measure.specs.declared.call.MonitorCall.TheVariants as svc
 use Rattle.oat_journal.specs.Uses.{CheckedUse, IsSound, define_of, last_of, defined_value, uses_behind}
-use Rattle.oat_follow.specs.Following.{event_of_call, value_found}
+use Rattle.oat_journal.specs.Run.{Entry}
+use Rattle.oat_journal.specs.Window.{made_call, opens_window, seals_window, up_to_window, window}
+use Rattle.oat_events.proofs.WindowLaws.{windows_are_parts}
+use Rattle.oat_follow.specs.Order.{KeepOrder, OrderedUsesAreSound, event_of_call, uses_in_window, value_found}
+use Rattle.oat_follow.proofs.Ordering.{parted}
 
 abbrev Calls : Type 0
 Calls = List (Option MonitorCall)
@@ -129,3 +134,26 @@ checks words before active cells (Some (svc.Define cell value) ∷ cs) lo lc hel
 checks words before active cells (Some (svc.Use cell value) ∷ cs) lo lc held h =
     checks-use cell value before (words cell) (uses_behind words (before ++ Some (svc.Use cell value) ∷ []) cs) (filter_map event_of_call cs) (sym h.0 ∙ held.is cell)
     (checks words (before ++ Some (svc.Use cell value) ∷ []) active cells cs lo lc (holds-other words before cells (Some (svc.Use cell value)) (λ j. refl) held) h.1)
+
+-- ---- the windows of a run
+
+abbrev events_made : List Entry → List (SourceEvent Edge)
+events_made js = filter_map event_of_call (map made_call js)
+
+made-append : (xs ys : List Entry) → events_made (xs ++ ys) ≡ events_made xs ++ events_made ys
+made-append xs ys = ap (filter_map event_of_call) (map-append made_call xs ys) ∙ filter_map-append event_of_call (map made_call xs) (map made_call ys)
+
+pub uses-checked : (words : Cells) (op begin_at s : ℕ) (js : List Entry) → KeepOrder words (map made_call js) → Checks (uses_in_window words op begin_at s js) (events_made (window made_call op begin_at s js))
+uses-checked words op begin_at s js order =
+    let before = up_to_window made_call op begin_at s js in
+    let inner = window made_call op begin_at s js in
+    let a = windows_are_parts (opens_window made_call op begin_at) (seals_window made_call op) s js in
+    let whole : events_made js ≡ (events_made before ++ events_made inner) ++ events_made a.0 =
+    ap (λ (xs : List Entry). events_made xs) (sym a.1) ∙ made-append (before ++ inner) a.0 ∙ ap (λ (es : List (SourceEvent Edge)). es ++ events_made a.0) (made-append before inner) in
+    let outer = parted None words (events_made before ++ events_made inner) (events_made a.0) order.active order.cells (subst (λ (es : List (SourceEvent Edge)). Passes None words es order.active order.cells) whole order.passes) in
+    let w = parted None words (events_made before) (events_made inner) outer.active_between outer.cells_between outer.first in
+    checks words (map made_call before) w.active_between w.cells_between (map made_call inner) outer.active_between outer.cells_between
+    (holds-behind words [] None words (map made_call before) w.active_between w.cells_between (holds-first words) w.first) w.second
+
+pub ordered_uses_are_sound : OrderedUsesAreSound
+ordered_uses_are_sound words op begin_at s js order = (uses-checked words op begin_at s js order).sound

@@ -1,11 +1,13 @@
 -- What a run of an image shows to the outside, instruction by instruction: edges, calls of the monitor, and outputs.
-use Rattle.std.specs.Prelude.{ℕ, ℤ, nat_eq, if◌then◌else◌, List, Option, Some, None}
+use Rattle.std.specs.Prelude.{◌≡◌, ℕ, ℤ, nat_eq, if◌then◌else◌, List, Option, Some, None}
 use Rattle.std.specs.Option.{option_map, option_or}
 use Rattle.std.specs.List.{filter_map}
 use Rattle.oat_a64.specs.declared.inst.Inst.{Inst}
 use Rattle.oat_a64.specs.declared.inst.Inst.TheVariants.{Svc}
 use Rattle.oat_a64.specs.Kinds.{is_transfer}
 use Rattle.oat_a64.specs.Step.{Regs, signed}
+use Rattle.oat_case.specs.declared.case.Write.{Write}
+use Rattle.oat_image.specs.declared.image.Image.{Image}
 use Rattle.oat_map.specs.declared.edge.Edge.{Edge}
 use Rattle.oat_map.specs.declared.edge.Edge.TheVariants as edges
 use Rattle.oat_map.specs.declared.map.Map.{Map}
@@ -13,8 +15,8 @@ use Rattle.oat_map.specs.Rows.{row_over}
 use Rattle.oat_measure.specs.declared.call.MonitorCall.{MonitorCall}
 use Rattle.oat_measure.specs.declared.call.MonitorCall.TheVariants as svc
 use Rattle.oat_measure.specs.Monitor.{monitor_call, seals}
-use Rattle.oat_journal.specs.Run.{Entry, next_of}
-use Rattle.oat_journal.specs.Window.{edge_over}
+use Rattle.oat_journal.specs.Run.{Entry, bare, journal, next_of}
+use Rattle.oat_journal.specs.Window.{edge_over, executed_path}
 
 pub data MachineEvent : Type 0 where
   moves : (edge : Edge) → MachineEvent
@@ -62,3 +64,13 @@ abbrev pub edge_in : ℕ → MachineEvent → Option Edge
 edge_in op (moves edge) = Some edge
 edge_in op (monitors call) = if seals op call then Some (edges.End op) else None
 edge_in op (prints value) = None
+
+-- ---- what a run and a window show
+
+abbrev pub OutputsAreShown : Type 0
+OutputsAreShown =
+    (image : Image) (inputs : List ℤ) (writes : List Write) (n : ℕ)
+    → (bare image inputs writes n).outputs ≡ filter_map print_in (events_of image.map (journal image inputs writes n))
+
+abbrev pub PathsAreShown : Type 0
+PathsAreShown = (flow : Map) (op : ℕ) (js : List Entry) → executed_path flow op js ≡ filter_map (edge_in op) (events_of flow js)

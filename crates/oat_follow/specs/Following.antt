@@ -1,59 +1,20 @@
--- What follows for whole runs where each step is followed: the image ends as the source ends and shows what the source shows, in both directions, on the bare run and on the measured run.
-use Rattle.std.specs.Prelude.{◌≡◌, ◌≤◌, ℕ, ℤ, Bool, true, List, [], ◌++◌, map, Option, Some, None}
-use Rattle.std.specs.List.{All, filter_map}
+-- What follows for whole runs where each step is followed: the image ends as the source ends and shows what the source shows, in both directions, on the bare run and on the measured run (docs/DEFINITIONS.md, "The image runs as the source").
+use Rattle.std.specs.Prelude.{◌≡◌, ◌≤◌, ℕ, ℤ, true, List, [], ◌++◌, map, Option, Some}
+use Rattle.std.specs.List.{All}
 use Rattle.oat_blob.specs.Body.{Body}
-use Rattle.oat_events.specs.Cells.{Cells}
-use Rattle.oat_events.specs.Events.{SourceEvent, enters, leaves, loads, stores, Passes}
 use Rattle.oat_events.specs.Source.{CellValue, Finish, SourceMachine, end_after, events_after, has_completed, loads_of_call, outputs_of, path_of_call, stores_up_to_call}
-use Rattle.oat_events.specs.Windows.{is_closed}
 use Rattle.oat_image.specs.declared.image.Image.{Image}
 use Rattle.oat_map.specs.declared.edge.Edge.{Edge}
 use Rattle.oat_map.specs.EdgeName.{name_of}
-use Rattle.oat_measure.specs.declared.call.MonitorCall.{MonitorCall}
-use Rattle.oat_measure.specs.declared.call.MonitorCall.TheVariants as svc
 use Rattle.oat_measure.specs.declared.opening.Opening.{Opening}
 use Rattle.oat_journal.specs.declared.end.DeviceEnd.{DeviceEnd}
 use Rattle.oat_journal.specs.Measured.{HasBody, IsCalledFor, Run, dev, start_cells, uses_of, window_of}
 use Rattle.oat_journal.specs.Run.{Entry, bare, journal}
-use Rattle.oat_journal.specs.Uses.{CheckedUse, IsSound, uses_behind}
-use Rattle.oat_journal.specs.Window.{executed_path, made_call, opens_window, seals_window, up_to_window, window}
+use Rattle.oat_journal.specs.Uses.{CheckedUse, IsSound}
+use Rattle.oat_journal.specs.Window.{executed_path, made_call, window}
+use Rattle.oat_follow.specs.Order.{KeepOrder, defines_up_to_window, is_window_closed, uses_in_window, value_found}
 use Rattle.oat_follow.specs.Placement.{Placement}
 use Rattle.oat_follow.specs.Steps.{device_end, instructions_for}
-
--- ---- calls of the monitor
-
--- the source event that a call shows, if it shows one
-abbrev pub event_of_call : Option MonitorCall → Option (SourceEvent Edge)
-event_of_call (Some (svc.Begin op at)) = Some (enters op)
-event_of_call (Some (svc.End op)) = Some (leaves op)
-event_of_call (Some (svc.Define cell value)) = Some (stores cell value)
-event_of_call (Some (svc.Use cell value)) = Some (loads cell value)
-event_of_call _ = None
-
--- From these words in the cells: no operation begins inside one, only the active one ends, and each use gives what its cell holds.
-pub record KeepOrder (words : Cells) (calls : List (Option MonitorCall)) : Type 0 where
-  pub active : Option ℕ
-  pub cells : Cells
-  pub passes : Passes None words (filter_map event_of_call calls) active cells
-
--- ---- the windows of a journal
-
-abbrev pub is_window_closed : ℕ → ℕ → ℕ → List Entry → Bool
-is_window_closed op begin_at s js = is_closed (opens_window made_call op begin_at) (seals_window made_call op) s js
-
-abbrev pub uses_in_window : Cells → ℕ → ℕ → ℕ → List Entry → List CheckedUse
-uses_in_window words op begin_at s js = uses_behind words (map made_call (up_to_window made_call op begin_at s js)) (map made_call (window made_call op begin_at s js))
-
-abbrev pub value_defined : Option MonitorCall → Option CellValue
-value_defined (Some (svc.Define cell value)) = Some (record { cell = cell; value = value })
-value_defined _ = None
-
--- from the start of the run up to the end of window s
-abbrev pub defines_up_to_window : ℕ → ℕ → ℕ → List Entry → List CellValue
-defines_up_to_window op begin_at s js = filter_map (λ e. value_defined (made_call e)) (up_to_window made_call op begin_at s js ++ window made_call op begin_at s js)
-
-abbrev pub value_found : CheckedUse → CellValue
-value_found checked = record { cell = checked.cell; value = checked.found }
 
 -- ---- what is alike
 
