@@ -10,7 +10,6 @@ use Rattle.oat_events.specs.Source.{edge_taken, stretch}
 use Rattle.oat_follow.specs.Placement.{AreNamed, Placement}
 
 module _ {E : Type 0} (flow : Map) (p : Placement E) (name : E → EdgeName) where
-
   abbrev Named : List (SourceEvent E) → Type 0
   Named es = AreNamed flow p name es
 

@@ -135,7 +135,6 @@ defines-made js =
 
 module _ (S : SourceMachine) (image : Image) (p : Placement S.Edge) (inputs : List ℤ)
     (K : SourceKeeps S (start_cells image)) (M : FollowsSteps S image p inputs) (op : ℕ) where
-
   abbrev js : ℕ → List Entry
   js n = journal image inputs [] n
 
@@ -187,9 +186,10 @@ module _ (S : SourceMachine) (image : Image) (p : Placement S.Edge) (inputs : Li
 
   prefix : (n : ℕ) → (rest : List ℤ) × ((bare image inputs [] n).outputs ++ rest ≡ outputs_of (events_after S n))
   prefix n =
-      let w = lags S image p inputs words K M n in
-      (filter_map print_in w.rest,
-      ap (λ (xs : List ℤ). xs ++ filter_map print_in w.rest) (outputs-shown n) ∙ sym (filter_map-append print_in (evs n) w.rest) ∙ ap (filter_map print_in) w.more ∙ outputs-of n)
+      let w = lags S image p inputs words K M n in (
+        filter_map print_in w.rest,
+        ap (λ (xs : List ℤ). xs ++ filter_map print_in w.rest) (outputs-shown n) ∙ sym (filter_map-append print_in (evs n) w.rest) ∙ ap (filter_map print_in) w.more ∙ outputs-of n,
+      )
 
   -- ---- windows
 

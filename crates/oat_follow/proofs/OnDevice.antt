@@ -27,7 +27,6 @@ body-there None h = absurd (cc)
 body-there (Some b) h = (b, refl)
 
 module _ (image : Image) (o : Opening) (inputs : List ℤ) (writes : List Write) (n : ℕ) (order : KeepOrder (start_cells image) (map made_call (journal image inputs writes n))) where
-
   abbrev js : List Entry
   js = journal image inputs writes n
 
@@ -82,7 +81,6 @@ ends-alike S end end' outputs outputs' same alike w = record {
 }
 
 module _ (S : SourceMachine) (image : Image) (p : Placement S.Edge) (o : Opening) (inputs : List ℤ) (begun : p.begin o.op ≡ o.begin_at) (R : RunsAs S image p inputs) where
-
   sealed-run : (n : ℕ) → SealsWindows image o inputs [] n
   sealed-run n = ordered_runs_are_sealed image o inputs [] n (R.ordered n)
 

@@ -30,7 +30,6 @@ run-adds : (image : Image) (a b : ℕ) (m : Running) → run_on image (a + b) m 
 run-adds image a b m = (turns_add image.code [] a b m).run
 
 module _ (S : SourceMachine) (image : Image) (p : Placement S.Edge) (inputs : List ℤ) (words : Cells) (K : SourceKeeps S words) (M : FollowsSteps S image p inputs) where
-
   pub ends-as : (s : S.State) (m : Running) (why : Finish) → M.Related s m → S.end s ≡ Some why → Ends m
   ends-as s m why r is = record { why = device_end why; is = M.ends s m r ∙ ap (λ (e : Option Finish). option_map device_end e) is }
 
