@@ -5,7 +5,9 @@ mod Naming
 mod Stepping
 mod Ordering
 mod Sounding
+mod Shelving
 mod Several
+mod Seeing
 mod OnBare
 mod OnDevice
 mod OneJump

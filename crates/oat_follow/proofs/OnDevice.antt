@@ -17,7 +17,8 @@ use Rattle.oat_journal.proofs.RunLaws.{bodies_are_called_for}
 use Rattle.oat_follow.specs.Following.{EndsAs, EndsAlike, HasEnded, Means, RunShowsTheCall, RunsAs, ShowsTheCall}
 use Rattle.oat_follow.specs.Order.{KeepOrder, OrderedRunsAreSealed, SealsWindows, defines_up_to_window, is_window_closed, uses_in_window}
 use Rattle.oat_follow.specs.Placement.{Placement}
-use Rattle.oat_follow.proofs.Several.{Seals, has_body, opening, sealing, several}
+use Rattle.oat_follow.proofs.Several.{several}
+use Rattle.oat_follow.proofs.Shelving.{Seals, has_body, opening, sealing}
 use Rattle.oat_follow.proofs.Showing.{map-shown}
 
 -- ---- a run whose calls keep order

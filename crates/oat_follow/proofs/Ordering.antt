@@ -1,4 +1,4 @@
--- The rule of operations and cells: of the front of a list, of events as they are seen, and of whole runs of a source.
+-- The rule of operations and cells: of events as they are seen, and of whole runs of a source.
 use Rattle.std.proofs.Common.{◌≡◌, ℕ, List, [], ◌∷◌, ◌++◌, map, filter_map, Option, Some, None, refl, sym, subst}
 use Rattle.oat_events.specs.Cells.{Cells, defined}
 use Rattle.oat_events.specs.Events.{Passes, SourceEvent, takes, enters, leaves, loads, stores, outputs}
@@ -7,29 +7,6 @@ use Rattle.oat_events.proofs.SourceLaws.{passes_after}
 use Rattle.oat_map.specs.declared.edge.Edge.{Edge}
 use Rattle.oat_follow.specs.Placement.{Placement, seen_at}
 use Rattle.oat_follow.proofs.Showing.{event_in}
-
--- ---- two parts of a list
-
-pub record Parted {E : Type 0} (active : Option ℕ) (cells : Cells) (xs ys : List (SourceEvent E)) (later : Option ℕ) (behind : Cells) : Type 0 where
-  pub active_between : Option ℕ
-  pub cells_between : Cells
-  pub first : Passes active cells xs active_between cells_between
-  pub second : Passes active_between cells_between ys later behind
-
-pub parted : {E : Type 0} (active : Option ℕ) (cells : Cells) (xs ys : List (SourceEvent E)) (later : Option ℕ) (behind : Cells) → Passes active cells (xs ++ ys) later behind → Parted active cells xs ys later behind
-parted active cells [] ys later behind h = record { active_between = active; cells_between = cells; first = (refl, refl); second = h }
-parted active cells (takes edge ∷ xs) ys later behind h =
-    let w = parted active cells xs ys later behind h in record { active_between = w.active_between; cells_between = w.cells_between; first = w.first; second = w.second }
-parted active cells (enters op ∷ xs) ys later behind h =
-    let w = parted (Some op) cells xs ys later behind h.1 in record { active_between = w.active_between; cells_between = w.cells_between; first = (h.0, w.first); second = w.second }
-parted active cells (leaves op ∷ xs) ys later behind h =
-    let w = parted None cells xs ys later behind h.1 in record { active_between = w.active_between; cells_between = w.cells_between; first = (h.0, w.first); second = w.second }
-parted active cells (loads cell value ∷ xs) ys later behind h =
-    let w = parted active cells xs ys later behind h.1 in record { active_between = w.active_between; cells_between = w.cells_between; first = (h.0, w.first); second = w.second }
-parted active cells (stores cell value ∷ xs) ys later behind h =
-    let w = parted active (defined cells cell value) xs ys later behind h in record { active_between = w.active_between; cells_between = w.cells_between; first = w.first; second = w.second }
-parted active cells (outputs value ∷ xs) ys later behind h =
-    let w = parted active cells xs ys later behind h in record { active_between = w.active_between; cells_between = w.cells_between; first = w.first; second = w.second }
 
 -- ---- events as they are seen
 

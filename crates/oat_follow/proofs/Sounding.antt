@@ -15,7 +15,7 @@ use Rattle.oat_journal.specs.Run.{Entry}
 use Rattle.oat_journal.specs.Window.{made_call, opens_window, seals_window, up_to_window, window}
 use Rattle.oat_events.proofs.WindowLaws.{windows_are_parts}
 use Rattle.oat_follow.specs.Order.{KeepOrder, OrderedUsesAreSound, event_of_call, uses_in_window, value_found}
-use Rattle.oat_follow.proofs.Ordering.{parted}
+use Rattle.oat_events.proofs.EventLaws.{passes_parted}
 
 abbrev Calls : Type 0
 Calls = List (Option MonitorCall)
@@ -100,10 +100,10 @@ uses-checked words op begin_at s js order =
     let a = windows_are_parts (opens_window made_call op begin_at) (seals_window made_call op) s js in
     let whole : events_made js ≡ (events_made before ++ events_made inner) ++ events_made a.0 =
     ap (λ (xs : List Entry). events_made xs) (sym a.1) ∙ made-append (before ++ inner) a.0 ∙ ap (λ (es : List (SourceEvent Edge)). es ++ events_made a.0) (made-append before inner) in
-    let outer = parted None words (events_made before ++ events_made inner) (events_made a.0) order.active order.cells (subst (λ (es : List (SourceEvent Edge)). Passes None words es order.active order.cells) whole order.passes) in
-    let w = parted None words (events_made before) (events_made inner) outer.active_between outer.cells_between outer.first in
-    checks words (map made_call before) w.active_between w.cells_between (map made_call inner) outer.active_between outer.cells_between
-    (holds-behind words [] None words (map made_call before) w.active_between w.cells_between (held_first words) w.first) w.second
+    let outer = passes_parted (events_made before ++ events_made inner) (events_made a.0) None order.active words order.cells (subst (λ (es : List (SourceEvent Edge)). Passes None words es order.active order.cells) whole order.passes) in
+    let w = passes_parted (events_made before) (events_made inner) None outer.0 words outer.1 outer.2 in
+    checks words (map made_call before) w.0 w.1 (map made_call inner) outer.0 outer.1
+    (holds-behind words [] None words (map made_call before) w.0 w.1 (held_first words) w.2) w.3
 
 pub ordered_uses_are_sound : OrderedUsesAreSound
 ordered_uses_are_sound words op begin_at s js order = (uses-checked words op begin_at s js order).sound
