@@ -1,8 +1,7 @@
 -- The names of a path, where each edge that a source shows has its name.
-use Rattle.std.proofs.Common.{◌≡◌, ℕ, zero, suc, Bool, true, false, cond, eqb, List, [], ◌∷◌, ◌++◌, map, filter_map, Option, Some, None, refl, sym, ap, ◌∙◌}
+use Rattle.std.proofs.Common.{◌≡◌, ℕ, zero, suc, Bool, true, false, cond, eqb, List, [], ◌∷◌, ◌++◌, map, filter_map, Some, None, refl, ap, ◌∙◌}
 use Rattle.std.specs.List.{cons_option}
 use Rattle.oat_map.specs.declared.map.Map.{Map}
-use Rattle.oat_map.specs.declared.edge.Edge.{Edge}
 use Rattle.oat_map.specs.EdgeName.{EdgeName, name_of}
 use Rattle.oat_events.specs.Windows.{through, beyond, past, inside}
 use Rattle.oat_events.specs.Events.{SourceEvent, takes, enters, leaves, loads, stores, outputs, is_entered, is_left}

@@ -1,29 +1,26 @@
 -- What holds of whole bare runs where each step is followed.
-use Rattle.std.proofs.Common.{◌≡◌, ◌+◌, ◌*◌, ◌≤◌, ℕ, zero, suc, ℤ, Bool, true, false, cond, ◌&&◌, eqb, List, [], ◌∷◌, ◌++◌, map, filter_map, Option, Some, None, option_map, option_and_then, refl, sym, ap, subst, ◌∙◌, arith, eqb-true, eq-eqb}
+use Rattle.std.proofs.Common.{◌≡◌, ◌+◌, ◌≤◌, ℕ, zero, ℤ, Bool, true, List, [], ◌++◌, map, filter_map, Some, None, refl, sym, ap, subst, ◌∙◌, arith}
 use Rattle.std.proofs.lemmas.List.{map-append}
 use Rattle.std.proofs.lemmas.List.Elements.{filter_map-append}
 use Rattle.oat_events.specs.Cells.{Cells}
-use Rattle.oat_events.specs.Events.{Passes, SourceEvent, takes, enters, leaves, loads, stores, outputs, is_entered, is_left}
-use Rattle.oat_events.specs.Source.{CellValue, Finish, SourceKeeps, SourceMachine, edge_taken, end_after, events_after, has_completed, load_in, output_in, outputs_of, store_in, stretch}
-use Rattle.oat_events.specs.Windows.{Agrees, inside, is_closed, up_to}
+use Rattle.oat_events.specs.Events.{Passes, SourceEvent, is_entered, is_left}
+use Rattle.oat_events.specs.Source.{Finish, SourceKeeps, SourceMachine, end_after, events_after, has_completed, load_in, output_in, outputs_of, store_in, stretch}
+use Rattle.oat_events.specs.Windows.{inside, is_closed, up_to}
 use Rattle.oat_events.proofs.EventLaws.{passes_parted}
-use Rattle.oat_events.proofs.WindowLaws.{closed_alike, closed_stays, inside_alike, inside_stays, shown_at_once, up_to_alike, up_to_stays, windows_are_parts}
+use Rattle.oat_events.proofs.WindowLaws.{closed_alike, closed_stays, inside_alike, inside_stays, shown_at_once, up_to_alike, up_to_stays}
 use Rattle.oat_image.specs.declared.image.Image.{Image}
 use Rattle.oat_map.specs.declared.edge.Edge.{Edge}
-use Rattle.oat_map.specs.declared.edge.Edge.TheVariants as edges
 use Rattle.oat_map.specs.EdgeName.{name_of}
-use Rattle.oat_measure.specs.declared.call.MonitorCall.{MonitorCall}
-use Rattle.oat_measure.specs.declared.call.MonitorCall.TheVariants as svc
 use Rattle.oat_journal.specs.declared.end.DeviceEnd.{DeviceEnd}
 use Rattle.oat_journal.specs.Measured.{start_cells}
 use Rattle.oat_journal.specs.Run.{Entry, bare, journal, started}
-use Rattle.oat_journal.specs.Window.{executed_path, made_call, opens_window, seals_window, up_to_window, window}
+use Rattle.oat_journal.specs.Window.{made_call, opens_window, seals_window, up_to_window, window}
 use Rattle.oat_follow.specs.Events.{MachineEvent, call_in, edge_in, events_of, print_in, told_at}
 use Rattle.oat_follow.specs.Following.{EndsAs, HasEnded, JournalShowsTheCall, RunsAs}
-use Rattle.oat_follow.specs.Order.{KeepOrder, event_of_call, is_window_closed, value_defined}
+use Rattle.oat_follow.specs.Order.{KeepOrder, is_window_closed}
 use Rattle.oat_follow.specs.Placement.{Placement, seen_at}
 use Rattle.oat_follow.specs.Reaching.{run_on, shown_on}
-use Rattle.oat_follow.specs.Steps.{FollowsSteps, device_end, instructions_for}
+use Rattle.oat_follow.specs.Steps.{FollowsSteps, instructions_for}
 use Rattle.oat_follow.proofs.Naming.{named-call}
 use Rattle.oat_follow.proofs.Ordering.{source-ordered}
 use Rattle.oat_follow.proofs.Reaching.{shown-adds}

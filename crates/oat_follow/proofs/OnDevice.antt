@@ -1,8 +1,8 @@
 -- From the bare run to the measured run of a session.
-use Rattle.std.proofs.Common.{◌≡◌, ◌+◌, ℕ, ℤ, Bool, true, List, [], ◌++◌, map, slice_get, Option, Some, None, is_some, refl, sym, ap, subst, ◌∙◌, arith}
+use Rattle.std.proofs.Common.{◌≡◌, ◌+◌, ℕ, ℤ, true, List, [], ◌++◌, map, slice_get, Option, Some, None, is_some, refl, sym, ap, subst, ◌∙◌, arith}
 use Rattle.oat_blob.specs.Body.{Body}
 use Rattle.oat_case.specs.declared.case.Write.{Write}
-use Rattle.oat_events.specs.Source.{SourceMachine, events_after, has_completed, outputs_of}
+use Rattle.oat_events.specs.Source.{SourceMachine}
 use Rattle.oat_events.specs.Windows.{is_closed}
 use Rattle.oat_events.proofs.WindowLaws.{closed_alike}
 use Rattle.oat_image.specs.declared.image.Image.{Image}
@@ -14,7 +14,7 @@ use Rattle.oat_journal.specs.Run.{Entry, Running, bare, journal}
 use Rattle.oat_journal.specs.declared.end.DeviceEnd.{DeviceEnd}
 use Rattle.oat_journal.specs.Window.{executed_path, made_call, opens_window, seals_window, window}
 use Rattle.oat_journal.proofs.RunLaws.{bodies_are_called_for}
-use Rattle.oat_follow.specs.Following.{EndsAs, EndsAlike, HasEnded, Means, RunShowsTheCall, RunsAs, ShowsTheCall}
+use Rattle.oat_follow.specs.Following.{EndsAlike, Means, RunsAs, ShowsTheCall}
 use Rattle.oat_follow.specs.Order.{KeepOrder, OrderedRunsAreSealed, SealsWindows, defines_up_to_window, is_window_closed, uses_in_window}
 use Rattle.oat_follow.specs.Placement.{Placement}
 use Rattle.oat_follow.proofs.Several.{several}

@@ -1,5 +1,5 @@
 -- The smallest image with a jump follows its source.
-use Rattle.std.proofs.Common.{◌≡◌, ◌≤◌, ℕ, pos, List, [], ◌∷◌, map, Option, option_map, Some, None, refl, sym, ap, ◌∙◌, arith, lit<}
+use Rattle.std.proofs.Common.{◌≡◌, ◌≤◌, ℕ, pos, [], map, Option, option_map, Some, None, refl, sym, ap, ◌∙◌, arith, lit<}
 use Rattle.oat_a64.specs.declared.inst.Inst.TheVariants.{Movz, B, Svc}
 use Rattle.oat_a64.specs.Fetch.{inst_of}
 use Rattle.oat_a64.proofs.FetchLemmas.{inst_from_word}

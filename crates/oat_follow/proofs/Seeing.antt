@@ -1,22 +1,19 @@
 -- What events give as they are seen on a machine, by what they give themselves.
-use Rattle.std.proofs.Common.{◌≡◌, ◌+◌, ◌*◌, ◌≤◌, ℕ, zero, suc, ℤ, Bool, true, false, cond, ◌&&◌, eqb, List, [], ◌∷◌, ◌++◌, map, filter_map, Option, Some, None, option_map, option_and_then, refl, sym, ap, subst, ◌∙◌, arith, eqb-true, eq-eqb}
-use Rattle.std.proofs.lemmas.List.{map-append}
-use Rattle.std.proofs.lemmas.List.Elements.{filter_map-append}
-use Rattle.oat_events.specs.Cells.{Cells}
-use Rattle.oat_events.specs.Events.{Passes, SourceEvent, takes, enters, leaves, loads, stores, outputs, is_entered, is_left}
-use Rattle.oat_events.specs.Source.{CellValue, Finish, SourceKeeps, SourceMachine, edge_taken, end_after, events_after, has_completed, load_in, output_in, outputs_of, store_in, stretch}
-use Rattle.oat_events.specs.Windows.{Agrees, inside, is_closed, up_to}
-use Rattle.oat_events.proofs.WindowLaws.{closed_alike, closed_stays, inside_alike, inside_stays, shown_at_once, up_to_alike, up_to_stays, windows_are_parts}
+use Rattle.std.proofs.Common.{◌≡◌, ℕ, Bool, true, false, cond, ◌&&◌, eqb, List, map, filter_map, Option, Some, None, option_map, option_and_then, refl, sym, ap, ◌∙◌, eqb-true, eq-eqb}
+use Rattle.oat_events.specs.Events.{SourceEvent, takes, enters, leaves, loads, stores, outputs, is_entered, is_left}
+use Rattle.oat_events.specs.Source.{CellValue, edge_taken, load_in, output_in, store_in}
+use Rattle.oat_events.specs.Windows.{Agrees}
+use Rattle.oat_events.proofs.WindowLaws.{shown_at_once}
 use Rattle.oat_map.specs.declared.edge.Edge.{Edge}
 use Rattle.oat_map.specs.declared.edge.Edge.TheVariants as edges
 use Rattle.oat_measure.specs.declared.call.MonitorCall.{MonitorCall}
 use Rattle.oat_measure.specs.declared.call.MonitorCall.TheVariants as svc
-use Rattle.oat_journal.specs.Run.{Entry, bare, journal, started}
-use Rattle.oat_journal.specs.Window.{executed_path, made_call, opens_window, seals_window, up_to_window, window}
-use Rattle.oat_follow.specs.Events.{MachineEvent, call_in, edge_in, events_of, print_in, told_at}
-use Rattle.oat_follow.specs.Order.{KeepOrder, event_of_call, is_window_closed, value_defined}
+use Rattle.oat_journal.specs.Run.{Entry}
+use Rattle.oat_journal.specs.Window.{made_call, opens_window, seals_window}
+use Rattle.oat_follow.specs.Events.{MachineEvent, call_in, edge_in, print_in}
+use Rattle.oat_follow.specs.Order.{event_of_call, value_defined}
 use Rattle.oat_follow.specs.Placement.{Placement, seen_at}
-use Rattle.oat_follow.proofs.Showing.{event_in, map-shown, opens-agree, outputs_are_shown, paths_are_shown, seals-agree, shown-calls}
+use Rattle.oat_follow.proofs.Showing.{event_in, map-shown}
 
 enter-agrees : (q op at begun : ℕ) → (q ≡ op → begun ≡ at) → (b : Bool) → eqb q op ≡ b → b ≡ (b && eqb begun at)
 enter-agrees q op at begun same true is = sym (eq-eqb begun at (same (eqb-true q op is)))

@@ -1,7 +1,6 @@
 -- A session whose calls keep order is never stopped, and window s of it is sealed exactly where that window of the calls is closed.
-use Rattle.std.proofs.Common.{◌≡◌, ◌+◌, ◌<◌, ◌≤◌, ◌⊎◌, ℕ, zero, suc, Bool, true, false, cond, ◌&&◌, ◌||◌, not, eqb, List, [], ◌∷◌, ◌++◌, length, slice_get, filter_map, Option, Some, None, is_some, option_map, Result, Ok, Err, refl, sym, ap, subst, ◌∙◌, inl, inr, arith, eqb-true, eq-eqb, length-append}
+use Rattle.std.proofs.Common.{◌≡◌, ◌+◌, ℕ, zero, suc, Bool, true, false, cond, ◌&&◌, ◌||◌, not, eqb, List, [], ◌∷◌, ◌++◌, length, slice_get, filter_map, Option, Some, None, is_some, Ok, Err, refl, sym, ap, subst, ◌∙◌, arith, eqb-true, eq-eqb, length-append}
 use Rattle.std.specs.List.{list_any}
-use Rattle.std.proofs.lemmas.Bool.{ltb-true, lt-ltb}
 use Rattle.sha2.specs.Sha256.{sha256}
 use Rattle.oat_blob.specs.Body.{Body}
 use Rattle.oat_chain.specs.Chain.{window_head, link}
@@ -11,12 +10,9 @@ use Rattle.oat_events.specs.Windows.{beyond, is_closed}
 use Rattle.oat_measure.specs.declared.call.MonitorCall.{MonitorCall}
 use Rattle.oat_measure.specs.declared.call.MonitorCall.TheVariants as svc
 use Rattle.oat_measure.specs.declared.opening.Opening.{Opening}
-use Rattle.oat_measure.specs.declared.stop.StopKind.{StopKind}
 use Rattle.oat_measure.specs.declared.stop.StopKind.TheVariants.{WrongEnd}
-use Rattle.oat_measure.specs.Measurement.{Stage, State, after_window, before_window, inside_window, measured, measuring, sealed, unmeasured, violated}
-use Rattle.oat_measure.specs.Monitor.{opens, seals}
-use Rattle.oat_measure.specs.Shelving.{Measured, Measurements, body_of, is_due, measured_on, measures, reopened, sealed_bodies, settled, shelving, with_rest, with_state}
-use Rattle.oat_journal.specs.Window.{is_made}
+use Rattle.oat_measure.specs.Measurement.{State, measured, measuring, sealed, unmeasured, violated}
+use Rattle.oat_measure.specs.Shelving.{body_of, is_due, measured_on, measures, reopened, sealed_bodies, shelving, with_state}
 use Rattle.oat_follow.specs.Order.{event_of_call}
 use Rattle.oat_follow.proofs.Shelving.{Calls, opening, sealing, closed, closed_within, on_shelf, has_body, Seals, in-front, none-behind, due-behind, staged, bodies-at, behind, retested, stays-unmeasured, stays-measuring, skipped, opened, passed, over, over-seals}
 

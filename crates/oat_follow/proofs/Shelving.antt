@@ -1,23 +1,17 @@
 -- The windows of a session and its shelf of bodies, call by call.
-use Rattle.std.proofs.Common.{◌≡◌, ◌+◌, ◌<◌, ◌≤◌, ◌⊎◌, ℕ, zero, suc, Bool, true, false, cond, ◌&&◌, ◌||◌, not, eqb, List, [], ◌∷◌, ◌++◌, length, slice_get, filter_map, Option, Some, None, is_some, option_map, Result, Ok, Err, refl, sym, ap, subst, ◌∙◌, inl, inr, arith, eqb-true, eq-eqb, length-append}
+use Rattle.std.proofs.Common.{◌≡◌, ◌+◌, ◌<◌, ◌⊎◌, ℕ, zero, suc, Bool, true, false, cond, ◌||◌, List, [], ◌∷◌, ◌++◌, length, slice_get, Option, Some, None, is_some, option_map, Result, Ok, refl, sym, ap, subst, ◌∙◌, inl, inr, arith}
 use Rattle.std.specs.List.{list_any}
-use Rattle.std.proofs.lemmas.Bool.{ltb-true, lt-ltb}
-use Rattle.sha2.specs.Sha256.{sha256}
+use Rattle.std.proofs.lemmas.Bool.{lt-ltb}
 use Rattle.oat_blob.specs.Body.{Body}
-use Rattle.oat_chain.specs.Chain.{window_head, link}
-use Rattle.oat_events.specs.Cells.{Cells, defined}
-use Rattle.oat_events.specs.Events.{Passes}
 use Rattle.oat_events.specs.Windows.{beyond, is_closed}
 use Rattle.oat_measure.specs.declared.call.MonitorCall.{MonitorCall}
 use Rattle.oat_measure.specs.declared.call.MonitorCall.TheVariants as svc
 use Rattle.oat_measure.specs.declared.opening.Opening.{Opening}
 use Rattle.oat_measure.specs.declared.stop.StopKind.{StopKind}
-use Rattle.oat_measure.specs.declared.stop.StopKind.TheVariants.{WrongEnd}
-use Rattle.oat_measure.specs.Measurement.{Stage, State, after_window, before_window, inside_window, measured, measuring, sealed, unmeasured, violated}
+use Rattle.oat_measure.specs.Measurement.{Stage, State, after_window, before_window, inside_window, measured, measuring, sealed, unmeasured}
 use Rattle.oat_measure.specs.Monitor.{opens, seals}
-use Rattle.oat_measure.specs.Shelving.{Measured, Measurements, body_of, is_due, measured_on, measures, reopened, sealed_bodies, settled, shelving, with_rest, with_state}
+use Rattle.oat_measure.specs.Shelving.{Measured, Measurements, body_of, is_due, measured_on, measures, sealed_bodies, settled, shelving, with_rest, with_state}
 use Rattle.oat_journal.specs.Window.{is_made}
-use Rattle.oat_follow.specs.Order.{event_of_call}
 
 abbrev pub Calls : Type 0
 Calls = List (Option MonitorCall)

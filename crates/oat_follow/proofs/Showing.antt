@@ -1,5 +1,5 @@
 -- What the entries of a journal give, from the events that they show.
-use Rattle.std.proofs.Common.{◌≡◌, ℕ, ℤ, Bool, true, false, cond, eqb, List, map, filter_map, [], ◌∷◌, Option, Some, None, option_and_then, refl, sym, ap, ◌∙◌, eqb-true}
+use Rattle.std.proofs.Common.{◌≡◌, ℕ, Bool, true, false, cond, eqb, List, map, filter_map, [], ◌∷◌, Option, Some, None, option_and_then, refl, sym, ap, ◌∙◌, eqb-true}
 use Rattle.std.specs.Option.{option_map, option_or}
 use Rattle.oat_a64.specs.declared.inst.Inst.{Inst}
 use Rattle.oat_a64.specs.declared.inst.Inst.TheVariants.{B, Bl, BCond, Cbz, Cbnz, Blr, Ret, Svc}
@@ -16,7 +16,7 @@ use Rattle.oat_measure.specs.declared.call.MonitorCall.{MonitorCall}
 use Rattle.oat_measure.specs.declared.call.MonitorCall.TheVariants as svc
 use Rattle.oat_measure.specs.Monitor.{call_numbered, monitor_call, opens, seals}
 use Rattle.oat_journal.specs.Run.{Entry, journal, next_of, started}
-use Rattle.oat_journal.specs.Window.{edge_over, executed_path, is_made, made_call, opens_window, seals_window, shown_edge}
+use Rattle.oat_journal.specs.Window.{edge_over, is_made, made_call, opens_window, seals_window, shown_edge}
 use Rattle.oat_follow.specs.Events.{MachineEvent, OutputsAreShown, PathsAreShown, moves, prints, call_in, edge_in, events_of, print_in, printed, shown_call, told_at, told_by}
 use Rattle.oat_follow.specs.Order.{event_of_call}
 use Rattle.oat_follow.proofs.Outputs.{outputs-are, printed_at}

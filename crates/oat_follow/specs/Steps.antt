@@ -1,5 +1,5 @@
 -- An image follows a source step by step: each source step is matched by some instructions of the bare run that show the same.
-use Rattle.std.specs.Prelude.{◌≡◌, ◌≤◌, ◌+◌, ◌*◌, ℕ, ℤ, List, [], map, Option, None, option_map}
+use Rattle.std.specs.Prelude.{◌≡◌, ◌≤◌, ◌+◌, ◌*◌, ℕ, ℤ, List, [], map, None, option_map}
 use Rattle.oat_events.specs.Source.{Finish, SourceMachine, halted, trapped}
 use Rattle.oat_image.specs.declared.image.Image.{Image}
 use Rattle.oat_map.specs.declared.edge.Edge.TheVariants as edges

@@ -1,5 +1,5 @@
 -- A source of the smallest image with a jump (image/Worked): it enters an operation, jumps in it, leaves it, and halts.
-use Rattle.std.specs.Prelude.{◌≡◌, ℕ, List, [], ◌∷◌, Option, Some, None}
+use Rattle.std.specs.Prelude.{◌≡◌, List, [], ◌∷◌, Option, Some, None}
 use Rattle.oat_events.specs.Events.{SourceEvent, takes, enters, leaves}
 use Rattle.oat_events.specs.Source.{Finish, SourceMachine, halted}
 use Rattle.oat_image.specs.Worked.{one_jump}
