@@ -168,6 +168,10 @@ module _ (S : SourceMachine) (image : Image) (p : Placement S.Edge) (inputs : Li
 
 pub runs_as : (S : SourceMachine) (image : Image) (p : Placement S.Edge) (inputs : List ℤ) → SourceKeeps S (start_cells image) → FollowsSteps S image p inputs → RunsAs S image p inputs
 runs_as S image p inputs K M = record {
+  events = record {
+    forth = λ k n enough. let w = shows-by S image p inputs (start_cells image) K M k n enough in (w.rest, w.more);
+    back = λ n. let w = lags S image p inputs (start_cells image) K M n in (w.rest, w.more);
+  };
   ends = record { forth = forth S image p inputs K M zero; back = back S image p inputs K M zero; prefix = prefix S image p inputs K M zero };
   closes = λ op. completes S image p inputs K M op;
   closed = λ op. completed S image p inputs K M op;

@@ -12,8 +12,9 @@ use Rattle.oat_journal.specs.Measured.{HasBody, IsCalledFor, Run, dev, start_cel
 use Rattle.oat_journal.specs.Run.{Entry, bare, journal}
 use Rattle.oat_journal.specs.Uses.{CheckedUse, IsSound}
 use Rattle.oat_journal.specs.Window.{executed_path, made_call, window}
+use Rattle.oat_follow.specs.Events.{MachineEvent, events_of}
 use Rattle.oat_follow.specs.Order.{KeepOrder, defines_up_to_window, is_window_closed, uses_in_window, value_found}
-use Rattle.oat_follow.specs.Placement.{Placement}
+use Rattle.oat_follow.specs.Placement.{Placement, seen_at}
 use Rattle.oat_follow.specs.Steps.{device_end, instructions_for}
 
 -- ---- what is alike
@@ -46,6 +47,11 @@ pub record EndsAlike (S : SourceMachine) (end : ℕ → Option DeviceEnd) (outpu
 
 -- ---- on the bare run
 
+-- What the source shows in k steps comes first in what the image shows, once it has had the instructions for it, and what it shows in n instructions comes first in what the source shows in n steps.
+pub record EventsAgree (S : SourceMachine) (image : Image) (p : Placement S.Edge) (inputs : List ℤ) : Type 0 where
+  pub forth : (k n : ℕ) → instructions_for k ≤ n → (rest : List MachineEvent) × (map (seen_at p) (events_after S k) ++ rest ≡ events_of image.map (journal image inputs [] n))
+  pub back : (n : ℕ) → (rest : List MachineEvent) × (events_of image.map (journal image inputs [] n) ++ rest ≡ map (seen_at p) (events_after S n))
+
 abbrev pub JournalShowsTheCall : (S : SourceMachine) (image : Image) (p : Placement S.Edge) (op s k : ℕ) (js : List Entry) → Type 0
 JournalShowsTheCall S image p op s k js =
     ShowsTheCall S image p op s k (executed_path image.map op (window made_call op (p.begin op) s js))
@@ -53,6 +59,7 @@ JournalShowsTheCall S image p op s k js =
 
 -- The bare run of an image runs as a source, for every operation and every call of it: window s is closed exactly where call s has completed, and shows it.
 pub record RunsAs (S : SourceMachine) (image : Image) (p : Placement S.Edge) (inputs : List ℤ) : Type 0 where
+  pub events : EventsAgree S image p inputs
   pub ends : EndsAlike S (λ n. (bare image inputs [] n).end) (λ n. (bare image inputs [] n).outputs)
   pub closes : (op s k n : ℕ) → has_completed op s (events_after S k) ≡ true → instructions_for k ≤ n → is_window_closed op (p.begin op) s (journal image inputs [] n) ≡ true
   pub closed : (op s n : ℕ) → is_window_closed op (p.begin op) s (journal image inputs [] n) ≡ true → has_completed op s (events_after S n) ≡ true
