@@ -12,7 +12,7 @@ use Rattle.oat_journal.specs.Run.{Running, started}
 use Rattle.oat_follow.specs.Placement.{AreNamed, seen_at}
 use Rattle.oat_follow.specs.Reaching.{RunsTo, inst_makes, run_on, shown_on}
 use Rattle.oat_follow.specs.Steps.{FollowsSteps, IsMatched, device_end, step_limit}
-use Rattle.oat_follow.specs.Worked.{OneJumpMeans, Spot, at_call, at_halt, at_jump, at_return, one_jump_placement, one_jump_source, over}
+use Rattle.oat_follow.specs.Worked.{OneJumpMeans, OneJumpRunsAs, Spot, at_call, at_halt, at_jump, at_return, one_jump_placement, one_jump_source, over}
 use Rattle.oat_follow.proofs.OnBare.{runs_as}
 use Rattle.oat_follow.proofs.OnDevice.{means}
 use Rattle.oat_follow.proofs.Reaching.{goes, still, stops, thence}
@@ -152,5 +152,8 @@ keeps = record {
   passes = λ s good. passes s;
 }
 
+pub one_jump_runs_as : OneJumpRunsAs
+one_jump_runs_as = runs_as one_jump_source one_jump one_jump_placement [] keeps follows
+
 pub one_jump_means : OneJumpMeans
-one_jump_means o at = means one_jump_source one_jump one_jump_placement o [] (sym at) (runs_as one_jump_source one_jump one_jump_placement [] keeps follows)
+one_jump_means o at = means one_jump_source one_jump one_jump_placement o [] (sym at) one_jump_runs_as

@@ -52,6 +52,7 @@ pub record EventsAgree (S : SourceMachine) (image : Image) (p : Placement S.Edge
   pub forth : (k n : ℕ) → instructions_for k ≤ n → (rest : List MachineEvent) × (map (seen_at p) (events_after S k) ++ rest ≡ events_of image.map (journal image inputs [] n))
   pub back : (n : ℕ) → (rest : List MachineEvent) × (events_of image.map (journal image inputs [] n) ++ rest ≡ map (seen_at p) (events_after S n))
 
+-- window s of a journal shows call s
 abbrev pub JournalShowsTheCall : (S : SourceMachine) (image : Image) (p : Placement S.Edge) (op s k : ℕ) (js : List Entry) → Type 0
 JournalShowsTheCall S image p op s k js =
     ShowsTheCall S image p op s k (executed_path image.map op (window made_call op (p.begin op) s js))
@@ -69,6 +70,7 @@ pub record RunsAs (S : SourceMachine) (image : Image) (p : Placement S.Edge) (in
 
 -- ---- on the measured run
 
+-- window s of a measured run shows call s
 abbrev pub RunShowsTheCall : (S : SourceMachine) (image : Image) (p : Placement S.Edge) (o : Opening) (s k : ℕ) (run : Run) → Type 0
 RunShowsTheCall S image p o s k run =
     ShowsTheCall S image p o.op s k (executed_path image.map o.op (window_of o s run)) (uses_of image o s run) (defines_up_to_window o.op o.begin_at s run.journal)

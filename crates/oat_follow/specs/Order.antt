@@ -33,9 +33,11 @@ pub record KeepOrder (words : Cells) (calls : List (Option MonitorCall)) : Type 
 
 -- ---- the windows of a journal
 
+-- window s of an operation that begins at this place is closed
 abbrev pub is_window_closed : ℕ → ℕ → ℕ → List Entry → Bool
 is_window_closed op begin_at s js = is_closed (opens_window made_call op begin_at) (seals_window made_call op) s js
 
+-- the checked uses of the window, behind all calls before it
 abbrev pub uses_in_window : Cells → ℕ → ℕ → ℕ → List Entry → List CheckedUse
 uses_in_window words op begin_at s js = uses_behind words (map made_call (up_to_window made_call op begin_at s js)) (map made_call (window made_call op begin_at s js))
 

@@ -7,7 +7,7 @@ use Rattle.oat_map.specs.declared.edge.Edge.{Edge}
 use Rattle.oat_map.specs.declared.edge.Edge.TheVariants as edges
 use Rattle.oat_map.specs.EdgeName.{name_of}
 use Rattle.oat_measure.specs.declared.opening.Opening.{Opening}
-use Rattle.oat_follow.specs.Following.{Means}
+use Rattle.oat_follow.specs.Following.{Means, RunsAs}
 use Rattle.oat_follow.specs.Placement.{Placement}
 
 pub data Spot : Type 0 where
@@ -48,6 +48,9 @@ one_jump_source = record {
 
 abbrev pub one_jump_placement : Placement Edge
 one_jump_placement = record { edge = λ edge. edge; begin = λ op. 0x10004 }
+
+abbrev pub OneJumpRunsAs : Type 0
+OneJumpRunsAs = RunsAs one_jump_source one_jump one_jump_placement []
 
 -- in each session whose windows open there
 abbrev pub OneJumpMeans : Type 0

@@ -2,7 +2,7 @@
 ghost use Rattle.oat_follow.specs.Events.{OutputsAreShown, PathsAreShown};
 ghost use Rattle.oat_follow.specs.Order.{OrderedRunsAreSealed, OrderedUsesAreSound};
 ghost use Rattle.oat_follow.specs.Reaching.{InstructionsFollow, InstructionsLead, LastInstructionsLead};
-ghost use Rattle.oat_follow.specs.Worked.{OneJumpMeans};
+ghost use Rattle.oat_follow.specs.Worked.{OneJumpMeans, OneJumpRunsAs};
 
 /// The outputs of a run are those among its events, whatever was written.
 pub fn outputs_are_shown()
@@ -39,7 +39,12 @@ pub fn ordered_runs_are_sealed()
     ensures { OrderedRunsAreSealed }
 {}
 
-/// The smallest image with a jump means its source, in each session whose windows open at its begin.
+/// The smallest image with a jump runs as its source.
+pub fn one_jump_runs_as()
+    ensures { OneJumpRunsAs }
+{}
+
+/// It means its source, in each session whose windows open at its begin.
 pub fn one_jump_means()
     ensures { OneJumpMeans }
 {}
