@@ -6,14 +6,19 @@ use Rattle.oat_map.specs.Turns.{Turn, GoesBack, stays}
 use Rattle.oat_events.specs.Cells.{Cells}
 use Rattle.oat_events.specs.Events.{SourceEvent, Active, Passes, Stacks}
 use Rattle.oat_events.specs.Source.{edge_taken, stretch, has_completed, calls_done}
-use Rattle.oat_events.proofs.Stacking.{goes_back_in, calls_counted, stacks_join, passes_join}
+use Rattle.oat_events.proofs.Stacking.{goes_back_in, calls_counted, stacks_join, passes_join, passes_part}
 
 -- Where the rule of operations and cells holds of events and of what follows, it holds of both.
 pub passes_joined : {E : Type 0} (front rest : List (SourceEvent E)) (now middle later : Option ℕ) (cells between behind : Cells)
     → Passes now cells front middle between → Passes middle between rest later behind → Passes now cells (front ++ rest) later behind
 passes_joined front rest now middle later cells between behind one two = passes_join front rest now middle later cells between behind one two
 
--- And so for the rule of open calls.
+-- Where it holds of both, it holds of each.
+pub passes_parted : {E : Type 0} (front rest : List (SourceEvent E)) (now later : Option ℕ) (cells behind : Cells) → Passes now cells (front ++ rest) later behind
+    → (middle : Option ℕ) × (between : Cells) × Passes now cells front middle between × Passes middle between rest later behind
+passes_parted front rest now later cells behind h = passes_part front rest now later cells behind h
+
+-- Joining, for the rule of open calls.
 pub stacks_joined : {E P : Type 0} (turn : E → Turn P) (front rest : List (SourceEvent E)) (now middle later : Option (Active P))
     → Stacks turn now front middle → Stacks turn middle rest later → Stacks turn now (front ++ rest) later
 stacks_joined turn front rest now middle later one two = stacks_join turn front rest now middle later one two

@@ -219,3 +219,13 @@ passes_join (leaves op ∷ es) rest a b c x y z one two = (one.0, passes_join es
 passes_join (loads cell value ∷ es) rest a b c x y z one two = (one.0, passes_join es rest a b c x y z one.1 two)
 passes_join (stores cell value ∷ es) rest a b c x y z one two = passes_join es rest a b c (defined x cell value) y z one two
 passes_join (outputs value ∷ es) rest a b c x y z one two = passes_join es rest a b c x y z one two
+
+pub passes_part : {E : Type 0} (front rest : List (SourceEvent E)) (now later : Option ℕ) (cells behind : Cells) → Passes now cells (front ++ rest) later behind
+    → (middle : Option ℕ) × (between : Cells) × Passes now cells front middle between × Passes middle between rest later behind
+passes_part [] rest now later cells behind h = (now, cells, (refl, refl), h)
+passes_part (takes edge ∷ es) rest now later cells behind h = let w = passes_part es rest now later cells behind h in (w.0, w.1, w.2, w.3)
+passes_part (enters op ∷ es) rest now later cells behind h = let w = passes_part es rest (Some op) later cells behind h.1 in (w.0, w.1, (h.0, w.2), w.3)
+passes_part (leaves op ∷ es) rest now later cells behind h = let w = passes_part es rest None later cells behind h.1 in (w.0, w.1, (h.0, w.2), w.3)
+passes_part (loads cell value ∷ es) rest now later cells behind h = let w = passes_part es rest now later cells behind h.1 in (w.0, w.1, (h.0, w.2), w.3)
+passes_part (stores cell value ∷ es) rest now later cells behind h = let w = passes_part es rest now later (defined cells cell value) behind h in (w.0, w.1, w.2, w.3)
+passes_part (outputs value ∷ es) rest now later cells behind h = let w = passes_part es rest now later cells behind h in (w.0, w.1, w.2, w.3)

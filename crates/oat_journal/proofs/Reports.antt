@@ -26,7 +26,7 @@ use Rattle.oat_journal.specs.TurnLaws.{CountsOfCasesFit, RecordsAreFew}
 use Rattle.oat_journal.proofs.Bounds.{journal_is_bounded}
 use Rattle.oat_journal.proofs.Linkage.{journal_is_made, journal_is_linked}
 use Rattle.oat_journal.proofs.Lengths.{taken_few, windows_are_short}
-use Rattle.oat_journal.proofs.Sealing.{held-first, sound-uses}
+use Rattle.oat_journal.proofs.Sealing.{held_first, sound-uses}
 use Rattle.oat_journal.proofs.Shelves.{session}
 use Rattle.oat_journal.proofs.Windows.{Placed, Told, told}
 
@@ -97,7 +97,7 @@ told-of image o inputs writes n s body h =
     let r = ran image o inputs writes n in
     let none : 0 + s ≡ s = omega arith in
     told s made_call o (start_cells image) [] (dev image o inputs writes n).journal [] (at_start o (start_cells image)).state body
-    (record { stage = refl; bits = refl; targets = refl }) refl (held-first (start_cells image))
+    (record { stage = refl; bits = refl; targets = refl }) refl (held_first (start_cells image))
     (subst (λ (m : Measurements). Rattle.oat_measure.specs.Shelving.IsBodyAt o m (0 + s) body) (sym r.measured_is) (subst (λ (k : ℕ). HasBody o (dev image o inputs writes n) k body) (sym none) h))
 
 pub bodies_tell_windows : BodiesTellWindows

@@ -10,3 +10,5 @@ pub use Rattle.oat_journal.proofs.Progress.{turns_are_the_run}
 pub use Rattle.oat_journal.proofs.Lengths.{journals_are_short, windows_are_short}
 -- The windows of the bodies that a run reports, and what these tell.
 pub use Rattle.oat_journal.proofs.Reports.{bodies_are_called_for, bodies_tell_windows, no_violation_means_sound, records_are_few, counts_of_cases_fit, windows_are_traces}
+-- Cells hold the values that they were last defined as: at the start, behind a define, and behind any other call.
+pub use Rattle.oat_journal.proofs.Sealing.{held_first, held_define, held_other, held_is}

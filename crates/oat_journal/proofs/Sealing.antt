@@ -15,7 +15,7 @@ use Rattle.oat_measure.specs.declared.stop.StopKind.TheVariants.{Nested, WrongEn
 use Rattle.oat_events.specs.Cells.{Cells, defined}
 use Rattle.oat_events.specs.Windows.{beyond, through}
 use Rattle.oat_journal.specs.Window.{opens_window, seals_window, up_to_window, window}
-use Rattle.oat_journal.specs.Uses.{CheckedUse, IsSound, define_of, last_of, defined_value, uses_behind}
+use Rattle.oat_journal.specs.Uses.{CheckedUse, Held, IsSound, define_of, last_of, defined_value, uses_behind}
 use Rattle.oat_journal.specs.Measured.{first_unsound}
 
 abbrev pub Calls : Type 0
@@ -42,9 +42,6 @@ state_behind o s (call ∷ calls) = after_call s (measured o s call) (λ next. s
 
 -- ---- what a cell holds: the value that it was last defined as
 
-pub Held : Cells → Calls → Cells → Type 0
-Held words before cells = (j : ℕ) → cells j ≡ option_map (λ (word : ℕ). defined_value word j before) (words j)
-
 last_of-behind : (first value : ℕ) (values : List ℕ) → last_of first (values ++ value ∷ []) ≡ value
 last_of-behind first value [] = refl
 last_of-behind first value (v ∷ vs) = last_of-behind v value vs
@@ -67,9 +64,9 @@ map-same : (o : Option ℕ) (f g : ℕ → ℕ) → ((word : ℕ) → f word ≡
 map-same None f g h = refl
 map-same (Some word) f g h = ap Some (h word)
 
-pub held-other : (words : Cells) (before : Calls) (cells : Cells) (call : Option MonitorCall) → ((j : ℕ) → define_of j call ≡ None) → Held words before cells → Held words (before ++ call ∷ []) cells
+pub held_other : (words : Cells) (before : Calls) (cells : Cells) (call : Option MonitorCall) → ((j : ℕ) → define_of j call ≡ None) → Held words before cells → Held words (before ++ call ∷ []) cells
 unfolding Held
-held-other words before cells call none held j =
+held_other words before cells call none held j =
     held j ∙ map-same (words j) _ _ (λ (word : ℕ). sym (value-other j word before call (none j)))
 
 -- the cell that is defined, and the others
@@ -87,13 +84,13 @@ held-at words before cells cell value j held true is =
 held-at words before cells cell value j held false is =
     held j ∙ map-same (words j) _ _ (λ (word : ℕ). sym (value-other j word before (Some (svc.Define cell value)) (ap (λ (t : Bool). cond t (Some value) None) is)))
 
-held-is : (words : Cells) (before : Calls) (cells : Cells) → Held words before cells → (j : ℕ) → cells j ≡ option_map (λ (word : ℕ). defined_value word j before) (words j)
+pub held_is : (words : Cells) (before : Calls) (cells : Cells) → Held words before cells → (j : ℕ) → cells j ≡ option_map (λ (word : ℕ). defined_value word j before) (words j)
 unfolding Held
-held-is words before cells held j = held j
+held_is words before cells held j = held j
 
-pub held-define : (words : Cells) (before : Calls) (cells : Cells) (cell value : ℕ) → Held words before cells → Held words (before ++ Some (svc.Define cell value) ∷ []) (defined cells cell value)
+pub held_define : (words : Cells) (before : Calls) (cells : Cells) (cell value : ℕ) → Held words before cells → Held words (before ++ Some (svc.Define cell value) ∷ []) (defined cells cell value)
 unfolding Held
-held-define words before cells cell value held j = held-at words before cells cell value j held (eqb j cell) refl
+held_define words before cells cell value held j = held-at words before cells cell value j held (eqb j cell) refl
 
 -- ---- one call of the fold
 
@@ -206,7 +203,7 @@ inside-exact : (o : Opening) (words : Cells) (before : Calls) (s : State) (calls
 inside-exact o words before s [] is held = λ h. not-sealed s.stage is (sym (ap stage_of (no-calls o s)) ∙ h)
 inside-exact o words before s (None ∷ calls) is held =
     behind-call o s s None calls _ refl
-    (inside-exact o words (before ++ None ∷ []) s calls is (held-other words before s.cells None (λ _. refl) held))
+    (inside-exact o words (before ++ None ∷ []) s calls is (held_other words before s.cells None (λ _. refl) held))
 inside-exact o words before s (Some (svc.Begin op at) ∷ calls) is held =
     at-stop o s (Some (svc.Begin op at)) Nested calls _ is (staged o s (svc.Begin op at) measuring is)
 inside-exact o words before s (Some (svc.End op) ∷ calls) is held =
@@ -214,26 +211,26 @@ inside-exact o words before s (Some (svc.End op) ∷ calls) is held =
 inside-exact o words before s (Some (svc.Bit value) ∷ calls) is held =
     let call = Some (svc.Bit value) in
     behind-call o s (record s { bits = s.bits ++ not (eqb value 0) ∷ [] }) call calls _ (staged o s (svc.Bit value) measuring is)
-    (inside-exact o words (before ++ call ∷ []) (record s { bits = s.bits ++ not (eqb value 0) ∷ [] }) calls is (held-other words before s.cells call (λ _. refl) held))
+    (inside-exact o words (before ++ call ∷ []) (record s { bits = s.bits ++ not (eqb value 0) ∷ [] }) calls is (held_other words before s.cells call (λ _. refl) held))
 inside-exact o words before s (Some (svc.Target address) ∷ calls) is held =
     let call = Some (svc.Target address) in
     behind-call o s (record s { targets = s.targets ++ address ∷ [] }) call calls _ (staged o s (svc.Target address) measuring is)
-    (inside-exact o words (before ++ call ∷ []) (record s { targets = s.targets ++ address ∷ [] }) calls is (held-other words before s.cells call (λ _. refl) held))
+    (inside-exact o words (before ++ call ∷ []) (record s { targets = s.targets ++ address ∷ [] }) calls is (held_other words before s.cells call (λ _. refl) held))
 inside-exact o words before s (Some (svc.Return address) ∷ calls) is held =
     let call = Some (svc.Return address) in
     behind-call o s (record s { hash = sha256 (link s.hash address) }) call calls _ (staged o s (svc.Return address) measuring is)
-    (inside-exact o words (before ++ call ∷ []) (record s { hash = sha256 (link s.hash address) }) calls is (held-other words before s.cells call (λ _. refl) held))
+    (inside-exact o words (before ++ call ∷ []) (record s { hash = sha256 (link s.hash address) }) calls is (held_other words before s.cells call (λ _. refl) held))
 inside-exact o words before s (Some (svc.Define cell value) ∷ calls) is held =
     let call = Some (svc.Define cell value) in
     behind-call o s (record s { cells = defined s.cells cell value }) call calls _ (staged o s (svc.Define cell value) measuring is)
-    (inside-exact o words (before ++ call ∷ []) (record s { cells = defined s.cells cell value }) calls is (held-define words before s.cells cell value held))
+    (inside-exact o words (before ++ call ∷ []) (record s { cells = defined s.cells cell value }) calls is (held_define words before s.cells cell value held))
 inside-exact o words before s (Some (svc.Use cell value) ∷ calls) is held =
     let call = Some (svc.Use cell value) in
     let next = record s { violation = violated s.violation cell (s.cells cell) value } in
     let later = uses_behind words (before ++ call ∷ []) (through (seals_window same o.op) calls) in
-    let rest = inside-exact o words (before ++ call ∷ []) next calls is (held-other words before s.cells call (λ _. refl) held) in
+    let rest = inside-exact o words (before ++ call ∷ []) next calls is (held_other words before s.cells call (λ _. refl) held) in
     λ h. behind-call o s next call calls _ (staged o s (svc.Use cell value) measuring is) rest h
-    ∙ ap (λ (c : Option ℕ). first_of (violated s.violation cell c value) (first_unsound later)) (held-is words before s.cells held cell)
+    ∙ ap (λ (c : Option ℕ). first_of (violated s.violation cell c value) (first_unsound later)) (held_is words before s.cells held cell)
     ∙ use-first cell value before s.violation (words cell) later
 
 -- ---- before the window
@@ -271,39 +268,39 @@ at-begin o words op at calls rest before s is none held true opens =
     behind-call o s next call calls _
     (staged o s (svc.Begin op at) unmeasured is ∙ ap (λ (t : Bool). Ok (cond t next s)) opens)
     (λ h.
-    inside-exact o words (before ++ call ∷ []) next calls refl (held-other words before s.cells call (λ _. refl) held) h
+    inside-exact o words (before ++ call ∷ []) next calls refl (held_other words before s.cells call (λ _. refl) held) h
     ∙ ap (λ (v : Option Violation). first_of v (first_unsound (uses_behind words (before ++ call ∷ []) (through (seals_window same o.op) calls)))) none)
 at-begin o words op at calls rest before s is none held false opens =
     let call = Some (svc.Begin op at) in
     let next = record s { stage = measuring; hash = sha256 (window_head o.nonce o.op o.digest s.serial) } in
     stays-out o words call calls rest before s s
     (staged o s (svc.Begin op at) unmeasured is ∙ ap (λ (t : Bool). Ok (cond t next s)) opens)
-    is none (held-other words before s.cells call (λ _. refl) held)
+    is none (held_other words before s.cells call (λ _. refl) held)
 
 pub awaits : (o : Opening) (words : Cells) (calls : Calls) → Awaits o words calls
 awaits o words [] before s is none held = λ h. not-open s.stage is (sym (ap stage_of (no-calls o s)) ∙ h)
 awaits o words (None ∷ calls) before s is none held =
-    stays-out o words None calls (awaits o words calls) before s s refl is none (held-other words before s.cells None (λ _. refl) held)
+    stays-out o words None calls (awaits o words calls) before s s refl is none (held_other words before s.cells None (λ _. refl) held)
 awaits o words (Some (svc.Begin op at) ∷ calls) before s is none held =
     at-begin o words op at calls (awaits o words calls) before s is none held (eqb op o.op && eqb at o.begin_at) refl
 awaits o words (Some (svc.Define cell value) ∷ calls) before s is none held =
     stays-out o words (Some (svc.Define cell value)) calls (awaits o words calls) before s (record s { cells = defined s.cells cell value })
-    (staged o s (svc.Define cell value) unmeasured is) is none (held-define words before s.cells cell value held)
+    (staged o s (svc.Define cell value) unmeasured is) is none (held_define words before s.cells cell value held)
 awaits o words (Some (svc.End op) ∷ calls) before s is none held =
     stays-out o words (Some (svc.End op)) calls (awaits o words calls) before s s
-    (staged o s (svc.End op) unmeasured is) is none (held-other words before s.cells (Some (svc.End op)) (λ _. refl) held)
+    (staged o s (svc.End op) unmeasured is) is none (held_other words before s.cells (Some (svc.End op)) (λ _. refl) held)
 awaits o words (Some (svc.Bit value) ∷ calls) before s is none held =
     stays-out o words (Some (svc.Bit value)) calls (awaits o words calls) before s s
-    (staged o s (svc.Bit value) unmeasured is) is none (held-other words before s.cells (Some (svc.Bit value)) (λ _. refl) held)
+    (staged o s (svc.Bit value) unmeasured is) is none (held_other words before s.cells (Some (svc.Bit value)) (λ _. refl) held)
 awaits o words (Some (svc.Target address) ∷ calls) before s is none held =
     stays-out o words (Some (svc.Target address)) calls (awaits o words calls) before s s
-    (staged o s (svc.Target address) unmeasured is) is none (held-other words before s.cells (Some (svc.Target address)) (λ _. refl) held)
+    (staged o s (svc.Target address) unmeasured is) is none (held_other words before s.cells (Some (svc.Target address)) (λ _. refl) held)
 awaits o words (Some (svc.Return address) ∷ calls) before s is none held =
     stays-out o words (Some (svc.Return address)) calls (awaits o words calls) before s s
-    (staged o s (svc.Return address) unmeasured is) is none (held-other words before s.cells (Some (svc.Return address)) (λ _. refl) held)
+    (staged o s (svc.Return address) unmeasured is) is none (held_other words before s.cells (Some (svc.Return address)) (λ _. refl) held)
 awaits o words (Some (svc.Use cell value) ∷ calls) before s is none held =
     stays-out o words (Some (svc.Use cell value)) calls (awaits o words calls) before s s
-    (staged o s (svc.Use cell value) unmeasured is) is none (held-other words before s.cells (Some (svc.Use cell value)) (λ _. refl) held)
+    (staged o s (svc.Use cell value) unmeasured is) is none (held_other words before s.cells (Some (svc.Use cell value)) (λ _. refl) held)
 
 -- ---- the laws
 
@@ -311,9 +308,9 @@ map-id : (o : Option ℕ) → o ≡ option_map (λ (word : ℕ). word) o
 map-id None = refl
 map-id (Some word) = refl
 
-pub held-first : (words : Cells) → Held words [] words
+pub held_first : (words : Cells) → Held words [] words
 unfolding Held
-held-first words j = map-id (words j)
+held_first words j = map-id (words j)
 
 when-none : (t : Bool) (others : Option Violation) (v : Violation) → cond t others (Some v) ≡ None → t ≡ true
 when-none true others v h = refl

@@ -15,9 +15,9 @@ use Rattle.oat_measure.specs.declared.stop.StopKind.TheVariants.{Nested, WrongEn
 use Rattle.oat_events.specs.Cells.{Cells, defined}
 use Rattle.oat_events.specs.Windows.{beyond, past, through}
 use Rattle.oat_journal.specs.Window.{is_made, opens_window, seals_window, returned, recorded_bit, recorded_target}
-use Rattle.oat_journal.specs.Uses.{define_of}
+use Rattle.oat_journal.specs.Uses.{Held, define_of}
 use Rattle.oat_journal.specs.Trace.{IsQuiet}
-use Rattle.oat_journal.proofs.Sealing.{Calls, Held, held-other, held-define, state_behind, staged, step-ok, step-err, no-calls, closed-stage, not-sealed, not-open}
+use Rattle.oat_journal.proofs.Sealing.{Calls, held_other, held_define, state_behind, staged, step-ok, step-err, no-calls, closed-stage, not-sealed, not-open}
 use Rattle.oat_journal.proofs.Shelves.{on_shelf, session, session-ok, session-skip, settled-open}
 
 -- ---- lists
@@ -182,7 +182,7 @@ seals-at {X} call o s x xs is same to =
         bits = sym (append-nil s.bits) ∙ ap (λ (c : Option MonitorCall). s.bits ++ cons_option (recorded_bit c) []) (sym is);
         targets = sym (append-nil s.targets) ∙ ap (λ (c : Option MonitorCall). s.targets ++ cons_option (recorded_target c) []) (sym is);
       };
-      held = λ words earlier held. subst (λ (c : Option MonitorCall). Held words (earlier ++ c ∷ []) s.cells) (sym is) (held-other words earlier s.cells (Some (svc.End o.op)) (λ _. refl) held);
+      held = λ words earlier held. subst (λ (c : Option MonitorCall). Held words (earlier ++ c ∷ []) s.cells) (sym is) (held_other words earlier s.cells (Some (svc.End o.op)) (λ _. refl) held);
       to = step-ok o s (call x) closing (map call xs) to;
       goes = λ shelved.
           ap (λ (c : Option MonitorCall). session o (on_shelf shelved s) (c ∷ map call xs)) is
@@ -220,26 +220,26 @@ ended-end call o s x xs is op was false other h =
 ended-at : {X : Type 0} (call : X → Option MonitorCall) (o : Opening) (s : State) (x : X) (xs : List X) → ((next : State) → next.stage ≡ measuring → Sealed o next (map call xs) → Ended call o next xs)
     → s.stage ≡ measuring → (c : Option MonitorCall) → call x ≡ c → Sealed o s (map call (x ∷ xs)) → Ended call o s (x ∷ xs)
 ended-at call o s x xs rest is None was h =
-    onward call o s x xs rest None was s refl (record { measuring = is; goes_on = λ op. refl; quiet = tt; serial = refl; held = λ words earlier held. held-other words earlier s.cells None (λ _. refl) held; holds = same-holds s }) h
+    onward call o s x xs rest None was s refl (record { measuring = is; goes_on = λ op. refl; quiet = tt; serial = refl; held = λ words earlier held. held_other words earlier s.cells None (λ _. refl) held; holds = same-holds s }) h
 ended-at call o s x xs rest is (Some (svc.Begin op at)) was h =
     refused call o s x xs (Some (svc.Begin op at)) was Nested (staged o s (svc.Begin op at) measuring is) is h
 ended-at call o s x xs rest is (Some (svc.End op)) was h =
     ended-end call o s x xs is op was (eqb op o.op) refl h
 ended-at call o s x xs rest is (Some (svc.Bit value)) was h =
     onward call o s x xs rest (Some (svc.Bit value)) was (record s { bits = s.bits ++ not (eqb value 0) ∷ [] }) (staged o s (svc.Bit value) measuring is)
-    (record { measuring = is; goes_on = λ op. refl; quiet = tt; serial = refl; held = λ words earlier held. held-other words earlier s.cells (Some (svc.Bit value)) (λ _. refl) held; holds = record { hash = sym (chained-none s.hash); bits = refl; targets = sym (append-nil s.targets) } }) h
+    (record { measuring = is; goes_on = λ op. refl; quiet = tt; serial = refl; held = λ words earlier held. held_other words earlier s.cells (Some (svc.Bit value)) (λ _. refl) held; holds = record { hash = sym (chained-none s.hash); bits = refl; targets = sym (append-nil s.targets) } }) h
 ended-at call o s x xs rest is (Some (svc.Target address)) was h =
     onward call o s x xs rest (Some (svc.Target address)) was (record s { targets = s.targets ++ address ∷ [] }) (staged o s (svc.Target address) measuring is)
-    (record { measuring = is; goes_on = λ op. refl; quiet = tt; serial = refl; held = λ words earlier held. held-other words earlier s.cells (Some (svc.Target address)) (λ _. refl) held; holds = record { hash = sym (chained-none s.hash); bits = sym (append-nil s.bits); targets = refl } }) h
+    (record { measuring = is; goes_on = λ op. refl; quiet = tt; serial = refl; held = λ words earlier held. held_other words earlier s.cells (Some (svc.Target address)) (λ _. refl) held; holds = record { hash = sym (chained-none s.hash); bits = sym (append-nil s.bits); targets = refl } }) h
 ended-at call o s x xs rest is (Some (svc.Return address)) was h =
     onward call o s x xs rest (Some (svc.Return address)) was (record s { hash = sha256 (link s.hash address) }) (staged o s (svc.Return address) measuring is)
-    (record { measuring = is; goes_on = λ op. refl; quiet = tt; serial = refl; held = λ words earlier held. held-other words earlier s.cells (Some (svc.Return address)) (λ _. refl) held; holds = record { hash = chained-one s.hash address; bits = sym (append-nil s.bits); targets = sym (append-nil s.targets) } }) h
+    (record { measuring = is; goes_on = λ op. refl; quiet = tt; serial = refl; held = λ words earlier held. held_other words earlier s.cells (Some (svc.Return address)) (λ _. refl) held; holds = record { hash = chained-one s.hash address; bits = sym (append-nil s.bits); targets = sym (append-nil s.targets) } }) h
 ended-at call o s x xs rest is (Some (svc.Define cell value)) was h =
     onward call o s x xs rest (Some (svc.Define cell value)) was (record s { cells = defined s.cells cell value }) (staged o s (svc.Define cell value) measuring is)
-    (record { measuring = is; goes_on = λ op. refl; quiet = tt; serial = refl; held = λ words earlier held. held-define words earlier s.cells cell value held; holds = record { hash = sym (chained-none s.hash); bits = sym (append-nil s.bits); targets = sym (append-nil s.targets) } }) h
+    (record { measuring = is; goes_on = λ op. refl; quiet = tt; serial = refl; held = λ words earlier held. held_define words earlier s.cells cell value held; holds = record { hash = sym (chained-none s.hash); bits = sym (append-nil s.bits); targets = sym (append-nil s.targets) } }) h
 ended-at call o s x xs rest is (Some (svc.Use cell value)) was h =
     onward call o s x xs rest (Some (svc.Use cell value)) was (record s { violation = violated s.violation cell (s.cells cell) value }) (staged o s (svc.Use cell value) measuring is)
-    (record { measuring = is; goes_on = λ op. refl; quiet = tt; serial = refl; held = λ words earlier held. held-other words earlier s.cells (Some (svc.Use cell value)) (λ _. refl) held; holds = record { hash = sym (chained-none s.hash); bits = sym (append-nil s.bits); targets = sym (append-nil s.targets) } }) h
+    (record { measuring = is; goes_on = λ op. refl; quiet = tt; serial = refl; held = λ words earlier held. held_other words earlier s.cells (Some (svc.Use cell value)) (λ _. refl) held; holds = record { hash = sym (chained-none s.hash); bits = sym (append-nil s.bits); targets = sym (append-nil s.targets) } }) h
 
 ended : {X : Type 0} (call : X → Option MonitorCall) (o : Opening) (s : State) (xs : List X) → s.stage ≡ measuring → Sealed o s (map call xs) → Ended call o s xs
 ended call o s [] is h = not-sealed s.stage is (sym (ap (λ (t : State). t.stage) (no-calls o s)) ∙ h)
@@ -307,7 +307,7 @@ both-true false b h = absurd (cc)
 
 -- a call that changes nothing
 passes : (s : State) → Awaits s → (call : Option MonitorCall) → ((j : ℕ) → define_of j call ≡ None) → Passes s s call
-passes s awaits call none = record { awaits = awaits; serial = refl; held = λ words earlier held. held-other words earlier s.cells call none held }
+passes s awaits call none = record { awaits = awaits; serial = refl; held = λ words earlier held. held_other words earlier s.cells call none held }
 
 opened-begin : {X : Type 0} (call : X → Option MonitorCall) (o : Opening) (s : State) (x : X) (xs : List X) → ((next : State) → Awaits next → Sealed o next (map call xs) → Opened call o next xs)
     → Awaits s → (op at : ℕ) → call x ≡ Some (svc.Begin op at) → (t : Bool) → (eqb op o.op && eqb at o.begin_at) ≡ t → Sealed o s (map call (x ∷ xs)) → Opened call o s (x ∷ xs)
@@ -330,7 +330,7 @@ opened-begin {X} call o s x xs rest awaits op at was true own h =
       measuring = refl;
       serial = refl;
       holds = record { hash = refl; bits = awaits.bits; targets = awaits.targets };
-      held = λ words earlier held. subst (λ (c : Option MonitorCall). Held words (earlier ++ c ∷ []) s.cells) (sym was) (held-other words earlier s.cells (Some (svc.Begin op at)) (λ _. refl) held);
+      held = λ words earlier held. subst (λ (c : Option MonitorCall). Held words (earlier ++ c ∷ []) s.cells) (sym was) (held_other words earlier s.cells (Some (svc.Begin op at)) (λ _. refl) held);
       to = step-ok o s (call x) next (map call xs) to;
       goes = λ shelved. one-call call o shelved s next x xs to (λ is. absurd (let q : measuring ≡ sealed = is in cc));
     }
@@ -358,7 +358,7 @@ opened-at call o s x xs rest awaits (Some (svc.Define cell value)) was h =
     (record {
       awaits = record { stage = awaits.stage; bits = awaits.bits; targets = awaits.targets };
       serial = refl;
-      held = λ words earlier held. held-define words earlier s.cells cell value held;
+      held = λ words earlier held. held_define words earlier s.cells cell value held;
     }) h
 opened-at call o s x xs rest awaits (Some (svc.Use cell value)) was h =
     passes-by call o s x xs rest (Some (svc.Use cell value)) was refl s (staged o s (svc.Use cell value) unmeasured awaits.stage) (passes s awaits (Some (svc.Use cell value)) (λ _. refl)) h

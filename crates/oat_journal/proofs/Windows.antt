@@ -13,10 +13,10 @@ use Rattle.oat_measure.specs.Shelving.{IsBodyAt, Measurements, sealed_bodies, bo
 use Rattle.oat_events.specs.Cells.{Cells}
 use Rattle.oat_events.specs.Windows.{beyond, inside, through, up_to}
 use Rattle.oat_journal.specs.Window.{is_made, opens_window, seals_window, up_to_window, window, returned, recorded_bit, recorded_target}
-use Rattle.oat_journal.specs.Uses.{uses_behind}
+use Rattle.oat_journal.specs.Uses.{Held, uses_behind}
 use Rattle.oat_journal.specs.Measured.{first_unsound}
 use Rattle.oat_journal.specs.Trace.{IsQuiet}
-use Rattle.oat_journal.proofs.Sealing.{Calls, Held, awaits, same, sealed-keeps, state_behind}
+use Rattle.oat_journal.proofs.Sealing.{Calls, awaits, same, sealed-keeps, state_behind}
 use Rattle.oat_journal.proofs.Shelves.{closed-serial, bodies-open, bodies-sealed, get-beyond, get-last, is-sealed, on_shelf, sealed-stays, session, settled-sealed, shelf-stays, stays-open, stays-sealed}
 use Rattle.oat_journal.proofs.Traces.{Awaits, Windowed, closed-bits, closed-hash, closed-targets, kept, windowed}
 

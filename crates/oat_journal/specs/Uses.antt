@@ -36,3 +36,7 @@ uses_behind words before (call ∷ calls) = cons_option (use_behind words before
 -- A use is sound where it found the defined value.
 abbrev pub IsSound : CheckedUse → Type 0
 IsSound checked = checked.found ≡ checked.defined
+
+-- Behind these calls the cells hold the values that they were last defined as, from these words on.
+unfoldable pub Held : (ℕ → Option ℕ) → List (Option MonitorCall) → (ℕ → Option ℕ) → Type 0
+Held words before cells = (cell : ℕ) → cells cell ≡ option_map (λ word. defined_value word cell before) (words cell)

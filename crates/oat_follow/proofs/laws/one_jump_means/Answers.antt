@@ -1,0 +1,5 @@
+use Rattle.oat_follow.proofs.OneJump.{one_jump_means}
+use Rattle.oat_follow.proofs.laws.one_jump_means.Goals as goal
+
+pub returns : goal.returns
+returns c = one_jump_means
