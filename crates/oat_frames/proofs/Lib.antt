@@ -1,0 +1,18 @@
+mod Reaching
+mod Steps
+mod Slots
+mod Runs
+mod Holding
+mod Arming
+mod Opening
+mod Sites
+mod Entering
+mod Calling
+mod IndirectCalling
+mod Returning
+mod Starting
+mod Homes
+mod LowCode
+mod Worked
+pub mod FrameLaws
+pub mod Kit

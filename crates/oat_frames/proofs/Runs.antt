@@ -1,0 +1,125 @@
+-- A run of loads, and a run of stores: each by induction.
+use Rattle.std.proofs.Common.{◌≡◌, ◌+◌, ◌*◌, ◌^◌, ◌<◌, ◌≤◌, inl, inr, ℕ, zero, suc, Bool, true, false, cond, ltb, List, [], ◌∷◌, length, get_or, None, refl, sym, ap, subst, ◌∙◌, arith}
+use Rattle.std.proofs.lemmas.Bool.{lt-ltb, ltb-true, cases_lt}
+use Rattle.oat_a64.specs.Step.{Regs, reg}
+use Rattle.oat_mem.specs.DataMemory.{word_in}
+use Rattle.oat_mem.proofs.Words.{words_read_back, other_words_stay}
+use Rattle.oat_journal.specs.Run.{Running}
+use Rattle.oat_frames.specs.Code.{CodeStands, argument_loads, local_stores}
+use Rattle.oat_frames.specs.Frames.{World, IsLow}
+use Rattle.oat_frames.specs.Phases.{HasSlots, ArgumentsLoaded, LocalsStored, first_value}
+use Rattle.oat_frames.specs.Reaching.{next_moment}
+use Rattle.oat_frames.proofs.Reaching.{still, thence, counted, kept-on}
+use Rattle.oat_frames.proofs.Slots.{slot-opens, slot-small}
+use Rattle.oat_frames.proofs.Steps.{with_x, with_slot, set-same, set-other, ldr, str}
+
+reg-low : (r : Regs) (n : ℕ) → n < 31 → reg r n ≡ r.x n
+reg-low r n h = ap (λ (t : Bool). cond t (r.x n) 0) (lt-ltb n 31 h)
+
+reg-filler : (r : Regs) (params i : ℕ) (t : Bool) → ltb i params ≡ t → params ≤ 31 → reg r (cond (ltb i params) i 31) ≡ first_value r.x params i
+reg-filler r params i true is few =
+    let l : i < params = ltb-true i params is in
+    ap (λ (b : Bool). reg r (cond b i 31)) is ∙ reg-low r i (omega arith) ∙ sym (ap (λ (b : Bool). cond b (r.x i) 0) is)
+reg-filler r params i false is few =
+    ap (λ (b : Bool). reg r (cond b i 31)) is ∙ sym (ap (λ (b : Bool). cond b (r.x i) 0) is)
+
+filler-small : (x : ℕ → ℕ) (params i : ℕ) → ((j : ℕ) → j < params → x j < 2 ^ 64) → (t : Bool) → ltb i params ≡ t → first_value x params i < 2 ^ 64
+filler-small x params i small true is = subst (λ (b : Bool). cond b (x i) 0 < 2 ^ 64) (sym is) (small i (ltb-true i params is))
+filler-small x params i small false is = subst (λ (b : Bool). cond b (x i) 0 < 2 ^ 64) (sym is) (omega arith)
+
+module _ (w : World) (low : IsLow w.image) where
+  pub loaded : (ks : List ℕ) (n r : ℕ) (m : Running) → m.end ≡ None → CodeStands w m.machine.regs.pc (argument_loads r ks) → r + length ks ≤ 28 → HasSlots m.machine.regs.sp n
+      → ((i : ℕ) → i < length ks → get_or ks i 0 + 1 < n) → (k : Running) × ArgumentsLoaded w.image r ks m k
+  loaded [] n r m going at few open_ within = (
+    m,
+    record {
+      runs = still w.image m;
+      kept = record { going = going; inputs = refl; outputs = refl };
+      memory = refl;
+      sp = refl;
+      pc = omega arith;
+      values = λ i h. absurd (omega arith);
+      others = λ j h. refl;
+    },
+  )
+  loaded (c ∷ cs) n r m going at few open_ within =
+      let here : c + 1 < n = within 0 (omega arith) in
+      let v : ℕ = word_in m.machine.memory (m.machine.regs.sp + 8 * (c + 1)) in
+      let m1 : Running = next_moment m (with_x m.machine r v) in
+      let rest = loaded cs n (r + 1) m1 going at.1 (omega arith) open_ (λ i l. within (suc i) (omega arith)) in
+      let k : Running = rest.0 in
+      let l : ArgumentsLoaded w.image (r + 1) cs m1 k = rest.1 in
+      let values : (i : ℕ) → i < suc (length cs) → k.machine.regs.x (r + i) ≡ word_in m.machine.memory (m.machine.regs.sp + 8 * (get_or (c ∷ cs) i 0 + 1)) = by c cs r m k l (omega arith) in (
+        k,
+        record {
+          runs = counted w.image (1 + length cs) (suc (length cs)) m k [] (omega arith)
+              (thence w.image 1 (length cs) m m1 k [] [] (ldr w.image low m r (c + 1) going at.0 (slot-small m.machine.regs.sp n (c + 1) open_ here) (slot-opens m.machine.regs.sp n (c + 1) open_ here)) l.runs);
+          kept = kept-on m m1 k (record { going = going; inputs = refl; outputs = refl }) l.kept;
+          memory = l.memory;
+          sp = l.sp;
+          pc = l.pc ∙ plus m.machine.regs.pc (length cs);
+          values = values;
+          others = λ j h. elim h [
+            | inl a ↦ l.others j (inl (omega arith)) ∙ set-other m.machine.regs.x r v j (λ e. absurd (omega arith))
+            | inr a ↦ l.others j (inr (omega arith)) ∙ set-other m.machine.regs.x r v j (λ e. absurd (omega arith))
+          ];
+        },
+      ) where
+        plus : (p n : ℕ) → p + 4 + 4 * n ≡ p + 4 * suc n
+        plus p n = omega arith
+
+        by : (c : ℕ) (cs : List ℕ) (r : ℕ) (m k : Running) → ArgumentsLoaded w.image (r + 1) cs (next_moment m (with_x m.machine r (word_in m.machine.memory (m.machine.regs.sp + 8 * (c + 1))))) k → r < 31
+            → (i : ℕ) → i < suc (length cs) → k.machine.regs.x (r + i) ≡ word_in m.machine.memory (m.machine.regs.sp + 8 * (get_or (c ∷ cs) i 0 + 1))
+        by c cs r m k l few zero h =
+            let e : r + 0 ≡ r = omega arith in
+            ap k.machine.regs.x e ∙ l.others r (inl (omega arith)) ∙ set-same m.machine.regs.x r (word_in m.machine.memory (m.machine.regs.sp + 8 * (c + 1))) few
+        by c cs r m k l few (suc i) h =
+            let e : r + suc i ≡ r + 1 + i = omega arith in
+            ap k.machine.regs.x e ∙ l.values i (omega arith)
+
+  pub filled : (n params from room : ℕ) (m : Running) → m.end ≡ None → CodeStands w m.machine.regs.pc (local_stores params from n) → params ≤ 31
+      → HasSlots m.machine.regs.sp room → from + n < room → ((j : ℕ) → j < params → m.machine.regs.x j < 2 ^ 64) → (k : Running) × LocalsStored w.image params from n m k
+  filled zero params from room m going at few open_ fit small = (
+    m,
+    record {
+      runs = still w.image m;
+      kept = record { going = going; inputs = refl; outputs = refl };
+      x = refl;
+      sp = refl;
+      pc = omega arith;
+      slots = λ i a b. absurd (omega arith);
+      others = λ a h. refl;
+    },
+  )
+  filled (suc n) params from room m going at few open_ fit small =
+      let sp : ℕ = m.machine.regs.sp in
+      let s : ℕ = sp + 8 * (from + 1) in
+      let v : ℕ = reg m.machine.regs (cond (ltb from params) from 31) in
+      let m1 : Running = next_moment m (with_slot m.machine s v) in
+      let rest = filled n params (from + 1) room m1 going at.1 few open_ (omega arith) small in
+      let k : Running = rest.0 in
+      let f : LocalsStored w.image params (from + 1) n m1 k = rest.1 in
+      let is : v ≡ first_value m.machine.regs.x params from = reg-filler m.machine.regs params from (ltb from params) refl few in
+      let fine : v < 2 ^ 64 = subst (λ (u : ℕ). u < 2 ^ 64) (sym is) (filler-small m.machine.regs.x params from small (ltb from params) refl) in
+      let there : word_in k.machine.memory s ≡ first_value m.machine.regs.x params from =
+      f.others s (inl (omega arith)) ∙ words_read_back m.machine.memory s v fine ∙ is in (
+        k,
+        record {
+          runs = counted w.image (1 + n) (suc n) m k [] (omega arith)
+              (thence w.image 1 n m m1 k [] [] (str w.image low m (cond (ltb from params) from 31) (from + 1) going at.0 (slot-small sp room (from + 1) open_ (omega arith)) (slot-opens sp room (from + 1) open_ (omega arith))) f.runs);
+          kept = kept-on m m1 k (record { going = going; inputs = refl; outputs = refl }) f.kept;
+          x = f.x;
+          sp = f.sp;
+          pc = f.pc ∙ plus m.machine.regs.pc n;
+          slots = λ i a b. elim (cases_lt from i) [
+            | inl more ↦ f.slots i (omega arith) (omega arith)
+            | inr less ↦ let e : from ≡ i = omega arith in subst (λ (j : ℕ). word_in k.machine.memory (sp + 8 * (j + 1)) ≡ first_value m.machine.regs.x params j) e there
+          ];
+          others = λ a h. elim h [
+            | inl b ↦ f.others a (inl (omega arith)) ∙ other_words_stay m.machine.memory s v a (inr (omega arith))
+            | inr b ↦ f.others a (inr (omega arith)) ∙ other_words_stay m.machine.memory s v a (inl (omega arith))
+          ];
+        },
+      ) where
+        plus : (p n : ℕ) → p + 4 + 4 * n ≡ p + 4 * suc n
+        plus p n = omega arith

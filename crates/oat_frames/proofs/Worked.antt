@@ -1,0 +1,131 @@
+-- The smallest image with a call meets all that the laws of a call ask for, and so runs as its source.
+use Rattle.std.proofs.Common.{◌≡◌, ◌+◌, ◌*◌, ◌^◌, ◌<◌, ◌≤◌, ℕ, zero, suc, Bool, true, false, cond, eqb, pos, List, [], ◌∷◌, map, get_or, Some, refl, arith, lit<}
+use Rattle.std.specs.List.{slice_get, list_all}
+use Rattle.std.specs.Option.{option_and_then}
+use Rattle.std.proofs.lemmas.Bool.{le-leb, lt-ltb, le-ltb, and_from, and_right, and_parts}
+use Rattle.oat_a64.specs.declared.inst.Inst.{Inst}
+use Rattle.oat_a64.specs.declared.inst.Inst.TheVariants.{AddImm, SubImm, SubsImm, Ldr, Str, BCond, Bl, Ret, Svc, Brk}
+use Rattle.oat_a64.specs.Fetch.{inst_of, is_word}
+use Rattle.oat_map.specs.declared.row.Row.{Row}
+use Rattle.oat_map.specs.declared.row.Row.TheVariants as rows
+use Rattle.oat_map.specs.Rows.{address_of, word_count}
+use Rattle.oat_journal.specs.Run.{started}
+use Rattle.oat_map.specs.Rows.{is_over}
+use Rattle.oat_a64.specs.Table.{word_of}
+use Rattle.oat_a64.proofs.FetchLemmas.{word_from_test, inst_from_word}
+use Rattle.oat_asm.specs.Standing.{IsOver}
+use Rattle.oat_frames.specs.Code.{CodeStands, call_code, prologue, return_code}
+use Rattle.oat_frames.specs.Frames.{World, IsWorld}
+use Rattle.oat_frames.specs.Calls.{CallSite, IsCallAt, callee_frame}
+use Rattle.oat_frames.specs.Returns.{main_frame}
+use Rattle.oat_frames.specs.Worked.{one_call, one_call_map, one_call_world, OneCallReturns}
+use Rattle.oat_frames.proofs.Reaching.{thence}
+use Rattle.oat_frames.proofs.LowCode.{low-code}
+use Rattle.oat_frames.proofs.Calling.{calls-lead}
+use Rattle.oat_frames.proofs.Returning.{returns-lead}
+use Rattle.oat_frames.proofs.Starting.{start-leads}
+
+-- ---- the words
+
+abbrev insts : List Inst
+insts =
+    SubImm 31 31 32 ∷ Str 30 31 0 ∷ Str 31 31 1 ∷ Str 31 31 2
+    ∷ SubsImm 31 28 256 ∷ BCond 3 (pos 2) ∷ Brk 4 ∷ AddImm 28 28 1 ∷ Ldr 0 31 1 ∷ Bl (pos 4) ∷ SubImm 28 28 1 ∷ Str 0 31 2
+    ∷ Svc 0
+    ∷ SubImm 31 31 16 ∷ Str 30 31 0 ∷ Str 0 31 1
+    ∷ Ldr 0 31 1 ∷ Ldr 30 31 0 ∷ AddImm 31 31 16 ∷ Svc 5 ∷ Ret 30 ∷ []
+
+abbrev is_encodable : Inst → Bool
+is_encodable i = is_word i (word_of i)
+
+decodes : (i : Inst) → is_encodable i ≡ true → inst_of (word_of i) ≡ Some i
+decodes i h = inst_from_word i (word_of i) (word_from_test i (word_of i) h)
+
+decodes_at : (insts : List Inst) → list_all is_encodable insts ≡ true → (k : ℕ) → option_and_then inst_of (slice_get (map word_of insts) k) ≡ slice_get insts k
+decodes_at [] h k = refl
+decodes_at (i ∷ insts) h zero = decodes i (and_parts (is_encodable i) (list_all is_encodable insts) h).0
+decodes_at (i ∷ insts) h (suc k) = decodes_at insts (and_parts (is_encodable i) (list_all is_encodable insts) h).1 k
+
+encodable : list_all is_encodable insts ≡ true
+unfolding is_word
+encodable = refl
+
+stands : (k : ℕ) → option_and_then inst_of (slice_get one_call.code k) ≡ slice_get insts k
+stands = decodes_at insts encodable
+
+-- ---- the rows
+
+over : (r : Row) (p : ℕ) → address_of r ≤ p → p < address_of r + 4 * word_count r → is_over p r ≡ true
+over r p low high = and_from _ _ (le-leb (address_of r) p low) (lt-ltb p (address_of r + 4 * word_count r) high)
+
+beyond : (r : Row) (p : ℕ) → address_of r + 4 * word_count r ≤ p → is_over p r ≡ false
+beyond r p high = and_right _ _ (le-ltb p (address_of r + 4 * word_count r) high)
+
+check-over : IsOver one_call_map.rows (rows.Check 0x10014)
+check-over p low high = rw (over (rows.Check 0x10014) p low high) refl
+
+call-over : IsOver one_call_map.rows (rows.Call 0x10024 0x10034)
+call-over p low high = rw (beyond (rows.Check 0x10014) p (omega arith)) (rw (over (rows.Call 0x10024 0x10034) p low high) refl)
+
+ret-over : IsOver one_call_map.rows (rows.Ret 0x1004C)
+ret-over p low high = rw (beyond (rows.Check 0x10014) p (omega arith)) (rw (beyond (rows.Call 0x10024 0x10034) p (omega arith)) (rw (over (rows.Ret 0x1004C) p low high) refl))
+
+-- ---- the world
+
+abbrev w : World
+w = one_call_world
+
+cond-lt : (t : Bool) (a b n : ℕ) → a < n → b < n → cond t a b < n
+cond-lt true a b n h l = h
+cond-lt false a b n h l = l
+
+is-world : IsWorld w
+is-world = record {
+  low = low-code one_call (omega arith);
+  labels = λ l. cond-lt (eqb l 0) 0x10000 0x10034 (2 ^ 32) (lit< tt) (lit< tt);
+  few = λ f. let l : cond (eqb f 0) 2 1 < 256 = cond-lt (eqb f 0) 2 1 256 (lit< tt) (lit< tt) in omega arith;
+  globals = omega arith;
+}
+
+main_starts : CodeStands w 0x10000 (prologue 0 2)
+main_starts = (stands 0, (stands 1, (stands 2, (stands 3, tt))))
+
+abbrev the_call : CallSite
+the_call = record { callee = 1; args = 0 ∷ []; result = 1 }
+
+main_calls : CodeStands w 0x10010 (call_code (0 ∷ []) 1 1)
+main_calls = (stands 4, (check-over, (stands 5, (stands 6, (stands 7, (stands 8, (call-over, ((pos 4, stands 9, refl), (stands 10, (stands 11, tt))))))))))
+
+same_starts : CodeStands w 0x10034 (prologue 1 1)
+same_starts = (stands 13, (stands 14, (stands 15, tt)))
+
+same_returns : CodeStands w 0x10040 (return_code 1 0)
+same_returns = (stands 16, (stands 17, (stands 18, (ret-over, (stands 19, (stands 20, tt))))))
+
+is-call : IsCallAt w (main_frame 0) the_call
+is-call = record {
+  code = main_calls;
+  next = refl;
+  is = refl;
+  few = omega arith;
+  caller_slots = λ i h. refl;
+  function = record { start = same_starts; slots = λ i h. refl };
+  locals = λ i h. zero-only i h;
+  types = λ i h. refl;
+} where
+  zero-only : (i : ℕ) → i < 1 → get_or (0 ∷ []) i 0 < 2
+  zero-only zero h = lit< tt
+  zero-only (suc i) h = absurd (omega arith)
+
+pub one-call-returns : OneCallReturns
+one-call-returns =
+    let s = start-leads w is-world 0 [] (λ i. 0) (λ i h. refl) refl main_starts refl (λ i h. absurd (omega arith)) in
+    let c = calls-lead w is-world (main_frame 0) [] (λ i. 0) the_call s.to s.is_at (lit< tt) is-call refl in
+    let r = returns-lead w is-world (callee_frame the_call (main_frame 0)) (main_frame 0) [] (λ i. 0) 0 1 c.to c.is_at same_returns
+    (record { slots = λ i h. refl; from_local = lit< tt; result = refl; caller_slots = λ i h. refl; to_local = lit< tt; types = refl }) in (
+      _,
+      s.count + (c.count + r.count),
+      r.to,
+      thence one_call s.count (c.count + r.count) (started one_call []) s.to r.to [] _ s.runs (thence one_call c.count r.count s.to c.to r.to _ _ c.runs r.runs),
+      r.is_at,
+    )

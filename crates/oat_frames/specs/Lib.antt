@@ -1,0 +1,9 @@
+pub mod Events
+pub mod Reaching
+pub mod Frames
+pub mod Comes
+pub mod Code
+pub mod Phases
+pub mod Calls
+pub mod Returns
+pub mod Worked
