@@ -6,3 +6,4 @@ mod Ranges
 mod LayoutLaws
 mod ExpansionProofs
 mod Standing
+pub mod StandingLaws

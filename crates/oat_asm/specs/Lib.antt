@@ -6,4 +6,5 @@ pub mod ExpansionLaws
 pub mod NoteRows
 pub mod Laws
 pub mod Standing
+pub mod StandingLaws
 pub mod Steps

@@ -23,6 +23,7 @@ ghost use Rattle.oat_asm.specs.ExpansionLaws.{
 };
 ghost use Rattle.oat_asm.specs.NoteRows.{GroupsHaveTheWordsOfTheirRows};
 ghost use Rattle.oat_asm.specs.Standing.{GroupsAreThoseOfRows};
+ghost use Rattle.oat_asm.specs.StandingLaws.{LayoutsStand, TwoStandInTurn, WordsOfTwo};
 
 use oat_a64::laws::fetches_by_the_table;
 
@@ -126,3 +127,20 @@ pub fn groups_have_the_words_of_their_rows()
 pub fn groups_are_those_of_rows()
     ensures { GroupsAreThoseOfRows }
 {}
+
+/// Two lists of items need the words of both.
+pub fn words_of_two()
+    ensures { WordsOfTwo }
+{}
+
+/// Of two lists of items, the second stands behind the words of the first.
+pub fn two_stand_in_turn()
+    ensures { TwoStandInTurn }
+{}
+
+/// The items of a layout stand in its code.
+pub fn layouts_stand()
+    ensures { LayoutsStand }
+{
+    fetches_by_the_table();
+}

@@ -16,7 +16,10 @@ use Rattle.oat_frames.specs.Phases.{HasSlots, ArgumentsLoaded, CallCounted}
 use Rattle.oat_frames.specs.Reaching.{RunsTo, inst_makes, next_moment, jumped}
 use Rattle.oat_frames.proofs.Reaching.{thence, counted, kept-on}
 use Rattle.oat_frames.proofs.Runs.{loaded}
-use Rattle.oat_frames.proofs.Steps.{with_x, compared, wrap-is, compares, sets, bcond-skips, bcond-passes, brk-depth}
+use Rattle.oat_frames.proofs.Registers.{with_x, compared, wrap-is}
+use Rattle.oat_frames.proofs.Steps.{compares, sets}
+use Rattle.oat_frames.proofs.Transfers.{bcond-skips, bcond-passes}
+use Rattle.oat_frames.proofs.MonitorCalls.{brk-depth}
 
 -- the loads, and what is behind them
 pub behind-loads : (w : World) (ks : List ℕ) (r p : ℕ) (is : List Item) → CodeStands w p (argument_loads r ks ++ is) → CodeStands w p (argument_loads r ks) × CodeStands w (p + 4 * length ks) is

@@ -19,7 +19,7 @@ use Rattle.oat_frames.proofs.Arming.{armed, too-deep}
 use Rattle.oat_frames.proofs.Entering.{Enters, behind-test, returns-behind, enters, deep, one-more, given-by, at-first}
 use Rattle.oat_frames.proofs.Holding.{opens, slot-of}
 use Rattle.oat_frames.proofs.Sites.{call-site}
-use Rattle.oat_frames.proofs.Steps.{bl}
+use Rattle.oat_frames.proofs.Transfers.{bl}
 
 pub calls-lay-frames : CallsLayFrames
 calls-lay-frames w ok f callers globals c m r few call =

@@ -20,7 +20,7 @@ use Rattle.oat_frames.proofs.Arming.{behind-loads}
 use Rattle.oat_frames.proofs.Holding.{slot-of, frame-of, above, globals-stay, word-is, value-is, value-small, zero-value}
 use Rattle.oat_frames.proofs.Opening.{HasRoom, has-room, opened}
 use Rattle.oat_frames.proofs.Slots.{lies}
-use Rattle.oat_frames.proofs.Steps.{set-other}
+use Rattle.oat_frames.proofs.Registers.{set-other}
 
 -- what is behind the loads of a call
 pub behind-test : (w : World) (args : List ℕ) (is : List Item) (p : ℕ) → CodeStands w p (depth_tested args is) → CodeStands w (p + 16 + 4 * length args) is

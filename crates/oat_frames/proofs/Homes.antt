@@ -5,7 +5,7 @@ use Rattle.oat_a64.specs.Step.{set}
 use Rattle.oat_check.specs.Steps.{Frame, assigned}
 use Rattle.oat_frames.specs.Frames.{World, Home, slot, register, home_word, Represents, HoldsState}
 use Rattle.oat_frames.proofs.Holding.{word-is, value-is}
-use Rattle.oat_frames.proofs.Steps.{set-same, set-other}
+use Rattle.oat_frames.proofs.Registers.{set-same, set-other}
 
 -- a home isn't this register
 abbrev pub IsElsewhere : ℕ → Home → Type 0

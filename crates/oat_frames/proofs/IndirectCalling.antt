@@ -23,7 +23,10 @@ use Rattle.oat_frames.proofs.Entering.{Enters, behind-test, returns-behind, ente
 use Rattle.oat_frames.proofs.Holding.{opens, slot-of}
 use Rattle.oat_frames.proofs.Sites.{icall-site}
 use Rattle.oat_frames.proofs.Slots.{slot-opens, slot-small}
-use Rattle.oat_frames.proofs.Steps.{with_x, blr, ldr, cbnz-skips, cbnz-passes, svc-target, brk-null}
+use Rattle.oat_frames.proofs.Registers.{with_x}
+use Rattle.oat_frames.proofs.Transfers.{blr, cbnz-skips, cbnz-passes}
+use Rattle.oat_frames.proofs.Steps.{ldr}
+use Rattle.oat_frames.proofs.MonitorCalls.{svc-target, brk-null}
 
 -- the word of a reference that isn't null
 reference-is : (w : World) (k v word : ℕ) → 0 < v → Represents w (Fn k) v word → (word ≡ w.label (v - 1)) × (w.may_name (v - 1) k ≡ true)

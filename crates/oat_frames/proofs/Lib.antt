@@ -1,5 +1,8 @@
 mod Reaching
+mod Registers
 mod Steps
+mod Transfers
+mod MonitorCalls
 mod Slots
 mod Runs
 mod Holding
@@ -13,6 +16,8 @@ mod Returning
 mod Starting
 mod Homes
 mod LowCode
+mod Blocks
+mod Landing
 mod Worked
 pub mod FrameLaws
 pub mod Kit

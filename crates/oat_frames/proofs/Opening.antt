@@ -10,7 +10,8 @@ use Rattle.oat_frames.specs.Reaching.{RunsTo, next_moment}
 use Rattle.oat_frames.proofs.Reaching.{thence, counted, kept-on}
 use Rattle.oat_frames.proofs.Runs.{filled}
 use Rattle.oat_frames.proofs.Slots.{IsFrameSize, frame-size-is, slot-opens, slot-small}
-use Rattle.oat_frames.proofs.Steps.{with_sp, with_slot, sub-sp, str}
+use Rattle.oat_frames.proofs.Registers.{with_sp, with_slot}
+use Rattle.oat_frames.proofs.Steps.{sub-sp, str}
 
 -- below at most 256 frames there is room for another
 pub record HasRoom (sp size locals : ℕ) : Type 0 where

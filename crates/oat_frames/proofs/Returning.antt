@@ -20,7 +20,10 @@ use Rattle.oat_frames.specs.Reaching.{RunsTo, next_moment, jumped}
 use Rattle.oat_frames.proofs.Reaching.{thence}
 use Rattle.oat_frames.proofs.Holding.{opens, slot-of, puts-local, popped}
 use Rattle.oat_frames.proofs.Slots.{slot-opens, slot-small}
-use Rattle.oat_frames.proofs.Steps.{with_x, with_sp, with_slot, difference-is, sets, ldr, str, add-sp, svc-return, ret}
+use Rattle.oat_frames.proofs.Registers.{with_x, with_sp, with_slot, difference-is}
+use Rattle.oat_frames.proofs.Steps.{sets, ldr, str, add-sp}
+use Rattle.oat_frames.proofs.MonitorCalls.{svc-return}
+use Rattle.oat_frames.proofs.Transfers.{ret}
 
 same-some : (a b : ℕ) → Some a ≡ Some b → a ≡ b
 same-some a b h = cc

@@ -11,7 +11,8 @@ use Rattle.oat_frames.specs.Phases.{HasSlots, ArgumentsLoaded, LocalsStored, fir
 use Rattle.oat_frames.specs.Reaching.{next_moment}
 use Rattle.oat_frames.proofs.Reaching.{still, thence, counted, kept-on}
 use Rattle.oat_frames.proofs.Slots.{slot-opens, slot-small}
-use Rattle.oat_frames.proofs.Steps.{with_x, with_slot, set-same, set-other, ldr, str}
+use Rattle.oat_frames.proofs.Registers.{with_x, with_slot, set-same, set-other}
+use Rattle.oat_frames.proofs.Steps.{ldr, str}
 
 reg-low : (r : Regs) (n : ℕ) → n < 31 → reg r n ≡ r.x n
 reg-low r n h = ap (λ (t : Bool). cond t (r.x n) 0) (lt-ltb n 31 h)

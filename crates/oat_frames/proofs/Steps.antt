@@ -1,79 +1,20 @@
 -- One instruction of each form that compiled code has, from where it stands to the explicit next moment.
-use Rattle.std.proofs.Common.{◌≡◌, ◌+◌, ◌*◌, ◌%◌, ◌/◌, ◌^◌, ◌<◌, ◌≤◌, ◌-◌, ℕ, ℤ, pos, Bool, true, false, cond, not, ◌&&◌, eqb, ltb, [], ◌∷◌, Option, Some, None, refl, ap, subst, ◌∙◌, arith, eq-eqb, ne_eqb}
-use Rattle.std.proofs.Math.Path.{fun_ext}
+use Rattle.std.proofs.Common.{◌≡◌, ◌+◌, ◌*◌, ◌%◌, ◌/◌, ◌^◌, ◌<◌, ◌≤◌, ◌-◌, ℕ, Bool, true, cond, [], Option, None, refl, ap, subst, ◌∙◌, arith}
 use Rattle.std.proofs.lemmas.Bool.{lt-ltb}
-use Rattle.std.specs.List.{cons_option, list_any}
-use Rattle.std.specs.Option.{option_map}
+use Rattle.std.specs.List.{cons_option}
 use Rattle.oat_a64.specs.declared.event.FaultKind.TheVariants.{Access}
 use Rattle.oat_a64.specs.declared.inst.Inst.{Inst}
-use Rattle.oat_a64.specs.declared.inst.Inst.TheVariants.{AddImm, SubImm, Movz, Movk, Ldr, Str, BCond, Cbnz, Bl, Blr, Ret, Svc, Brk}
-use Rattle.oat_a64.specs.Step.{Regs, Machine, act, goes_on, jumps, jumps_if, fault, loads, stores, subtracts, links, branch_target, holds, reg, reg_or_sp, set, with_reg, with_flags, wrap, difference, shifted_left, with_bits}
+use Rattle.oat_a64.specs.declared.inst.Inst.TheVariants.{AddImm, SubImm, Movz, Movk, Ldr, Str}
+use Rattle.oat_a64.specs.Step.{Regs, Machine, act, goes_on, fault, loads, stores, subtracts, reg, reg_or_sp, set, with_reg, with_flags, wrap, difference, shifted_left, with_bits}
 use Rattle.oat_image.specs.declared.image.Image.{Image}
-use Rattle.oat_map.specs.declared.row.Row.{Row}
-use Rattle.oat_map.specs.declared.row.Row.TheVariants as rows
-use Rattle.oat_map.specs.declared.edge.Edge.TheVariants as edges
-use Rattle.oat_map.specs.declared.trap.TrapKind.TheVariants.{Depth, NullCall}
-use Rattle.oat_mem.specs.DataMemory.{can_access, word_in, with_word}
-use Rattle.oat_journal.specs.declared.end.DeviceEnd.TheVariants as ends
+use Rattle.oat_mem.specs.DataMemory.{can_access, word_in}
 use Rattle.oat_shape.specs.Groups.{Stands}
 use Rattle.oat_journal.specs.Run.{Running, makes}
-use Rattle.oat_map.specs.Rows.{row_over, is_returned_to, is_called_at}
-use Rattle.oat_journal.specs.Window.{edge_over}
-use Rattle.oat_frames.specs.Events.{MachineEvent, moves, told_by}
+use Rattle.oat_frames.specs.Events.{MachineEvent, told_by}
 use Rattle.oat_frames.specs.Frames.{IsLow}
-use Rattle.oat_frames.specs.Reaching.{RunsTo, inst_makes, next_moment, jumped}
-use Rattle.oat_frames.proofs.Reaching.{goes-as, stops, thence}
-
--- ---- numbers
-
-pub wrap-is : (a : ℕ) → a < 2 ^ 64 → wrap a ≡ a
-wrap-is a h = omega arith
-
-pub difference-is : (a b : ℕ) → b ≤ a → a < 2 ^ 64 → difference a b ≡ a - b
-difference-is a b h l = omega arith
-
-dropped : (b : Bool) (v w : ℕ) → cond (b && false) v w ≡ w
-dropped true v w = refl
-dropped false v w = refl
-
--- a write to register 31 leaves the registers
-pub set-31 : (x : ℕ → ℕ) (v : ℕ) → set x 31 v ≡ x
-set-31 x v = fun_ext (λ j. dropped (eqb j 31) v (x j))
-
-pub set-same : (x : ℕ → ℕ) (n v : ℕ) → n < 31 → set x n v n ≡ v
-set-same x n v h = by (eqb n n) (ltb n 31) (eq-eqb n n refl) (lt-ltb n 31 h) where
-  by : (a b : Bool) → a ≡ true → b ≡ true → cond (a && b) v (x n) ≡ v
-  by a b p q = rw (p, q) refl
-
-pub set-other : (x : ℕ → ℕ) (n v k : ℕ) → (k ≡ n → ⊥) → set x n v k ≡ x k
-set-other x n v k h = by (eqb k n) (ltb n 31) (ne_eqb k n h) where
-  by : (a b : Bool) → a ≡ false → cond (a && b) v (x k) ≡ x k
-  by a b p = rw p refl
-
-set-again : (b : Bool) (u v w : ℕ) → cond b v (cond b u w) ≡ cond b v w
-set-again true u v w = refl
-set-again false u v w = refl
-
-pub set-twice : (x : ℕ → ℕ) (n u v : ℕ) → set (set x n u) n v ≡ set x n v
-set-twice x n u v = fun_ext (λ j. set-again (eqb j n && ltb n 31) u v (x j))
-
--- ---- the machines that are left
-
-abbrev pub with_x : Machine → ℕ → ℕ → Machine
-with_x k rd v = record k { regs = with_reg k.regs rd v }
-
-abbrev pub with_sp : Machine → ℕ → Machine
-with_sp k v = record k { regs = record k.regs { sp = v } }
-
-abbrev pub with_slot : Machine → ℕ → ℕ → Machine
-with_slot k address v = record k { memory = with_word k.memory address v }
-
-abbrev pub compared : Machine → ℕ → ℕ → Machine
-compared k a b = record k { regs = with_flags k.regs a b }
-
-pub next-is : (m : Running) (k : Machine) → k.regs.pc + 4 < 2 ^ 64 → makes m (goes_on k k.regs) ≡ next_moment m k
-next-is m k low =
-    ap (λ (a : ℕ). record m { machine = record k { regs = record k.regs { pc = a } }; made = m.made + 1 }) (wrap-is (k.regs.pc + 4) low)
+use Rattle.oat_frames.specs.Reaching.{RunsTo, inst_makes, next_moment}
+use Rattle.oat_frames.proofs.Reaching.{goes-as, thence}
+use Rattle.oat_frames.proofs.Registers.{wrap-is, difference-is, set-31, set-same, set-twice, with_x, with_sp, with_slot, compared, next-is}
 
 -- an instruction that shows nothing, whatever it finds and leaves
 abbrev pub IsQuiet : Image → Inst → Type 0
@@ -175,105 +116,3 @@ module _ (image : Image) (low : IsLow image) where
       subst (λ (x : ℕ → ℕ). RunsTo image 2 m (next_moment m1 (record m1.machine { regs = record m1.machine.regs { x = x } })) []) (set-twice m.machine.regs.x rd half value) r where
         joined : (v : ℕ) → v < 2 ^ 32 → with_bits (v % 2 ^ 16) (16 * 1) (v / 2 ^ 16) ≡ v
         joined v h = omega arith
-
-  -- ---- a test over a BRK
-
-  check-quiet : (m : Running) (at next : ℕ) → row_over image.map.rows m.machine.regs.pc ≡ Some (rows.Check at)
-      → option_map moves (edge_over image.map (row_over image.map.rows m.machine.regs.pc) m.machine.regs.pc next) ≡ None
-  check-quiet m at next row = ap (λ (o : Option Row). option_map moves (edge_over image.map o m.machine.regs.pc next)) row
-
-  skip-is : (m : Running) (t : Bool) → t ≡ true → m.machine.regs.pc < 2 ^ 32
-      → makes m (jumps_if t m.machine (branch_target m.machine.regs.pc (pos 2))) ≡ jumped m m.machine.regs (m.machine.regs.pc + 4 + 4)
-  skip-is m t so l =
-      let e : branch_target m.machine.regs.pc (pos 2) ≡ m.machine.regs.pc + 4 + 4 = omega arith in
-      ap (λ (b : Bool). makes m (jumps_if b m.machine (branch_target m.machine.regs.pc (pos 2)))) so ∙ ap (jumped m m.machine.regs) e
-
-  pass-is : (m : Running) (t : Bool) → t ≡ false → m.machine.regs.pc < 2 ^ 32
-      → makes m (jumps_if t m.machine (branch_target m.machine.regs.pc (pos 2))) ≡ next_moment m m.machine
-  pass-is m t so l =
-      ap (λ (b : Bool). makes m (jumps_if b m.machine (branch_target m.machine.regs.pc (pos 2)))) so ∙ next-is m m.machine (omega arith)
-
-  pub bcond-skips : (m : Running) (c at : ℕ) → m.end ≡ None → Stands image.code m.machine.regs.pc (BCond c (pos 2)) → row_over image.map.rows m.machine.regs.pc ≡ Some (rows.Check at)
-      → holds c m.machine.regs ≡ true → RunsTo image 1 m (jumped m m.machine.regs (m.machine.regs.pc + 4 + 4)) []
-  bcond-skips m c p going at row so =
-      quietly m (jumped m m.machine.regs (m.machine.regs.pc + 4 + 4)) (BCond c (pos 2)) going at
-      (skip-is m (holds c m.machine.regs) so (below m (BCond c (pos 2)) at)) going (check-quiet m p _ row)
-
-  pub bcond-passes : (m : Running) (c at : ℕ) → m.end ≡ None → Stands image.code m.machine.regs.pc (BCond c (pos 2)) → row_over image.map.rows m.machine.regs.pc ≡ Some (rows.Check at)
-      → holds c m.machine.regs ≡ false → RunsTo image 1 m (next_moment m m.machine) []
-  bcond-passes m c p going at row so =
-      quietly m (next_moment m m.machine) (BCond c (pos 2)) going at
-      (pass-is m (holds c m.machine.regs) so (below m (BCond c (pos 2)) at)) going (check-quiet m p _ row)
-
-  pub cbnz-skips : (m : Running) (rt at : ℕ) → m.end ≡ None → Stands image.code m.machine.regs.pc (Cbnz rt (pos 2)) → row_over image.map.rows m.machine.regs.pc ≡ Some (rows.Check at)
-      → not (eqb (reg m.machine.regs rt) 0) ≡ true → RunsTo image 1 m (jumped m m.machine.regs (m.machine.regs.pc + 4 + 4)) []
-  cbnz-skips m rt p going at row so =
-      quietly m (jumped m m.machine.regs (m.machine.regs.pc + 4 + 4)) (Cbnz rt (pos 2)) going at
-      (skip-is m (not (eqb (reg m.machine.regs rt) 0)) so (below m (Cbnz rt (pos 2)) at)) going (check-quiet m p _ row)
-
-  pub cbnz-passes : (m : Running) (rt at : ℕ) → m.end ≡ None → Stands image.code m.machine.regs.pc (Cbnz rt (pos 2)) → row_over image.map.rows m.machine.regs.pc ≡ Some (rows.Check at)
-      → not (eqb (reg m.machine.regs rt) 0) ≡ false → RunsTo image 1 m (next_moment m m.machine) []
-  cbnz-passes m rt p going at row so =
-      quietly m (next_moment m m.machine) (Cbnz rt (pos 2)) going at
-      (pass-is m (not (eqb (reg m.machine.regs rt) 0)) so (below m (Cbnz rt (pos 2)) at)) going (check-quiet m p _ row)
-
-  pub brk-null : (m : Running) → m.end ≡ None → Stands image.code m.machine.regs.pc (Brk 3) → RunsTo image 1 m (inst_makes m (Brk 3)) []
-  brk-null m going at = stops image m (Brk 3) (ends.Trap NullCall) going at refl
-
-  pub brk-depth : (m : Running) → m.end ≡ None → Stands image.code m.machine.regs.pc (Brk 4) → RunsTo image 1 m (inst_makes m (Brk 4)) []
-  brk-depth m going at = stops image m (Brk 4) (ends.Trap Depth) going at refl
-
-  -- ---- calls and returns
-
-  pub edge-shown : (m : Running) (o : Option Row) (next : ℕ) → row_over image.map.rows m.machine.regs.pc ≡ o
-      → cons_option (option_map moves (edge_over image.map (row_over image.map.rows m.machine.regs.pc) m.machine.regs.pc next)) [] ≡ cons_option (option_map moves (edge_over image.map o m.machine.regs.pc next)) []
-  edge-shown m o next row = ap (λ (p : Option Row). cons_option (option_map moves (edge_over image.map p m.machine.regs.pc next)) []) row
-
-  pub bl : (m : Running) (offset : ℤ) (at to : ℕ) → m.end ≡ None → Stands image.code m.machine.regs.pc (Bl offset) → branch_target m.machine.regs.pc offset ≡ to
-      → row_over image.map.rows m.machine.regs.pc ≡ Some (rows.Call at to)
-      → RunsTo image 1 m (jumped m (with_reg m.machine.regs 30 (m.machine.regs.pc + 4)) to) (moves (edges.Call at to) ∷ [])
-  bl m offset at to going stands leads row =
-      let l = below m (Bl offset) stands in
-      let k : Running = jumped m (with_reg m.machine.regs 30 (m.machine.regs.pc + 4)) to in
-      let r = goes-as image m k (Bl offset) going stands
-      (ap (λ (a : ℕ). makes m (links m.machine a)) leads
-      ∙ ap (λ (v : ℕ). makes m (jumps m.machine (with_reg m.machine.regs 30 v) to)) (wrap-is (m.machine.regs.pc + 4) (omega arith))) going in
-      record { run = r.run; told = r.told ∙ edge-shown m (Some (rows.Call at to)) to row }
-
-  pub blr : (m : Running) (rn at params to : ℕ) → m.end ≡ None → Stands image.code m.machine.regs.pc (Blr rn) → reg m.machine.regs rn ≡ to
-      → row_over image.map.rows m.machine.regs.pc ≡ Some (rows.ICall at params) → list_any (is_called_at params to) image.map.functions ≡ true
-      → RunsTo image 1 m (jumped m (with_reg m.machine.regs 30 (m.machine.regs.pc + 4)) to) (moves (edges.ICall at to) ∷ [])
-  blr m rn at params to going stands leads row known =
-      let l = below m (Blr rn) stands in
-      let k : Running = jumped m (with_reg m.machine.regs 30 (m.machine.regs.pc + 4)) to in
-      let r = goes-as image m k (Blr rn) going stands
-      (ap (λ (a : ℕ). makes m (links m.machine a)) leads
-      ∙ ap (λ (v : ℕ). makes m (jumps m.machine (with_reg m.machine.regs 30 v) to)) (wrap-is (m.machine.regs.pc + 4) (omega arith))) going in
-      record {
-        run = r.run;
-        told = r.told ∙ edge-shown m (Some (rows.ICall at params)) to row
-            ∙ ap (λ (t : Bool). cons_option (option_map moves (cond t (Some (edges.ICall at to)) (Some (edges.Stray m.machine.regs.pc to)))) []) known;
-      }
-
-  pub ret : (m : Running) (at to : ℕ) → m.end ≡ None → Stands image.code m.machine.regs.pc (Ret 30) → m.machine.regs.x 30 ≡ to
-      → row_over image.map.rows m.machine.regs.pc ≡ Some (rows.Ret at) → list_any (is_returned_to to) image.map.rows ≡ true
-      → RunsTo image 1 m (jumped m m.machine.regs to) (moves (edges.Ret at to) ∷ [])
-  ret m at to going stands leads row site =
-      let k : Running = jumped m m.machine.regs to in
-      let r = goes-as image m k (Ret 30) going stands (ap (jumped m m.machine.regs) leads) going in
-      record {
-        run = r.run;
-        told = r.told ∙ edge-shown m (Some (rows.Ret at)) to row
-            ∙ ap (λ (t : Bool). cons_option (option_map moves (cond t (Some (edges.Ret at to)) (Some (edges.Stray m.machine.regs.pc to)))) []) site;
-      }
-
-  -- the call of the monitor in the group of an indirect call, and in that of a return
-  pub svc-target : (m : Running) → m.end ≡ None → Stands image.code m.machine.regs.pc (Svc 4) → RunsTo image 1 m (next_moment m m.machine) []
-  svc-target m going at =
-      let l = below m (Svc 4) at in
-      quietly m (next_moment m m.machine) (Svc 4) going at (next-is m m.machine (omega arith)) going refl
-
-  pub svc-return : (m : Running) → m.end ≡ None → Stands image.code m.machine.regs.pc (Svc 5) → RunsTo image 1 m (next_moment m m.machine) []
-  svc-return m going at =
-      let l = below m (Svc 5) at in
-      quietly m (next_moment m m.machine) (Svc 5) going at (next-is m m.machine (omega arith)) going refl

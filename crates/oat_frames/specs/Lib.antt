@@ -6,4 +6,6 @@ pub mod Code
 pub mod Phases
 pub mod Calls
 pub mod Returns
+pub mod Lines
+pub mod Readied
 pub mod Worked

@@ -6,6 +6,7 @@ ghost use Rattle.oat_frames.specs.Calls.{
   IndirectCallsLead,
   NullCallsTrap,
 };
+ghost use Rattle.oat_frames.specs.Lines.{LinesStand, WordsAddUp};
 ghost use Rattle.oat_frames.specs.Returns.{ReturnsComeBack, ReturnsLead, StartLeads};
 ghost use Rattle.oat_frames.specs.Worked.{OneCallReturns};
 
@@ -47,6 +48,16 @@ pub fn returns_lead()
 /// The start of a run leads to the first line of main.
 pub fn start_leads()
     ensures { StartLeads }
+{}
+
+/// The lines of a block stand in its code, each at its place.
+pub fn lines_stand()
+    ensures { LinesStand }
+{}
+
+/// The words of a block's lines add up.
+pub fn words_add_up()
+    ensures { WordsAddUp }
 {}
 
 /// The smallest image with a call runs as its source.

@@ -1,0 +1,16 @@
+-- The front of a line: instructions over so many bytes that change scratch registers, flags and inputs alone, and may show something.
+use Rattle.std.specs.Prelude.{◌≡◌, ◌+◌, ℕ, ℤ, List, None}
+use Rattle.oat_image.specs.declared.image.Image.{Image}
+use Rattle.oat_journal.specs.Run.{Running}
+use Rattle.oat_frames.specs.Events.{MachineEvent}
+use Rattle.oat_frames.specs.Reaching.{RunsTo}
+
+pub record IsReadied (image : Image) (count bytes : ℕ) (es : List MachineEvent) (asked : List ℤ) (m k : Running) : Type 0 where
+  pub runs : RunsTo image count m k es
+  pub going : k.end ≡ None
+  pub inputs : k.inputs ≡ asked
+  pub outputs : k.outputs ≡ m.outputs
+  pub memory : k.machine.memory ≡ m.machine.memory
+  pub sp : k.machine.regs.sp ≡ m.machine.regs.sp
+  pub depth : k.machine.regs.x 28 ≡ m.machine.regs.x 28
+  pub pc : k.machine.regs.pc ≡ m.machine.regs.pc + bytes
