@@ -1,0 +1,6 @@
+mod Showing
+mod Accessing
+mod Scalars
+mod Elements
+mod CriticalScalars
+mod CriticalElements
