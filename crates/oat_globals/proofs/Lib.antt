@@ -4,3 +4,6 @@ mod Scalars
 mod Elements
 mod CriticalScalars
 mod CriticalElements
+mod Sizes
+mod Operations
+mod Ranges

@@ -1,0 +1,162 @@
+-- Each instruction of the lines has a word.
+use Rattle.std.proofs.Common.{◌≡◌, ◌+◌, ◌/◌, ◌%◌, ◌^◌, ◌<◌, ◌≤◌, ℕ, zero, suc, pos, Bool, true, false, cond, ltb, List, [], ◌∷◌, ◌++◌, Option, Some, None, refl, arith, ⊤}
+use Rattle.std.proofs.lemmas.Bool.{ltb-true}
+use Rattle.std.specs.List.{AllByRecursion}
+use Rattle.std.proofs.lemmas.List.Elements.{All-from_recursion, All-contains}
+use Rattle.oat_a64.specs.declared.inst.Inst.TheVariants.{AddReg, SubsReg, BCond, Brk, Svc, Movz, Movk, Ldr, Str, LdrReg, StrReg}
+use Rattle.oat_a64.specs.Table.{IsInRange}
+use Rattle.oat_mem.specs.DataMemory.{global_address}
+use Rattle.oat_asm.specs.declared.item.Item.{Item}
+use Rattle.oat_asm.specs.declared.item.Item.TheVariants as item
+use Rattle.oat_asm.specs.Expansion.{element_test}
+use Rattle.oat_frames.specs.Code.{local_stores, return_code}
+use Rattle.oat_globals.specs.Code.{slot_load, slot_store, number_code, address_code, index_test, element_code}
+use Rattle.oat_globals.specs.Operations.{begin_code, end_code, HasShortNumber}
+use Rattle.oat_globals.specs.Ranges.{AreInRange, ScalarLinesAreInRange, ElementLinesAreInRange, CriticalScalarLinesAreInRange, CriticalElementLinesAreInRange, FunctionsAreInRange}
+
+-- ---- item by item
+
+abbrev Fits : Item → Type 0
+Fits (item.Inst i) = IsInRange i
+Fits (item.AddressOf r l) = r ≤ 30
+Fits _ = ⊤
+
+abbrev AllFit : List Item → Type 0
+AllFit is = AllByRecursion Fits is
+
+ranged : (is : List Item) → AllFit is → AreInRange is
+ranged is h = record {
+  instructions = λ i at. All-contains Fits is (item.Inst i) (All-from_recursion Fits is h) at;
+  addresses = λ r l at. All-contains Fits is (item.AddressOf r l) (All-from_recursion Fits is h) at;
+}
+
+-- ---- single instructions
+
+loads_in : (r rn k : ℕ) → r < 32 → rn < 32 → k < 4096 → IsInRange (Ldr r rn k)
+loads_in r rn k a b c = (omega arith, (omega arith, (omega arith, tt)))
+
+stores_in : (r rn k : ℕ) → r < 32 → rn < 32 → k < 4096 → IsInRange (Str r rn k)
+stores_in r rn k a b c = (omega arith, (omega arith, (omega arith, tt)))
+
+movz_in : (r v : ℕ) → r < 32 → v < 2 ^ 16 → IsInRange (Movz r 0 v)
+movz_in r v a b = (omega arith, (omega arith, (omega arith, tt)))
+
+svc_in : (n : ℕ) → n < 2 ^ 16 → IsInRange (Svc n)
+svc_in n a = (omega arith, tt)
+
+subs_in : IsInRange (SubsReg 31 12 11)
+subs_in = (omega arith, (omega arith, (omega arith, tt)))
+
+add_in : (r s rm amount : ℕ) → r < 32 → s < 32 → rm < 32 → amount < 64 → IsInRange (AddReg r s rm amount)
+add_in r s rm amount a b c d = (omega arith, (omega arith, (omega arith, (omega arith, tt))))
+
+skip_in : IsInRange (BCond 3 (pos 2))
+skip_in = (refl, (omega arith, tt))
+
+brk_in : IsInRange (Brk 2)
+brk_in = (omega arith, tt)
+
+load_element_in : IsInRange (LdrReg 10 11 12)
+load_element_in = (omega arith, (omega arith, (omega arith, tt)))
+
+store_element_in : IsInRange (StrReg 10 11 12)
+store_element_in = (omega arith, (omega arith, (omega arith, tt)))
+
+-- ---- parts of lines
+
+number_in : (v : ℕ) (is : List Item) → v < 2 ^ 32 → AllFit is → AllFit (number_code v ++ is)
+number_in v is small rest = (movz_in 11 (v % 2 ^ 16) (omega arith) (omega arith), ((omega arith, (omega arith, (omega arith, tt))), rest))
+
+address_in : (g : ℕ) (is : List Item) → g < 65536 → AllFit is → AllFit (address_code g ++ is)
+address_in g is small rest = number_in (global_address g) is (omega arith) rest
+
+index_in : (is : List Item) → AllFit is → AllFit (index_test ++ is)
+index_in is rest = (subs_in, (tt, (skip_in, (brk_in, rest))))
+
+test_in : (len : ℕ) (is : List Item) → len < 2 ^ 16 → AllFit is → AllFit (element_test len ++ is)
+test_in len is a rest = (movz_in 11 len (omega arith) a, (subs_in, (skip_in, (brk_in, rest))))
+
+from_slot : (r x : ℕ) → r < 32 → x ≤ 254 → IsInRange (Ldr r 31 (x + 1))
+from_slot r x a b = loads_in r 31 (x + 1) a (omega arith) (omega arith)
+
+into_slot : (r x : ℕ) → r < 32 → x ≤ 254 → IsInRange (Str r 31 (x + 1))
+into_slot r x a b = stores_in r 31 (x + 1) a (omega arith) (omega arith)
+
+element_in : (base len i : ℕ) (is : List Item) → base < 65536 → len ≤ 65536 → i ≤ 254 → AllFit is → AllFit (element_code base len i ++ is)
+element_in base len i is a b c rest = (
+  from_slot 12 i (omega arith) c,
+  number_in len (index_test ++ address_code base ++ item.Inst (AddReg 11 11 12 3) ∷ is) (omega arith)
+      (index_in (address_code base ++ item.Inst (AddReg 11 11 12 3) ∷ is) (address_in base (item.Inst (AddReg 11 11 12 3) ∷ is) a (add_in 11 11 12 3 (omega arith) (omega arith) (omega arith) (omega arith), rest))),
+)
+
+read_in : IsInRange (Ldr 9 11 0)
+read_in = loads_in 9 11 0 (omega arith) (omega arith) (omega arith)
+
+write_in : IsInRange (Str 9 11 0)
+write_in = stores_in 9 11 0 (omega arith) (omega arith) (omega arith)
+
+-- ---- the lines
+
+pub scalar_lines_are_in_range : ScalarLinesAreInRange
+scalar_lines_are_in_range x g l hx hg = (
+  ranged _ (address_in g (item.Inst (Ldr 9 11 0) ∷ slot_store 9 x ∷ []) hg (read_in, (into_slot 9 x (omega arith) hx, tt))),
+  ranged _ (address_in g (slot_load 9 x ∷ item.Inst (Str 9 11 0) ∷ []) hg (from_slot 9 x (omega arith) hx, (write_in, tt))),
+  ranged (item.AddressOf 9 l ∷ slot_store 9 x ∷ []) (omega arith, (into_slot 9 x (omega arith) hx, tt)),
+)
+
+pub element_lines_are_in_range : ElementLinesAreInRange
+element_lines_are_in_range x i base len hx hi hb hl = (
+  ranged _ (element_in base len i (item.Inst (Ldr 9 11 0) ∷ slot_store 9 x ∷ []) hb hl hi (read_in, (into_slot 9 x (omega arith) hx, tt))),
+  ranged _ (element_in base len i (slot_load 9 x ∷ item.Inst (Str 9 11 0) ∷ []) hb hl hi (from_slot 9 x (omega arith) hx, (write_in, tt))),
+)
+
+pub critical_scalar_lines_are_in_range : CriticalScalarLinesAreInRange
+critical_scalar_lines_are_in_range x g cell hx hg hc =
+    let nine : IsInRange (Movz 9 0 cell) = movz_in 9 cell (omega arith) hc in (
+      ranged _ (tt, address_in g (item.Inst (Ldr 10 11 0) ∷ item.Inst (Movz 9 0 cell) ∷ item.Inst (Svc 7) ∷ slot_store 10 x ∷ []) hg
+          (loads_in 10 11 0 (omega arith) (omega arith) (omega arith), (nine, (svc_in 7 (omega arith), (into_slot 10 x (omega arith) hx, tt))))),
+      ranged _ (from_slot 10 x (omega arith) hx, (tt, address_in g (item.Inst (Movz 9 0 cell) ∷ item.Inst (Str 10 11 0) ∷ item.Inst (Svc 6) ∷ []) hg
+          (nine, (stores_in 10 11 0 (omega arith) (omega arith) (omega arith), (svc_in 6 (omega arith), tt))))),
+    )
+
+pub critical_element_lines_are_in_range : CriticalElementLinesAreInRange
+critical_element_lines_are_in_range x i base len cell hx hi hb hl hc =
+    let nine : IsInRange (Movz 9 0 cell) = movz_in 9 cell (omega arith) hc in
+    let sum : IsInRange (AddReg 9 9 12 0) = add_in 9 9 12 0 (omega arith) (omega arith) (omega arith) (omega arith) in
+    let uses : List Item = item.Inst (LdrReg 10 11 12) ∷ item.Inst (Movz 9 0 cell) ∷ item.Inst (AddReg 9 9 12 0) ∷ item.Inst (Svc 7) ∷ slot_store 10 x ∷ [] in
+    let defines : List Item = item.Inst (Movz 9 0 cell) ∷ item.Inst (AddReg 9 9 12 0) ∷ item.Inst (StrReg 10 11 12) ∷ item.Inst (Svc 6) ∷ [] in (
+      ranged _ (from_slot 12 i (omega arith) hi, (tt, test_in len (address_code base ++ uses) (omega arith)
+          (address_in base uses hb (load_element_in, (nine, (sum, (svc_in 7 (omega arith), (into_slot 10 x (omega arith) hx, tt)))))))),
+      ranged _ (from_slot 12 i (omega arith) hi, (from_slot 10 x (omega arith) hx, (tt, test_in len (address_code base ++ defines) (omega arith)
+          (address_in base defines hb (nine, (sum, (store_element_in, (svc_in 6 (omega arith), tt)))))))),
+    )
+
+-- ---- functions
+
+source_register : (params from : ℕ) → params ≤ 4 → cond (ltb from params) from 31 < 32
+source_register params from few = by (ltb from params) refl where
+  by : (t : Bool) → ltb from params ≡ t → cond t from 31 < 32
+  by true is = let l : from < params = ltb-true from params is in omega arith
+  by false is = omega arith
+
+stores_fit : (params from n : ℕ) (is : List Item) → params ≤ 4 → from + n ≤ 255 → AllFit is → AllFit (local_stores params from n ++ is)
+stores_fit params from zero is few small rest = rest
+stores_fit params from (suc n) is few small rest =
+    (stores_in (cond (ltb from params) from 31) 31 (from + 1) (source_register params from few) (omega arith) (omega arith), stores_fit params (from + 1) n is few (omega arith) rest)
+
+begin_in : (op : Option ℕ) → HasShortNumber op → AllFit (begin_code op)
+begin_in None short = tt
+begin_in (Some op) short = (tt, (movz_in 9 op (omega arith) (short op refl), (svc_in 1 (omega arith), tt)))
+
+end_in : (op : Option ℕ) (is : List Item) → HasShortNumber op → AllFit is → AllFit (end_code op ++ is)
+end_in None is short rest = rest
+end_in (Some op) is short rest = (tt, (movz_in 9 op (omega arith) (short op refl), (svc_in 2 (omega arith), rest)))
+
+pub functions_are_in_range : FunctionsAreInRange
+functions_are_in_range params locals from op few small inside short = (
+  ranged _ ((omega arith, (omega arith, (omega arith, tt))), (stores_in 30 31 0 (omega arith) (omega arith) (omega arith), stores_fit params 0 locals (begin_code op) few (omega arith) (begin_in op short))),
+  ranged _ (end_in op (return_code locals from) short (
+    from_slot 0 from (omega arith) inside,
+    (loads_in 30 31 0 (omega arith) (omega arith) (omega arith), ((omega arith, (omega arith, (omega arith, tt))), (tt, (svc_in 5 (omega arith), ((omega arith, tt), tt))))),
+  )),
+)
