@@ -1,5 +1,5 @@
 -- Two lists of items stand one behind the other, and the items of a layout stand in its code.
-use Rattle.std.proofs.Common.{◌≡◌, ◌+◌, ◌*◌, ◌%◌, ◌/◌, ◌^◌, ℕ, suc, List, [], ◌∷◌, ◌++◌, Some, refl, sym, ap, subst, ◌∙◌, arith}
+use Rattle.std.proofs.Common.{◌≡◌, ◌+◌, ◌*◌, ◌%◌, ◌/◌, ◌^◌, ℕ, suc, List, [], ◌∷◌, Some, refl, sym, ap, subst, ◌∙◌, arith}
 use Rattle.std.specs.List.{slice_get}
 use Rattle.oat_a64.specs.declared.inst.Inst.TheVariants.{Movz, Movk}
 use Rattle.oat_a64.specs.Laws.{FetchesByTheTable}

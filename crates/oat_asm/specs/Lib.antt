@@ -8,3 +8,4 @@ pub mod Laws
 pub mod Standing
 pub mod StandingLaws
 pub mod Steps
+pub mod Ranges

@@ -22,6 +22,7 @@ ghost use Rattle.oat_asm.specs.ExpansionLaws.{
   ExpansionStaysInRange,
 };
 ghost use Rattle.oat_asm.specs.NoteRows.{GroupsHaveTheWordsOfTheirRows};
+ghost use Rattle.oat_asm.specs.Ranges.{RangesGoByItem};
 ghost use Rattle.oat_asm.specs.Standing.{GroupsAreThoseOfRows};
 ghost use Rattle.oat_asm.specs.StandingLaws.{LayoutsStand, TwoStandInTurn, WordsOfTwo};
 
@@ -144,3 +145,8 @@ pub fn layouts_stand()
 {
     fetches_by_the_table();
 }
+
+/// Where each item is in range, all instructions, branches, registers and marks are.
+pub fn ranges_go_by_item()
+    ensures { RangesGoByItem }
+{}

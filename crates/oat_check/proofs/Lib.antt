@@ -1,4 +1,4 @@
-mod Bounds
+pub mod Bounds
 mod Cells
 pub mod Checking
 mod FirstIn

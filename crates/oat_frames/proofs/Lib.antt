@@ -18,6 +18,7 @@ mod Homes
 mod LowCode
 mod Blocks
 mod Landing
+pub mod WorkedCode
 mod Worked
 pub mod FrameLaws
 pub mod Kit

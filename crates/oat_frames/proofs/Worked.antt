@@ -1,18 +1,12 @@
 -- The smallest image with a call meets all that the laws of a call ask for, and so runs as its source.
-use Rattle.std.proofs.Common.{◌≡◌, ◌+◌, ◌*◌, ◌^◌, ◌<◌, ◌≤◌, ℕ, zero, suc, Bool, true, false, cond, eqb, pos, List, [], ◌∷◌, map, get_or, Some, refl, arith, lit<}
+use Rattle.std.proofs.Common.{◌≡◌, ◌+◌, ◌^◌, ◌<◌, ℕ, zero, suc, Bool, true, false, cond, eqb, pos, List, [], ◌∷◌, get_or, refl, arith, lit<}
 use Rattle.std.specs.List.{slice_get, list_all}
 use Rattle.std.specs.Option.{option_and_then}
-use Rattle.std.proofs.lemmas.Bool.{le-leb, lt-ltb, le-ltb, and_from, and_right, and_parts}
 use Rattle.oat_a64.specs.declared.inst.Inst.{Inst}
 use Rattle.oat_a64.specs.declared.inst.Inst.TheVariants.{AddImm, SubImm, SubsImm, Ldr, Str, BCond, Bl, Ret, Svc, Brk}
 use Rattle.oat_a64.specs.Fetch.{inst_of, is_word}
-use Rattle.oat_map.specs.declared.row.Row.{Row}
 use Rattle.oat_map.specs.declared.row.Row.TheVariants as rows
-use Rattle.oat_map.specs.Rows.{address_of, word_count}
 use Rattle.oat_journal.specs.Run.{started}
-use Rattle.oat_map.specs.Rows.{is_over}
-use Rattle.oat_a64.specs.Table.{word_of}
-use Rattle.oat_a64.proofs.FetchLemmas.{word_from_test, inst_from_word}
 use Rattle.oat_asm.specs.Standing.{IsOver}
 use Rattle.oat_frames.specs.Code.{CodeStands, call_code, prologue, return_code}
 use Rattle.oat_frames.specs.Frames.{World, IsWorld}
@@ -21,6 +15,7 @@ use Rattle.oat_frames.specs.Returns.{main_frame}
 use Rattle.oat_frames.specs.Worked.{one_call, one_call_map, one_call_world, OneCallReturns}
 use Rattle.oat_frames.proofs.Reaching.{thence}
 use Rattle.oat_frames.proofs.LowCode.{low-code}
+use Rattle.oat_frames.proofs.WorkedCode.{is_encodable, decodes_at, over, beyond}
 use Rattle.oat_frames.proofs.Calling.{calls-lead}
 use Rattle.oat_frames.proofs.Returning.{returns-lead}
 use Rattle.oat_frames.proofs.Starting.{start-leads}
@@ -35,17 +30,6 @@ insts =
     ∷ SubImm 31 31 16 ∷ Str 30 31 0 ∷ Str 0 31 1
     ∷ Ldr 0 31 1 ∷ Ldr 30 31 0 ∷ AddImm 31 31 16 ∷ Svc 5 ∷ Ret 30 ∷ []
 
-abbrev is_encodable : Inst → Bool
-is_encodable i = is_word i (word_of i)
-
-decodes : (i : Inst) → is_encodable i ≡ true → inst_of (word_of i) ≡ Some i
-decodes i h = inst_from_word i (word_of i) (word_from_test i (word_of i) h)
-
-decodes_at : (insts : List Inst) → list_all is_encodable insts ≡ true → (k : ℕ) → option_and_then inst_of (slice_get (map word_of insts) k) ≡ slice_get insts k
-decodes_at [] h k = refl
-decodes_at (i ∷ insts) h zero = decodes i (and_parts (is_encodable i) (list_all is_encodable insts) h).0
-decodes_at (i ∷ insts) h (suc k) = decodes_at insts (and_parts (is_encodable i) (list_all is_encodable insts) h).1 k
-
 encodable : list_all is_encodable insts ≡ true
 unfolding is_word
 encodable = refl
@@ -54,12 +38,6 @@ stands : (k : ℕ) → option_and_then inst_of (slice_get one_call.code k) ≡ s
 stands = decodes_at insts encodable
 
 -- ---- the rows
-
-over : (r : Row) (p : ℕ) → address_of r ≤ p → p < address_of r + 4 * word_count r → is_over p r ≡ true
-over r p low high = and_from _ _ (le-leb (address_of r) p low) (lt-ltb p (address_of r + 4 * word_count r) high)
-
-beyond : (r : Row) (p : ℕ) → address_of r + 4 * word_count r ≤ p → is_over p r ≡ false
-beyond r p high = and_right _ _ (le-ltb p (address_of r + 4 * word_count r) high)
 
 check-over : IsOver one_call_map.rows (rows.Check 0x10014)
 check-over p low high = rw (over (rows.Check 0x10014) p low high) refl

@@ -1,0 +1,8 @@
+mod Flags
+mod Operations
+mod Binaries
+mod Plain
+mod Terminators
+mod Sizes
+mod Worked
+pub mod LineLaws
