@@ -1,34 +1,17 @@
 -- Each instruction of the lines has a word.
-use Rattle.std.proofs.Common.{◌≡◌, ◌+◌, ◌/◌, ◌%◌, ◌^◌, ◌<◌, ◌≤◌, ℕ, zero, suc, pos, Bool, true, false, cond, ltb, List, [], ◌∷◌, ◌++◌, Option, Some, None, refl, arith, ⊤}
+use Rattle.std.proofs.Common.{◌≡◌, ◌+◌, ◌/◌, ◌%◌, ◌^◌, ◌<◌, ◌≤◌, ℕ, zero, suc, pos, Bool, true, false, cond, ltb, List, [], ◌∷◌, ◌++◌, Option, Some, None, refl, arith}
 use Rattle.std.proofs.lemmas.Bool.{ltb-true}
-use Rattle.std.specs.List.{AllByRecursion}
-use Rattle.std.proofs.lemmas.List.Elements.{All-from_recursion, All-contains}
 use Rattle.oat_a64.specs.declared.inst.Inst.TheVariants.{AddReg, SubsReg, BCond, Brk, Svc, Movz, Movk, Ldr, Str, LdrReg, StrReg}
 use Rattle.oat_a64.specs.Table.{IsInRange}
 use Rattle.oat_mem.specs.DataMemory.{global_address}
 use Rattle.oat_asm.specs.declared.item.Item.{Item}
 use Rattle.oat_asm.specs.declared.item.Item.TheVariants as item
 use Rattle.oat_asm.specs.Expansion.{element_test}
+use Rattle.oat_asm.specs.Ranges.{AreItemsInRange}
 use Rattle.oat_frames.specs.Code.{local_stores, return_code}
-use Rattle.oat_globals.specs.Code.{slot_load, slot_store, number_code, address_code, index_test, element_code}
+use Rattle.oat_globals.specs.Code.{slot_load, slot_store, number_code, address_code, index_test, element_code, use_at_code, define_at_code}
 use Rattle.oat_globals.specs.Operations.{begin_code, end_code, HasShortNumber}
-use Rattle.oat_globals.specs.Ranges.{AreInRange, ScalarLinesAreInRange, ElementLinesAreInRange, CriticalScalarLinesAreInRange, CriticalElementLinesAreInRange, FunctionsAreInRange}
-
--- ---- item by item
-
-abbrev Fits : Item → Type 0
-Fits (item.Inst i) = IsInRange i
-Fits (item.AddressOf r l) = r ≤ 30
-Fits _ = ⊤
-
-abbrev AllFit : List Item → Type 0
-AllFit is = AllByRecursion Fits is
-
-ranged : (is : List Item) → AllFit is → AreInRange is
-ranged is h = record {
-  instructions = λ i at. All-contains Fits is (item.Inst i) (All-from_recursion Fits is h) at;
-  addresses = λ r l at. All-contains Fits is (item.AddressOf r l) (All-from_recursion Fits is h) at;
-}
+use Rattle.oat_globals.specs.Sizes.{GlobalLinesAreInRange}
 
 -- ---- single instructions
 
@@ -64,25 +47,25 @@ store_element_in = (omega arith, (omega arith, (omega arith, tt)))
 
 -- ---- parts of lines
 
-number_in : (v : ℕ) (is : List Item) → v < 2 ^ 32 → AllFit is → AllFit (number_code v ++ is)
+number_in : (v : ℕ) (is : List Item) → v < 2 ^ 32 → AreItemsInRange is → AreItemsInRange (number_code v ++ is)
 number_in v is small rest = (movz_in 11 (v % 2 ^ 16) (omega arith) (omega arith), ((omega arith, (omega arith, (omega arith, tt))), rest))
 
-address_in : (g : ℕ) (is : List Item) → g < 65536 → AllFit is → AllFit (address_code g ++ is)
+address_in : (g : ℕ) (is : List Item) → g < 65536 → AreItemsInRange is → AreItemsInRange (address_code g ++ is)
 address_in g is small rest = number_in (global_address g) is (omega arith) rest
 
-index_in : (is : List Item) → AllFit is → AllFit (index_test ++ is)
+index_in : (is : List Item) → AreItemsInRange is → AreItemsInRange (index_test ++ is)
 index_in is rest = (subs_in, (tt, (skip_in, (brk_in, rest))))
 
-test_in : (len : ℕ) (is : List Item) → len < 2 ^ 16 → AllFit is → AllFit (element_test len ++ is)
+test_in : (len : ℕ) (is : List Item) → len < 2 ^ 16 → AreItemsInRange is → AreItemsInRange (element_test len ++ is)
 test_in len is a rest = (movz_in 11 len (omega arith) a, (subs_in, (skip_in, (brk_in, rest))))
 
-from_slot : (r x : ℕ) → r < 32 → x ≤ 254 → IsInRange (Ldr r 31 (x + 1))
+from_slot : (r x : ℕ) → r < 32 → x < 255 → IsInRange (Ldr r 31 (x + 1))
 from_slot r x a b = loads_in r 31 (x + 1) a (omega arith) (omega arith)
 
-into_slot : (r x : ℕ) → r < 32 → x ≤ 254 → IsInRange (Str r 31 (x + 1))
+into_slot : (r x : ℕ) → r < 32 → x < 255 → IsInRange (Str r 31 (x + 1))
 into_slot r x a b = stores_in r 31 (x + 1) a (omega arith) (omega arith)
 
-element_in : (base len i : ℕ) (is : List Item) → base < 65536 → len ≤ 65536 → i ≤ 254 → AllFit is → AllFit (element_code base len i ++ is)
+element_in : (base len i : ℕ) (is : List Item) → base < 65536 → len ≤ 65536 → i < 255 → AreItemsInRange is → AreItemsInRange (element_code base len i ++ is)
 element_in base len i is a b c rest = (
   from_slot 12 i (omega arith) c,
   number_in len (index_test ++ address_code base ++ item.Inst (AddReg 11 11 12 3) ∷ is) (omega arith)
@@ -95,42 +78,6 @@ read_in = loads_in 9 11 0 (omega arith) (omega arith) (omega arith)
 write_in : IsInRange (Str 9 11 0)
 write_in = stores_in 9 11 0 (omega arith) (omega arith) (omega arith)
 
--- ---- the lines
-
-pub scalar_lines_are_in_range : ScalarLinesAreInRange
-scalar_lines_are_in_range x g l hx hg = (
-  ranged _ (address_in g (item.Inst (Ldr 9 11 0) ∷ slot_store 9 x ∷ []) hg (read_in, (into_slot 9 x (omega arith) hx, tt))),
-  ranged _ (address_in g (slot_load 9 x ∷ item.Inst (Str 9 11 0) ∷ []) hg (from_slot 9 x (omega arith) hx, (write_in, tt))),
-  ranged (item.AddressOf 9 l ∷ slot_store 9 x ∷ []) (omega arith, (into_slot 9 x (omega arith) hx, tt)),
-)
-
-pub element_lines_are_in_range : ElementLinesAreInRange
-element_lines_are_in_range x i base len hx hi hb hl = (
-  ranged _ (element_in base len i (item.Inst (Ldr 9 11 0) ∷ slot_store 9 x ∷ []) hb hl hi (read_in, (into_slot 9 x (omega arith) hx, tt))),
-  ranged _ (element_in base len i (slot_load 9 x ∷ item.Inst (Str 9 11 0) ∷ []) hb hl hi (from_slot 9 x (omega arith) hx, (write_in, tt))),
-)
-
-pub critical_scalar_lines_are_in_range : CriticalScalarLinesAreInRange
-critical_scalar_lines_are_in_range x g cell hx hg hc =
-    let nine : IsInRange (Movz 9 0 cell) = movz_in 9 cell (omega arith) hc in (
-      ranged _ (tt, address_in g (item.Inst (Ldr 10 11 0) ∷ item.Inst (Movz 9 0 cell) ∷ item.Inst (Svc 7) ∷ slot_store 10 x ∷ []) hg
-          (loads_in 10 11 0 (omega arith) (omega arith) (omega arith), (nine, (svc_in 7 (omega arith), (into_slot 10 x (omega arith) hx, tt))))),
-      ranged _ (from_slot 10 x (omega arith) hx, (tt, address_in g (item.Inst (Movz 9 0 cell) ∷ item.Inst (Str 10 11 0) ∷ item.Inst (Svc 6) ∷ []) hg
-          (nine, (stores_in 10 11 0 (omega arith) (omega arith) (omega arith), (svc_in 6 (omega arith), tt))))),
-    )
-
-pub critical_element_lines_are_in_range : CriticalElementLinesAreInRange
-critical_element_lines_are_in_range x i base len cell hx hi hb hl hc =
-    let nine : IsInRange (Movz 9 0 cell) = movz_in 9 cell (omega arith) hc in
-    let sum : IsInRange (AddReg 9 9 12 0) = add_in 9 9 12 0 (omega arith) (omega arith) (omega arith) (omega arith) in
-    let uses : List Item = item.Inst (LdrReg 10 11 12) ∷ item.Inst (Movz 9 0 cell) ∷ item.Inst (AddReg 9 9 12 0) ∷ item.Inst (Svc 7) ∷ slot_store 10 x ∷ [] in
-    let defines : List Item = item.Inst (Movz 9 0 cell) ∷ item.Inst (AddReg 9 9 12 0) ∷ item.Inst (StrReg 10 11 12) ∷ item.Inst (Svc 6) ∷ [] in (
-      ranged _ (from_slot 12 i (omega arith) hi, (tt, test_in len (address_code base ++ uses) (omega arith)
-          (address_in base uses hb (load_element_in, (nine, (sum, (svc_in 7 (omega arith), (into_slot 10 x (omega arith) hx, tt)))))))),
-      ranged _ (from_slot 12 i (omega arith) hi, (from_slot 10 x (omega arith) hx, (tt, test_in len (address_code base ++ defines) (omega arith)
-          (address_in base defines hb (nine, (sum, (store_element_in, (svc_in 6 (omega arith), tt)))))))),
-    )
-
 -- ---- functions
 
 source_register : (params from : ℕ) → params ≤ 4 → cond (ltb from params) from 31 < 32
@@ -139,24 +86,52 @@ source_register params from few = by (ltb from params) refl where
   by true is = let l : from < params = ltb-true from params is in omega arith
   by false is = omega arith
 
-stores_fit : (params from n : ℕ) (is : List Item) → params ≤ 4 → from + n ≤ 255 → AllFit is → AllFit (local_stores params from n ++ is)
+stores_fit : (params from n : ℕ) (is : List Item) → params ≤ 4 → from + n ≤ 255 → AreItemsInRange is → AreItemsInRange (local_stores params from n ++ is)
 stores_fit params from zero is few small rest = rest
 stores_fit params from (suc n) is few small rest =
     (stores_in (cond (ltb from params) from 31) 31 (from + 1) (source_register params from few) (omega arith) (omega arith), stores_fit params (from + 1) n is few (omega arith) rest)
 
-begin_in : (op : Option ℕ) → HasShortNumber op → AllFit (begin_code op)
+begin_in : (op : Option ℕ) → HasShortNumber op → AreItemsInRange (begin_code op)
 begin_in None short = tt
 begin_in (Some op) short = (tt, (movz_in 9 op (omega arith) (short op refl), (svc_in 1 (omega arith), tt)))
 
-end_in : (op : Option ℕ) (is : List Item) → HasShortNumber op → AllFit is → AllFit (end_code op ++ is)
+end_in : (op : Option ℕ) (is : List Item) → HasShortNumber op → AreItemsInRange is → AreItemsInRange (end_code op ++ is)
 end_in None is short rest = rest
 end_in (Some op) is short rest = (tt, (movz_in 9 op (omega arith) (short op refl), (svc_in 2 (omega arith), rest)))
 
-pub functions_are_in_range : FunctionsAreInRange
-functions_are_in_range params locals from op few small inside short = (
-  ranged _ ((omega arith, (omega arith, (omega arith, tt))), (stores_in 30 31 0 (omega arith) (omega arith) (omega arith), stores_fit params 0 locals (begin_code op) few (omega arith) (begin_in op short))),
-  ranged _ (end_in op (return_code locals from) short (
+-- ---- all
+
+nine : (cell : ℕ) → cell < 2 ^ 16 → IsInRange (Movz 9 0 cell)
+nine cell h = movz_in 9 cell (omega arith) h
+
+sum : IsInRange (AddReg 9 9 12 0)
+sum = add_in 9 9 12 0 (omega arith) (omega arith) (omega arith) (omega arith)
+
+pub global_lines_are_in_range : GlobalLinesAreInRange
+global_lines_are_in_range = record {
+  load = λ x g hx hg. address_in g (item.Inst (Ldr 9 11 0) ∷ slot_store 9 x ∷ []) hg (read_in, (into_slot 9 x (omega arith) hx, tt));
+  store = λ g x hg hx. address_in g (slot_load 9 x ∷ item.Inst (Str 9 11 0) ∷ []) hg (from_slot 9 x (omega arith) hx, (write_in, tt));
+  ref = λ x l hx. (omega arith, (into_slot 9 x (omega arith) hx, tt));
+  loadx = λ x base len i hx hb hl hi. element_in base len i (item.Inst (Ldr 9 11 0) ∷ slot_store 9 x ∷ []) hb hl hi (read_in, (into_slot 9 x (omega arith) hx, tt));
+  storex = λ base len i x hb hl hi hx. element_in base len i (slot_load 9 x ∷ item.Inst (Str 9 11 0) ∷ []) hb hl hi (from_slot 9 x (omega arith) hx, (write_in, tt));
+  critical_load = λ x g cell hx hg hc. (tt, address_in g (item.Inst (Ldr 10 11 0) ∷ item.Inst (Movz 9 0 cell) ∷ item.Inst (Svc 7) ∷ slot_store 10 x ∷ []) hg
+      (loads_in 10 11 0 (omega arith) (omega arith) (omega arith), (nine cell hc, (svc_in 7 (omega arith), (into_slot 10 x (omega arith) hx, tt)))));
+  critical_store = λ g cell x hg hc hx. (from_slot 10 x (omega arith) hx, (tt, address_in g (item.Inst (Movz 9 0 cell) ∷ item.Inst (Str 10 11 0) ∷ item.Inst (Svc 6) ∷ []) hg
+      (nine cell hc, (stores_in 10 11 0 (omega arith) (omega arith) (omega arith), (svc_in 6 (omega arith), tt)))));
+  critical_loadx = critical_loadx;
+  critical_storex = critical_storex;
+  start = λ params locals op few small short. ((omega arith, (omega arith, (omega arith, tt))), (stores_in 30 31 0 (omega arith) (omega arith) (omega arith), stores_fit params 0 locals (begin_code op) few (omega arith) (begin_in op short)));
+  leave = λ locals from op small inside short. end_in op (return_code locals from) short (
     from_slot 0 from (omega arith) inside,
     (loads_in 30 31 0 (omega arith) (omega arith) (omega arith), ((omega arith, (omega arith, (omega arith, tt))), (tt, (svc_in 5 (omega arith), ((omega arith, tt), tt))))),
-  )),
-)
+  );
+} where
+  critical_loadx : (x base cell len i : ℕ) → x < 255 → base < 65536 → cell < 2 ^ 16 → len < 2 ^ 16 → i < 255 → AreItemsInRange (use_at_code x base cell len i)
+  critical_loadx x base cell len i hx hb hc hl hi =
+      let uses : List Item = item.Inst (LdrReg 10 11 12) ∷ item.Inst (Movz 9 0 cell) ∷ item.Inst (AddReg 9 9 12 0) ∷ item.Inst (Svc 7) ∷ slot_store 10 x ∷ [] in
+      (from_slot 12 i (omega arith) hi, (tt, test_in len (address_code base ++ uses) hl (address_in base uses hb (load_element_in, (nine cell hc, (sum, (svc_in 7 (omega arith), (into_slot 10 x (omega arith) hx, tt))))))))
+
+  critical_storex : (base cell len i x : ℕ) → base < 65536 → cell < 2 ^ 16 → len < 2 ^ 16 → i < 255 → x < 255 → AreItemsInRange (define_at_code base cell len i x)
+  critical_storex base cell len i x hb hc hl hi hx =
+      let defines : List Item = item.Inst (Movz 9 0 cell) ∷ item.Inst (AddReg 9 9 12 0) ∷ item.Inst (StrReg 10 11 12) ∷ item.Inst (Svc 6) ∷ [] in
+      (from_slot 12 i (omega arith) hi, (from_slot 10 x (omega arith) hx, (tt, test_in len (address_code base ++ defines) hl (address_in base defines hb (nine cell hc, (sum, (store_element_in, (svc_in 6 (omega arith), tt))))))))

@@ -7,20 +7,7 @@ use Rattle.oat_asm.proofs.StandingLaws.{words_of_two}
 use Rattle.oat_frames.specs.Code.{local_stores, prologue}
 use Rattle.oat_frames.specs.Frames.{frame_size}
 use Rattle.oat_globals.specs.Operations.{begin_code, leave_code, role_words}
-use Rattle.oat_globals.specs.Sizes.{LinesHaveTheirWords, StartsHaveTheirWords, ReturnsHaveTheirWords}
-
-pub lines_have_their_words : LinesHaveTheirWords
-lines_have_their_words x g base len i cell l = record {
-  load = refl;
-  store = refl;
-  ref = refl;
-  loadx = refl;
-  storex = refl;
-  use_ = refl;
-  define = refl;
-  use_at = refl;
-  define_at = refl;
-}
+use Rattle.oat_globals.specs.Sizes.{WordsOfGlobalLines}
 
 store_words : (params from n : ℕ) → words_needed (local_stores params from n) ≡ n
 store_words params from zero = refl
@@ -39,10 +26,25 @@ begin_words : (op : Option ℕ) → words_needed (begin_code op) ≡ role_words 
 begin_words None = refl
 begin_words (Some op) = refl
 
-pub starts_have_their_words : StartsHaveTheirWords
-starts_have_their_words params locals op =
+start_words : (params locals : ℕ) (op : Option ℕ) → words_needed (prologue params locals ++ begin_code op) ≡ 2 + locals + role_words op
+start_words params locals op =
     words_of_two (prologue params locals) (begin_code op) ∙ ap (λ (k : ℕ). k + words_needed (begin_code op)) (prologue_words params locals) ∙ ap (λ (k : ℕ). 2 + locals + k) (begin_words op)
 
-pub returns_have_their_words : ReturnsHaveTheirWords
-returns_have_their_words locals from None = refl
-returns_have_their_words locals from (Some op) = refl
+leave_words : (locals from : ℕ) (op : Option ℕ) → words_needed (leave_code locals from op) ≡ 5 + role_words op
+leave_words locals from None = refl
+leave_words locals from (Some op) = refl
+
+pub words_of_global_lines : WordsOfGlobalLines
+words_of_global_lines = record {
+  load = λ x g. refl;
+  store = λ g x. refl;
+  ref = λ x l. refl;
+  loadx = λ x base len i. refl;
+  storex = λ base len i x. refl;
+  critical_load = λ x g cell. refl;
+  critical_store = λ g cell x. refl;
+  critical_loadx = λ x base cell len i. refl;
+  critical_storex = λ base cell len i x. refl;
+  start = start_words;
+  leave = leave_words;
+}

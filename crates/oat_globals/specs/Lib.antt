@@ -3,4 +3,3 @@ pub mod Scalars
 pub mod Elements
 pub mod Operations
 pub mod Sizes
-pub mod Ranges

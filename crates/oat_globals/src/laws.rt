@@ -1,14 +1,7 @@
 //! Laws of compiled lines on global data and of operations, each the contract of a function that does nothing.
 ghost use Rattle.oat_globals.specs.Scalars.{CriticalLoadsLead, CriticalStoresLead, LoadsLead, ReferencesLead, StoresLead};
 ghost use Rattle.oat_globals.specs.Operations.{OperationCallsLead, OperationReturnsLead, StartsStand};
-ghost use Rattle.oat_globals.specs.Sizes.{LinesHaveTheirWords, ReturnsHaveTheirWords, StartsHaveTheirWords};
-ghost use Rattle.oat_globals.specs.Ranges.{
-  CriticalElementLinesAreInRange,
-  CriticalScalarLinesAreInRange,
-  ElementLinesAreInRange,
-  FunctionsAreInRange,
-  ScalarLinesAreInRange,
-};
+ghost use Rattle.oat_globals.specs.Sizes.{GlobalLinesAreInRange, WordsOfGlobalLines};
 ghost use Rattle.oat_globals.specs.Elements.{
   CriticalElementLoadsLead,
   CriticalElementLoadsTrap,
@@ -79,46 +72,6 @@ pub fn critical_element_stores_trap()
     ensures { CriticalElementStoresTrap }
 {}
 
-/// The code of each line has so many words.
-pub fn lines_have_their_words()
-    ensures { LinesHaveTheirWords }
-{}
-
-/// And that of a function's start.
-pub fn starts_have_their_words()
-    ensures { StartsHaveTheirWords }
-{}
-
-/// And that of its return.
-pub fn returns_have_their_words()
-    ensures { ReturnsHaveTheirWords }
-{}
-
-/// Each instruction of a line on a scalar has a word.
-pub fn scalar_lines_are_in_range()
-    ensures { ScalarLinesAreInRange }
-{}
-
-/// And of a line on an element.
-pub fn element_lines_are_in_range()
-    ensures { ElementLinesAreInRange }
-{}
-
-/// And of a line on a critical scalar.
-pub fn critical_scalar_lines_are_in_range()
-    ensures { CriticalScalarLinesAreInRange }
-{}
-
-/// And of a line on a critical array's element.
-pub fn critical_element_lines_are_in_range()
-    ensures { CriticalElementLinesAreInRange }
-{}
-
-/// And of a function's start and its return.
-pub fn functions_are_in_range()
-    ensures { FunctionsAreInRange }
-{}
-
 /// Behind the prologue of an operation stands the group that begins it.
 pub fn starts_stand()
     ensures { StartsStand }
@@ -132,4 +85,14 @@ pub fn operation_calls_lead()
 /// A return from an operation shows its end and then its edge.
 pub fn operation_returns_lead()
     ensures { OperationReturnsLead }
+{}
+
+/// The code of each line has so many words.
+pub fn words_of_global_lines()
+    ensures { WordsOfGlobalLines }
+{}
+
+/// The fields of its instructions fit.
+pub fn global_lines_are_in_range()
+    ensures { GlobalLinesAreInRange }
 {}
