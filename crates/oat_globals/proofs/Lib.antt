@@ -7,3 +7,5 @@ mod CriticalElements
 mod Sizes
 mod Operations
 mod Ranges
+mod Worked
+pub mod GlobalLaws

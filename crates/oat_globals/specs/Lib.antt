@@ -3,3 +3,4 @@ pub mod Scalars
 pub mod Elements
 pub mod Operations
 pub mod Sizes
+pub mod Worked

@@ -2,6 +2,7 @@
 ghost use Rattle.oat_globals.specs.Scalars.{CriticalLoadsLead, CriticalStoresLead, LoadsLead, ReferencesLead, StoresLead};
 ghost use Rattle.oat_globals.specs.Operations.{OperationCallsLead, OperationReturnsLead, StartsStand};
 ghost use Rattle.oat_globals.specs.Sizes.{GlobalLinesAreInRange, WordsOfGlobalLines};
+ghost use Rattle.oat_globals.specs.Worked.{OperationRuns};
 ghost use Rattle.oat_globals.specs.Elements.{
   CriticalElementLoadsLead,
   CriticalElementLoadsTrap,
@@ -95,4 +96,9 @@ pub fn words_of_global_lines()
 /// The fields of its instructions fit.
 pub fn global_lines_are_in_range()
     ensures { GlobalLinesAreInRange }
+{}
+
+/// The smallest image with each of these lines runs as its source.
+pub fn operation_runs()
+    ensures { OperationRuns }
 {}
