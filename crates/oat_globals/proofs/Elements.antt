@@ -1,5 +1,5 @@
 -- An element's address in register 11, or the trap Index; and the two lines on elements.
-use Rattle.std.proofs.Common.{◌≡◌, ◌+◌, ◌*◌, ◌<◌, ◌≤◌, ℕ, List, [], ◌∷◌, ◌++◌, Some, refl, sym, ap, subst, ◌∙◌, arith}
+use Rattle.std.proofs.Common.{◌≡◌, ◌+◌, ◌<◌, ◌≤◌, ℕ, List, [], ◌∷◌, ◌++◌, refl, sym, ap, subst, ◌∙◌, arith}
 use Rattle.oat_a64.specs.declared.inst.Inst.TheVariants.{AddReg, Ldr, Str}
 use Rattle.oat_a64.specs.Step.{goes_on, with_reg, wrap, shifted_left}
 use Rattle.oat_asm.specs.declared.item.Item.{Item}

@@ -1,7 +1,7 @@
 -- Each instruction of the lines has a word.
-use Rattle.std.proofs.Common.{◌≡◌, ◌+◌, ◌/◌, ◌%◌, ◌^◌, ◌<◌, ◌≤◌, ℕ, zero, suc, pos, Bool, true, false, cond, ltb, List, [], ◌∷◌, ◌++◌, Option, Some, None, refl, arith}
+use Rattle.std.proofs.Common.{◌≡◌, ◌+◌, ◌%◌, ◌^◌, ◌<◌, ◌≤◌, ℕ, zero, suc, pos, Bool, true, false, cond, ltb, List, [], ◌∷◌, ◌++◌, Option, Some, None, refl, arith}
 use Rattle.std.proofs.lemmas.Bool.{ltb-true}
-use Rattle.oat_a64.specs.declared.inst.Inst.TheVariants.{AddReg, SubsReg, BCond, Brk, Svc, Movz, Movk, Ldr, Str, LdrReg, StrReg}
+use Rattle.oat_a64.specs.declared.inst.Inst.TheVariants.{AddReg, SubsReg, BCond, Brk, Svc, Movz, Ldr, Str, LdrReg, StrReg}
 use Rattle.oat_a64.specs.Table.{IsInRange}
 use Rattle.oat_mem.specs.DataMemory.{global_address}
 use Rattle.oat_asm.specs.declared.item.Item.{Item}
@@ -114,10 +114,19 @@ global_lines_are_in_range = record {
   ref = λ x l hx. (omega arith, (into_slot 9 x (omega arith) hx, tt));
   loadx = λ x base len i hx hb hl hi. element_in base len i (item.Inst (Ldr 9 11 0) ∷ slot_store 9 x ∷ []) hb hl hi (read_in, (into_slot 9 x (omega arith) hx, tt));
   storex = λ base len i x hb hl hi hx. element_in base len i (slot_load 9 x ∷ item.Inst (Str 9 11 0) ∷ []) hb hl hi (from_slot 9 x (omega arith) hx, (write_in, tt));
-  critical_load = λ x g cell hx hg hc. (tt, address_in g (item.Inst (Ldr 10 11 0) ∷ item.Inst (Movz 9 0 cell) ∷ item.Inst (Svc 7) ∷ slot_store 10 x ∷ []) hg
-      (loads_in 10 11 0 (omega arith) (omega arith) (omega arith), (nine cell hc, (svc_in 7 (omega arith), (into_slot 10 x (omega arith) hx, tt)))));
-  critical_store = λ g cell x hg hc hx. (from_slot 10 x (omega arith) hx, (tt, address_in g (item.Inst (Movz 9 0 cell) ∷ item.Inst (Str 10 11 0) ∷ item.Inst (Svc 6) ∷ []) hg
-      (nine cell hc, (stores_in 10 11 0 (omega arith) (omega arith) (omega arith), (svc_in 6 (omega arith), tt)))));
+  critical_load = λ x g cell hx hg hc. (
+    tt,
+    address_in g (item.Inst (Ldr 10 11 0) ∷ item.Inst (Movz 9 0 cell) ∷ item.Inst (Svc 7) ∷ slot_store 10 x ∷ []) hg
+        (loads_in 10 11 0 (omega arith) (omega arith) (omega arith), (nine cell hc, (svc_in 7 (omega arith), (into_slot 10 x (omega arith) hx, tt)))),
+  );
+  critical_store = λ g cell x hg hc hx. (
+    from_slot 10 x (omega arith) hx,
+    (
+      tt,
+      address_in g (item.Inst (Movz 9 0 cell) ∷ item.Inst (Str 10 11 0) ∷ item.Inst (Svc 6) ∷ []) hg
+          (nine cell hc, (stores_in 10 11 0 (omega arith) (omega arith) (omega arith), (svc_in 6 (omega arith), tt))),
+    ),
+  );
   critical_loadx = critical_loadx;
   critical_storex = critical_storex;
   start = λ params locals op few small short. ((omega arith, (omega arith, (omega arith, tt))), (stores_in 30 31 0 (omega arith) (omega arith) (omega arith), stores_fit params 0 locals (begin_code op) few (omega arith) (begin_in op short)));

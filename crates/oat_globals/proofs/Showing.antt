@@ -7,7 +7,6 @@ use Rattle.oat_a64.specs.declared.inst.Inst.TheVariants.{SubsReg, BCond, Svc, Br
 use Rattle.oat_a64.specs.Step.{goes_on, holds, shifted_left, with_reg}
 use Rattle.oat_image.specs.declared.image.Image.{Image}
 use Rattle.oat_map.specs.declared.row.Row.{Row}
-use Rattle.oat_map.specs.declared.row.Row.TheVariants as rows
 use Rattle.oat_map.specs.declared.trap.TrapKind.TheVariants.{Index}
 use Rattle.oat_map.specs.Rows.{row_over}
 use Rattle.oat_measure.specs.declared.call.MonitorCall.{MonitorCall}

@@ -20,7 +20,7 @@ use Rattle.oat_frames.specs.Code.{CodeStands, call_code, prologue}
 use Rattle.oat_frames.specs.Comes.{StepsTo, with_result}
 use Rattle.oat_frames.specs.Events.{MachineEvent}
 use Rattle.oat_frames.specs.Frames.{World, IsWorld, GlobalsAt, IsAt}
-use Rattle.oat_frames.specs.Lines.{IsNumberLocal, on_next_line}
+use Rattle.oat_frames.specs.Lines.{on_next_line}
 use Rattle.oat_frames.specs.Reaching.{RunsTo}
 use Rattle.oat_frames.specs.Returns.{main_frame}
 use Rattle.oat_frames.proofs.Kit.{thence}
