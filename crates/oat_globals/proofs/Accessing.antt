@@ -17,7 +17,7 @@ use Rattle.oat_frames.specs.Comes.{StepsTo, with_result}
 use Rattle.oat_frames.specs.Lines.{on_next_line}
 use Rattle.oat_frames.specs.Readied.{IsReadied}
 use Rattle.oat_frames.specs.Reaching.{RunsTo, next_moment}
-use Rattle.oat_frames.proofs.Kit.{thence, with_x, with_slot, ldr, ldr-at, str-at, moves-number}
+use Rattle.oat_frames.proofs.Kit.{thence, set-other, with_x, with_slot, ldr, ldr-at, str-at, moves-number}
 use Rattle.oat_frames.proofs.FrameLaws.{slot-of, puts-global, global-opens, can-slot, assigns}
 use Rattle.oat_globals.specs.Code.{slot_load, slot_store}
 use Rattle.oat_globals.specs.Scalars.{IsScalarPair}
@@ -27,11 +27,24 @@ use Rattle.oat_globals.specs.Scalars.{IsScalarPair}
 abbrev pub addressed : Running → ℕ → Running
 addressed m g = next_moment (next_moment m m.machine) (with_x (next_moment m m.machine).machine 11 (global_address g))
 
+pub twice : (p : ℕ) → p + 4 + 4 ≡ p + 8
+twice p = omega arith
+
 pub small_word : (g n : ℕ) → g < n → n ≤ 65536 → g < 65536
 small_word g n l few = omega arith
 
 no_more : (a b : ℕ) → a ≡ b → a + 8 * 0 ≡ b
 no_more a b h = omega arith
+
+-- What neither inputs, outputs, memory, SP nor X28 has changed by: in each line by computing.
+abbrev pub IsUntouched : Running → Running → Type 0
+IsUntouched m k =
+    (k.inputs ≡ m.inputs) × (k.outputs ≡ m.outputs) × (k.machine.memory ≡ m.machine.memory) × (k.machine.regs.sp ≡ m.machine.regs.sp) × (k.machine.regs.x 28 ≡ m.machine.regs.x 28)
+
+pub readied : (image : Image) (count bytes : ℕ) (es : List MachineEvent) (m k : Running) → RunsTo image count m k es → k.end ≡ None → IsUntouched m k → k.machine.regs.pc ≡ m.machine.regs.pc + bytes
+    → IsReadied image count bytes es m.inputs m k
+readied image count bytes es m k runs going (inputs, outputs, memory, sp, depth) pc =
+    record { runs = runs; going = going; inputs = inputs; outputs = outputs; memory = memory; sp = sp; depth = depth; pc = pc }
 
 -- what a store into a word leaves, with what follows it: so many instructions, which show so much
 pub record IsStored (image : Image) (count g word : ℕ) (shown : List MachineEvent) (k l : Running) : Type 0 where
@@ -44,12 +57,43 @@ pub record IsStored (image : Image) (count g word : ℕ) (shown : List MachineEv
   pub depth : l.machine.regs.x 28 ≡ k.machine.regs.x 28
   pub pc : l.machine.regs.pc ≡ k.machine.regs.pc + 4 * count
 
+-- one more instruction, which gives a register other than X28 a number
+further : (image : Image) (count bytes rt v : ℕ) (m k : Running) → IsReadied image count bytes [] m.inputs m k → rt < 28 → RunsTo image 1 k (next_moment k (with_x k.machine rt v)) []
+    → IsReadied image (count + 1) (bytes + 4) [] m.inputs m (next_moment k (with_x k.machine rt v))
+further image count bytes rt v m k ready low one = record {
+  runs = thence image count 1 m k (next_moment k (with_x k.machine rt v)) [] [] ready.runs one;
+  going = ready.going;
+  inputs = ready.inputs;
+  outputs = ready.outputs;
+  memory = ready.memory;
+  sp = ready.sp;
+  depth = set-other k.machine.regs.x rt v 28 (λ e. absurd (omega arith)) ∙ ready.depth;
+  pc = ap (λ (p : ℕ). p + 4) ready.pc ∙ plus m.machine.regs.pc bytes;
+} where
+  plus : (p b : ℕ) → p + b + 4 ≡ p + (b + 4)
+  plus p b = omega arith
+
+-- a monitor call behind the store
+pub shown_behind : (image : Image) (g word : ℕ) (k l : Running) (es : List MachineEvent) → IsStored image 1 g word [] k l → RunsTo image 1 l (next_moment l l.machine) es → IsStored image 2 g word es k (next_moment l l.machine)
+shown_behind image g word k l es stored shows = record {
+  runs = thence image 1 1 k l (next_moment l l.machine) [] es stored.runs shows;
+  going = stored.going;
+  inputs = stored.inputs;
+  outputs = stored.outputs;
+  memory = stored.memory;
+  sp = stored.sp;
+  depth = stored.depth;
+  pc = ap (λ (p : ℕ). p + 4) stored.pc ∙ two k.machine.regs.pc;
+} where
+  two : (p : ℕ) → p + 4 * 1 + 4 ≡ p + 4 * 2
+  two p = omega arith
+
 module _ (w : World) (ok : IsWorld w) where
   pub addresses : (m : Running) (g : ℕ) → m.end ≡ None → g < w.globals → Stands w.image.code m.machine.regs.pc (Movz 11 0 (global_address g % 2 ^ 16)) → Stands w.image.code (m.machine.regs.pc + 4) (Movk 11 1 (global_address g / 2 ^ 16))
-      → RunsTo w.image 2 m (addressed m g) []
+      → IsReadied w.image 2 8 [] m.inputs m (addressed m g)
   addresses m g going inside one two =
       let small : g < 65536 = small_word g w.globals inside ok.globals in
-      moves-number w.image ok.low m 11 (global_address g) (omega arith) going (omega arith) one two
+      readied w.image 2 8 [] m (addressed m g) (moves-number w.image ok.low m 11 (global_address g) (omega arith) going (omega arith) one two) going (refl, refl, refl, refl, refl) (twice m.machine.regs.pc)
 
   -- the word goes into a register
   pub fetches : (k : Running) (rt g : ℕ) → k.end ≡ None → g < w.globals → k.machine.regs.x 11 ≡ global_address g → Stands w.image.code k.machine.regs.pc (Ldr rt 11 0)
@@ -145,20 +189,8 @@ module _ (w : World) (ok : IsWorld w) (f : Frame) (callers : List Frame) (global
       let l : Running = next_moment k (with_x k.machine 9 word) in
       let one : RunsTo w.image 1 k l [] = fetches w ok k 9 g ready.going this.global address at.0 in
       ends_in_slot (count + 1) (bytes + 4) 9 x (globals g) [] l
-      (record {
-        runs = thence w.image count 1 m k l [] [] ready.runs one;
-        going = ready.going;
-        inputs = ready.inputs;
-        outputs = ready.outputs;
-        memory = ready.memory;
-        sp = ready.sp;
-        depth = ready.depth;
-        pc = ap (λ (p : ℕ). p + 4) ready.pc ∙ further m.machine.regs.pc bytes;
-      })
+      (further w.image count bytes 9 word m k ready (omega arith) one)
       this.local (next ∙ plus (line_address w f) bytes) at.1.0 value where
-        further : (p b : ℕ) → p + b + 4 ≡ p + (b + 4)
-        further p b = omega arith
-
         plus : (p b : ℕ) → p + b + 8 ≡ p + (b + 4) + 4
         plus p b = omega arith
 
@@ -171,19 +203,7 @@ module _ (w : World) (ok : IsWorld w) (f : Frame) (callers : List Frame) (global
       let l : Running = next_moment k (with_x k.machine 9 word) in
       let one : RunsTo w.image 1 k l [] = loads_local k 9 x ready.going ready.memory ready.sp this.local at.0 in
       ends_in_word (count + 1) (bytes + 4) 1 g (f.locals x) word [] [] l (next_moment l (with_slot l.machine (global_address g) word))
-      (record {
-        runs = thence w.image count 1 m k l [] [] ready.runs one;
-        going = ready.going;
-        inputs = ready.inputs;
-        outputs = ready.outputs;
-        memory = ready.memory;
-        sp = ready.sp;
-        depth = ready.depth;
-        pc = ap (λ (p : ℕ). p + 4) ready.pc ∙ further m.machine.regs.pc bytes;
-      })
+      (further w.image count bytes 9 word m k ready (omega arith) one)
       (puts_word w ok l 9 g ready.going this.global address at.1.0) (omega arith) this.global (next ∙ plus (line_address w f) bytes) value where
-        further : (p b : ℕ) → p + b + 4 ≡ p + (b + 4)
-        further p b = omega arith
-
         plus : (p b : ℕ) → p + b + 8 ≡ p + (b + 4) + 4 * 1
         plus p b = omega arith

@@ -22,7 +22,7 @@ use Rattle.oat_frames.proofs.FrameLaws.{global-opens, loads-number, number-small
 use Rattle.oat_globals.specs.Code.{use_at_code, define_at_code}
 use Rattle.oat_globals.specs.Elements.{CriticalElementLoadsLead, CriticalElementStoresLead, CriticalElementLoadsTrap, CriticalElementStoresTrap}
 use Rattle.oat_globals.proofs.Showing.{GivesNothing, gives_nothing, movz, svc_shows, admitted, admits, refuses, ends_behind}
-use Rattle.oat_globals.proofs.Accessing.{IsStored, small_word, addressed, addresses, number_word, ends_in_slot, ends_in_word}
+use Rattle.oat_globals.proofs.Accessing.{IsStored, readied, shown_behind, small_word, addressed, addresses, number_word, ends_in_slot, ends_in_word}
 use Rattle.oat_globals.proofs.CriticalScalars.{own_word}
 
 -- ---- one access by the address of the first word and the element's number
@@ -45,16 +45,25 @@ module _ (w : World) (ok : IsWorld w) where
       ∙ ap (λ (t : Bool). cond t (goes_on k.machine (with_reg k.machine.regs 10 (word_in k.machine.memory a))) (fault k.machine (Access a))) (global-opens (b + v) small))
 
   stores_element : (k : Running) (b v : ℕ) → k.end ≡ None → Stands w.image.code k.machine.regs.pc (StrReg 10 11 12) → b + v < w.globals → k.machine.regs.x 11 ≡ global_address b → k.machine.regs.x 12 ≡ v
-      → RunsTo w.image 1 k (next_moment k (with_slot k.machine (global_address (b + v)) (reg k.machine.regs 10))) []
+      → IsStored w.image 1 (b + v) (reg k.machine.regs 10) [] k (next_moment k (with_slot k.machine (global_address (b + v)) (reg k.machine.regs 10)))
   stores_element k b v going at inside base index =
       let a : ℕ = global_address (b + v) in
       let small : b + v < 65536 = small_word (b + v) w.globals inside ok.globals in
       let l = below w.image ok.low k (StrReg 10 11 12) at in
       let next : Machine = with_slot k.machine a (reg k.machine.regs 10) in
-      quietly w.image ok.low k (next_moment k next) (StrReg 10 11 12) going at
-      (ap (λ (b : ℕ). makes k (stores k.machine 10 b)) (element_is b v (k.machine.regs.x 11) (k.machine.regs.x 12) small base index)
-      ∙ ap (λ (t : Bool). makes k (cond t (goes_on next next.regs) (fault k.machine (Access a)))) (global-opens (b + v) small)
-      ∙ next-is k next (omega arith)) going refl
+      record {
+        runs = quietly w.image ok.low k (next_moment k next) (StrReg 10 11 12) going at
+            (ap (λ (b : ℕ). makes k (stores k.machine 10 b)) (element_is b v (k.machine.regs.x 11) (k.machine.regs.x 12) small base index)
+            ∙ ap (λ (t : Bool). makes k (cond t (goes_on next next.regs) (fault k.machine (Access a)))) (global-opens (b + v) small)
+            ∙ next-is k next (omega arith)) going refl;
+        going = going;
+        inputs = refl;
+        outputs = refl;
+        memory = refl;
+        sp = refl;
+        depth = refl;
+        pc = refl;
+      }
 
 -- ---- a use
 
@@ -83,23 +92,15 @@ critical_element_loads_lead w ok f callers globals x base cell len i m r line th
     let r2 : RunsTo w.image 1 m1 m2 [] = movz w.image ok.low m1 11 len r.going (omega arith) at.1.1.0 in
     let test : GivesNothing w.image (m2.machine.regs.pc + 4) = gives_nothing w.image (m2.machine.regs.pc + 4) (rows.UseAt m1.machine.regs.pc cell len) (at.1.0 (m2.machine.regs.pc + 4) (omega arith) (omega arith)) (λ next. refl) in
     let r3 : RunsTo w.image 2 m2 m3 [] = admits w.image ok.low m2 r.going at.1.1.1.0 at.1.1.1.1.0 test less in
-    let r4 : RunsTo w.image 2 m3 m4 [] = addresses w ok m3 base r.going first at.1.1.1.1.1.1.0 at.1.1.1.1.1.1.1.0 in
+    let r4 : IsReadied w.image 2 8 [] m3.inputs m3 m4 = addresses w ok m3 base r.going first at.1.1.1.1.1.1.0 at.1.1.1.1.1.1.1.0 in
     let r5 : RunsTo w.image 1 m4 m5 [] = subst (λ (u : ℕ). RunsTo w.image 1 m4 (next_moment m4 (with_x m4.machine 10 u)) []) word.is (loads_element w ok m4 base v r.going at.1.1.1.1.1.1.1.1.0 inside refl refl) in
     let r6 : RunsTo w.image 1 m5 m6 [] = movz w.image ok.low m5 9 cell r.going (omega arith) at.1.1.1.1.1.1.1.1.1.0 in
     let r7 : RunsTo w.image 1 m6 m7 [] = sets w.image ok.low m6 (AddReg 9 9 12 0) 9 (cell + v) r.going at.1.1.1.1.1.1.1.1.1.1.0 (λ r next. refl)
     (ap (λ (s : ℕ). goes_on m6.machine (with_reg m6.machine.regs 9 s)) (cell_is cell v (omega arith) (omega arith))) in
     let r8 : RunsTo w.image 1 m7 m8 es = svc_shows w.image ok.low m7 7 (svc.Use (cell + v) value) r.going at.1.1.1.1.1.1.1.1.1.1.1.0 refl refl in
-    let ready : IsReadied w.image 10 44 es m.inputs m m8 = record {
-      runs = thence w.image 1 9 m m1 m8 [] es r1 (thence w.image 1 8 m1 m2 m8 [] es r2 (thence w.image 2 6 m2 m3 m8 [] es r3 (thence w.image 2 4 m3 m4 m8 [] es r4
-          (thence w.image 1 3 m4 m5 m8 [] es r5 (thence w.image 1 2 m5 m6 m8 [] es r6 (thence w.image 1 1 m6 m7 m8 [] es r7 r8))))));
-      going = r.going;
-      inputs = refl;
-      outputs = refl;
-      memory = refl;
-      sp = refl;
-      depth = refl;
-      pc = eleven m.machine.regs.pc;
-    } in
+    let ready : IsReadied w.image 10 44 es m.inputs m m8 =
+    readied w.image 10 44 es m m8 (thence w.image 1 9 m m1 m8 [] es r1 (thence w.image 1 8 m1 m2 m8 [] es r2 (thence w.image 2 6 m2 m3 m8 [] es r3 (thence w.image 2 4 m3 m4 m8 [] es r4.runs
+          (thence w.image 1 3 m4 m5 m8 [] es r5 (thence w.image 1 2 m5 m6 m8 [] es r6 (thence w.image 1 1 m6 m7 m8 [] es r7 r8))))))) r.going (refl, refl, refl, refl, refl) (eleven m.machine.regs.pc) in
     ends_in_slot w ok f callers globals m r line.slots 10 44 10 x value es m8 ready this.line.local.local (line.next ∙ plus (line_address w f)) at.1.1.1.1.1.1.1.1.1.1.1.1.0 (own_word w (w.ty f.func x) value _ this.line.local.ty word) where
       eleven : (p : ℕ) → p + 4 + 4 + 4 + 4 + 4 + 4 + 4 + 4 + 4 + 4 + 4 ≡ p + 44
       eleven p = omega arith
@@ -146,38 +147,18 @@ critical_element_stores_lead w ok f callers globals base cell len i x m r line t
     let r3 : RunsTo w.image 1 m2 m3 [] = movz w.image ok.low m2 11 len r.going (omega arith) at.1.1.1.0 in
     let test : GivesNothing w.image (m3.machine.regs.pc + 4) = gives_nothing w.image (m3.machine.regs.pc + 4) (rows.DefAt m2.machine.regs.pc cell len) (at.1.1.0 (m3.machine.regs.pc + 4) (omega arith) (omega arith)) (λ next. refl) in
     let r4 : RunsTo w.image 2 m3 m4 [] = admits w.image ok.low m3 r.going at.1.1.1.1.0 at.1.1.1.1.1.0 test less in
-    let r5 : RunsTo w.image 2 m4 m5 [] = addresses w ok m4 base r.going first at.1.1.1.1.1.1.1.0 at.1.1.1.1.1.1.1.1.0 in
+    let r5 : IsReadied w.image 2 8 [] m4.inputs m4 m5 = addresses w ok m4 base r.going first at.1.1.1.1.1.1.1.0 at.1.1.1.1.1.1.1.1.0 in
     let r6 : RunsTo w.image 1 m5 m6 [] = movz w.image ok.low m5 9 cell r.going (omega arith) at.1.1.1.1.1.1.1.1.1.0 in
     let r7 : RunsTo w.image 1 m6 m7 [] = sets w.image ok.low m6 (AddReg 9 9 12 0) 9 (cell + v) r.going at.1.1.1.1.1.1.1.1.1.1.0 (λ r next. refl)
     (ap (λ (s : ℕ). goes_on m6.machine (with_reg m6.machine.regs 9 s)) (cell_is cell v (omega arith) (omega arith))) in
-    let ready : IsReadied w.image 9 40 [] m.inputs m m7 = record {
-      runs = thence w.image 1 8 m m1 m7 [] [] r1 (thence w.image 1 7 m1 m2 m7 [] [] r2 (thence w.image 1 6 m2 m3 m7 [] [] r3 (thence w.image 2 4 m3 m4 m7 [] [] r4
-          (thence w.image 2 2 m4 m5 m7 [] [] r5 (thence w.image 1 1 m5 m6 m7 [] [] r6 r7)))));
-      going = r.going;
-      inputs = refl;
-      outputs = refl;
-      memory = refl;
-      sp = refl;
-      depth = refl;
-      pc = ten m.machine.regs.pc;
-    } in
-    let r8 : RunsTo w.image 1 m7 m8 [] = stores_element w ok m7 base v r.going at.1.1.1.1.1.1.1.1.1.1.1.0 inside refl refl in
+    let ready : IsReadied w.image 9 40 [] m.inputs m m7 =
+    readied w.image 9 40 [] m m7 (thence w.image 1 8 m m1 m7 [] [] r1 (thence w.image 1 7 m1 m2 m7 [] [] r2 (thence w.image 1 6 m2 m3 m7 [] [] r3 (thence w.image 2 4 m3 m4 m7 [] [] r4
+          (thence w.image 2 2 m4 m5 m7 [] [] r5.runs (thence w.image 1 1 m5 m6 m7 [] [] r6 r7)))))) r.going (refl, refl, refl, refl, refl) (ten m.machine.regs.pc) in
+    let r8 : IsStored w.image 1 g value [] m7 m8 = stores_element w ok m7 base v r.going at.1.1.1.1.1.1.1.1.1.1.1.0 inside refl refl in
     let r9 : RunsTo w.image 1 m8 m9 es = svc_shows w.image ok.low m8 6 (svc.Define (cell + v) value) r.going at.1.1.1.1.1.1.1.1.1.1.1.1.0 refl refl in
-    let both : IsStored w.image 2 g value es m7 m9 = record {
-      runs = thence w.image 1 1 m7 m8 m9 [] es r8 r9;
-      going = r.going;
-      inputs = refl;
-      outputs = refl;
-      memory = refl;
-      sp = refl;
-      depth = refl;
-      pc = two m7.machine.regs.pc;
-    } in
+    let both : IsStored w.image 2 g value es m7 m9 = shown_behind w.image g value m7 m8 es r8 r9 in
     ends_in_word w ok f callers globals m r line.slots 9 40 2 g value value [] es m7 m9 ready both (omega arith) inside (line.next ∙ plus (line_address w f))
     (subst (λ (ty : Ty). Represents w ty value value) (sym (this.line.array.numbers v less)) (record { known = number-small w ok f callers globals m r line.slots x this.line.local; is = refl })) where
-      two : (p : ℕ) → p + 4 + 4 ≡ p + 4 * 2
-      two p = omega arith
-
       ten : (p : ℕ) → p + 4 + 4 + 4 + 4 + 4 + 4 + 4 + 4 + 4 + 4 ≡ p + 40
       ten p = omega arith
 

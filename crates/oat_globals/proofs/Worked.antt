@@ -1,5 +1,5 @@
 -- The worked image meets all that the laws of lines ask for, and so runs as its source.
-use Rattle.std.proofs.Common.{◌≡◌, ◌+◌, ◌^◌, ◌<◌, ◌≤◌, inl, inr, ℕ, zero, suc, Bool, true, false, cond, eqb, leb, pos, List, [], ◌∷◌, ◌++◌, take, get_or, Some, nat_eq, if◌then◌else◌, refl, sym, subst, ◌∙◌, arith, lit<}
+use Rattle.std.proofs.Common.{◌≡◌, ◌+◌, ◌^◌, ◌<◌, ◌≤◌, inl, inr, ℕ, zero, suc, Bool, true, false, cond, eqb, leb, pos, List, [], ◌∷◌, ◌++◌, take, get_or, Some, nat_eq, if◌then◌else◌, refl, sym, ap, subst, ◌∙◌, arith, ne_eqb, lit<}
 use Rattle.std.specs.List.{slice_get, list_all}
 use Rattle.std.specs.Option.{option_and_then}
 use Rattle.std.proofs.lemmas.Bool.{leb-true, and_parts}
@@ -12,7 +12,7 @@ use Rattle.oat_mem.specs.DataMemory.{word_in, with_word, global_address}
 use Rattle.oat_mem.proofs.Words.{words_read_back, other_words_stay}
 use Rattle.oat_shape.specs.Shape.{group_end}
 use Rattle.oat_asm.specs.Standing.{IsOver}
-use Rattle.oat_ir.specs.declared.func.Ty.TheVariants.{I64}
+use Rattle.oat_ir.specs.declared.func.Ty.TheVariants.{I64, Fn}
 use Rattle.oat_check.specs.Steps.{Frame, assigned}
 use Rattle.oat_journal.specs.Run.{Running, started, start_memory}
 use Rattle.oat_frames.specs.Calls.{CallSite, callee_frame}
@@ -207,19 +207,15 @@ further most f g cs ds old new m xs ys this leads =
     let l = leads this.to this.is_at in
     record { to = l.to; count = this.count + l.count; runs = thence operation_image this.count l.count m this.to l.to xs ys this.runs l.runs; is_at = l.is_at }
 
+-- all words but the first are numbers
+array_at : (base len : ℕ) → 1 ≤ base → base + len ≤ 6 → IsArrayAt w base len
+array_at base len some fits = record { inside = fits; numbers = λ j h. ap (λ (t : Bool). cond t (Fn 0) I64) (ne_eqb (base + j) 0 (λ e. absurd (omega arith))) }
+
 array : IsArrayAt w 2 2
-array = record { inside = omega arith; numbers = by } where
-  by : (j : ℕ) → j < 2 → w.global_ty (2 + j) ≡ I64
-  by zero h = refl
-  by (suc zero) h = refl
-  by (suc (suc j)) h = absurd (omega arith)
+array = array_at 2 2 (omega arith) (omega arith)
 
 critical_array : IsArrayAt w 4 2
-critical_array = record { inside = omega arith; numbers = by } where
-  by : (j : ℕ) → j < 2 → w.global_ty (4 + j) ≡ I64
-  by zero h = refl
-  by (suc zero) h = refl
-  by (suc (suc j)) h = absurd (omega arith)
+critical_array = array_at 4 2 (omega arith) (omega arith)
 
 abbrev the_call : CallSite
 the_call = record { callee = 1; args = 0 ∷ []; result = 0 }
