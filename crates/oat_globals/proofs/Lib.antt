@@ -7,5 +7,6 @@ mod CriticalElements
 mod Sizes
 mod Operations
 mod Ranges
+mod WorkedPlaces
 mod Worked
 pub mod GlobalLaws
