@@ -7,4 +7,4 @@ mod LayoutLaws
 mod ExpansionProofs
 mod Standing
 pub mod StandingLaws
-pub mod RangeLaws
+mod RangeLaws

@@ -13,6 +13,8 @@ pub use Rattle.oat_frames.proofs.Homes.{IsElsewhere, puts-register}
 -- Addresses of slots and of global data can be accessed; code lies low.
 pub use Rattle.oat_frames.proofs.Slots.{stack-opens, global-opens, slot-opens, slot-small, lies, frame-opens}
 pub use Rattle.oat_frames.proofs.LowCode.{low-code}
+-- A row that is found is one of the map.
+pub use Rattle.oat_frames.proofs.Sites.{found-contains}
 -- The lines of a block, what a line begins with, and its end where it has a result.
 pub use Rattle.oat_frames.proofs.Blocks.{lines-stand, words-add-up}
-pub use Rattle.oat_frames.proofs.Landing.{scratched, here-opens, can-slot, number-of, number-small, loads-number, assigns, comes-within}
+pub use Rattle.oat_frames.proofs.Landing.{scratched, here-opens, can-slot, number-of, number-small, loads-number, by-registers, assigns, comes-within}

@@ -3,6 +3,7 @@ use Rattle.std.proofs.Common.{◌≡◌, ◌+◌, ◌*◌, ◌^◌, ◌<◌, ◌
 use Rattle.std.proofs.lemmas.List.{append-nil}
 use Rattle.oat_a64.specs.declared.inst.Inst.TheVariants.{Ldr, Str}
 use Rattle.oat_a64.specs.Step.{reg}
+use Rattle.oat_image.specs.declared.image.Image.{Image}
 use Rattle.oat_mem.specs.DataMemory.{word_in, with_word, can_access}
 use Rattle.oat_shape.specs.Groups.{Stands}
 use Rattle.oat_journal.specs.Run.{Running}
@@ -21,6 +22,21 @@ use Rattle.oat_frames.proofs.Registers.{with_x, with_slot}
 use Rattle.oat_frames.proofs.Holding.{opens, slot-of, frame-of, puts-local}
 use Rattle.oat_frames.proofs.Slots.{slot-opens, slot-small}
 use Rattle.oat_frames.proofs.Steps.{ldr, str}
+
+-- a front that changes registers alone
+pub by-registers : (image : Image) (count bytes : ℕ) (es : List MachineEvent) (m k : Running) → RunsTo image count m k es → m.end ≡ None
+    → k ≡ record m { machine = record m.machine { regs = k.machine.regs }; made = k.made }
+    → k.machine.regs.sp ≡ m.machine.regs.sp → k.machine.regs.x 28 ≡ m.machine.regs.x 28 → k.machine.regs.pc ≡ m.machine.regs.pc + bytes → IsReadied image count bytes es m.inputs m k
+by-registers image count bytes es m k runs going regs sp depth pc = record {
+  runs = runs;
+  going = ap (λ (r : Running). r.end) regs ∙ going;
+  inputs = ap (λ (r : Running). r.inputs) regs;
+  outputs = ap (λ (r : Running). r.outputs) regs;
+  memory = ap (λ (r : Running). r.machine.memory) regs;
+  sp = sp;
+  depth = depth;
+  pc = pc;
+}
 
 -- the same holds where stack pointer and memory are told in other words
 retold : (w : World) (func : ℕ) (locals : ℕ → ℕ) (callers : List Frame) (globals x : ℕ → ℕ) (sp q : ℕ) (old new : ℕ → ℕ) (to word : ℕ) → q ≡ sp → new ≡ old

@@ -1,25 +1,27 @@
--- Behind the group of a call there is a return site.
-use Rattle.std.proofs.Common.{◌≡◌, ◌+◌, ◌*◌, ◌%◌, ◌^◌, ◌<◌, ℕ, Bool, true, false, cond, ◌||◌, List, [], ◌∷◌, Some, refl, sym, ap, ◌∙◌, arith, eq-eqb}
+-- The row over an address is a row of the map, and behind the group of a call there is a return site.
+use Rattle.std.proofs.Common.{◌≡◌, ◌+◌, ◌*◌, ◌%◌, ◌^◌, ◌<◌, ℕ, Bool, true, false, cond, List, [], ◌∷◌, Some, Contains, refl, sym, ap, ◌∙◌, arith, eq-eqb}
 use Rattle.std.specs.List.{find, list_any}
+use Rattle.std.proofs.lemmas.List.Elements.{Contains-append_right}
+use Rattle.std.proofs.lemmas.List.Folds.{list_any-from_Any}
 use Rattle.oat_map.specs.declared.row.Row.{Row}
 use Rattle.oat_map.specs.declared.row.Row.TheVariants as rows
 use Rattle.oat_map.specs.Rows.{is_over, row_over, is_returned_to}
 
-some-same : {A : Type 0} (a b : A) → Some a ≡ Some b → a ≡ b
-some-same a b h = cc
+-- what is found is in the list
+pub found-contains : (test : Row → Bool) (all : List Row) (r : Row) → find test all ≡ Some r → Contains all r
+found-contains test [] r h = absurd (cc)
+found-contains test (y ∷ ys) r h = by (λ rest. found-contains test ys r rest) (test y) refl where
+  first : (s t : Row) → Some s ≡ Some t → s ≡ t
+  first s t e = cc
 
-or-true : (a b : Bool) → b ≡ true → a || b ≡ true
-or-true true b h = refl
-or-true false b h = h
+  by : (find test ys ≡ Some r → Contains ys r) → (t : Bool) → test y ≡ t → Contains (y ∷ ys) r
+  by rest true e = (0, omega arith, first y r (sym (ap (λ (t : Bool). cond t (Some y) (find test ys)) e) ∙ h))
+  by rest false e = Contains-append_right (y ∷ []) ys r (rest (sym (ap (λ (t : Bool). cond t (Some y) (find test ys)) e) ∙ h))
 
 found-any : (test is : Row → Bool) (all : List Row) (r : Row) → find is all ≡ Some r → test r ≡ true → list_any test all ≡ true
-found-any test is [] r h so = absurd (cc)
-found-any test is (x ∷ xs) r h so = by (λ more. found-any test is xs r more so) (is x) refl where
-  by : (find is xs ≡ Some r → list_any test xs ≡ true) → (t : Bool) → is x ≡ t → list_any test (x ∷ xs) ≡ true
-  by rest true e =
-      let same : x ≡ r = some-same x r (sym (ap (λ (t : Bool). cond t (Some x) (find is xs)) e) ∙ h) in
-      ap (λ (t : Bool). t || list_any test xs) (ap test same ∙ so)
-  by rest false e = or-true (test x) (list_any test xs) (rest (sym (ap (λ (t : Bool). cond t (Some x) (find is xs)) e) ∙ h))
+found-any test is all r found passes =
+    let has : Contains all r = found-contains is all r found in
+    list_any-from_Any test all (has.0, r, has.1, has.2, passes)
 
 pub icall-site : (all : List Row) (p at params to : ℕ) → row_over all p ≡ Some (rows.ICall at params) → at + 4 + 4 ≡ to → to < 2 ^ 64 → list_any (is_returned_to to) all ≡ true
 icall-site all p at params to over is small =

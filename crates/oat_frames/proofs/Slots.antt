@@ -1,26 +1,18 @@
 -- Bounds of slots and of stack pointers.
-use Rattle.std.proofs.Common.{◌≡◌, ◌+◌, ◌*◌, ◌%◌, ◌^◌, ◌<◌, ◌≤◌, ℕ, suc, Bool, true, false, ◌||◌, eqb, leb, List, [], ◌∷◌, length, refl, arith, eq-eqb}
-use Rattle.std.proofs.lemmas.Bool.{le-leb, and_from}
+use Rattle.std.proofs.Common.{◌≡◌, ◌+◌, ◌*◌, ◌%◌, ◌^◌, ◌<◌, ◌≤◌, ℕ, suc, true, eqb, leb, List, [], ◌∷◌, length, arith, eq-eqb}
+use Rattle.std.proofs.lemmas.Bool.{le-leb, and_from, or_left, or_right}
 use Rattle.oat_mem.specs.DataMemory.{can_access, fits, lies_in, global_base, global_size, stack_base, stack_size, global_address}
 use Rattle.oat_check.specs.Steps.{Frame}
 use Rattle.oat_frames.specs.Frames.{World, IsWorld, CallersAt, IsStackPointer, frame_size}
 use Rattle.oat_frames.specs.Phases.{HasSlots}
-
-or-true : (a b : Bool) → b ≡ true → a || b ≡ true
-or-true true b h = refl
-or-true false b h = h
 
 -- a word of the stack can be read and written
 pub stack-opens : (a : ℕ) → a % 8 ≡ 0 → 0x7FF0_0000 ≤ a → a + 8 ≤ 0x8000_0000 → can_access a ≡ true
 unfolding can_access fits
 stack-opens a aligned low high =
     and_from (eqb (a % 8) 0) _ (eq-eqb (a % 8) 0 aligned)
-    (or-true (lies_in global_base global_size a 8) (lies_in stack_base stack_size a 8)
+    (or_right (lies_in global_base global_size a 8) (lies_in stack_base stack_size a 8)
     (and_from (leb stack_base a) (leb (a + 8) (stack_base + stack_size)) (le-leb stack_base a low) (le-leb (a + 8) (stack_base + stack_size) high)))
-
-or-first : (a b : Bool) → a ≡ true → a || b ≡ true
-or-first true b h = refl
-or-first false b h = absurd (cc)
 
 -- a word of global data can be read and written
 pub global-opens : (index : ℕ) → index < 65536 → can_access (global_address index) ≡ true
@@ -29,7 +21,7 @@ global-opens index h =
     let a : ℕ = global_address index in
     let aligned : a % 8 ≡ 0 = omega arith in
     and_from (eqb (a % 8) 0) _ (eq-eqb (a % 8) 0 aligned)
-    (or-first (lies_in global_base global_size a 8) (lies_in stack_base stack_size a 8)
+    (or_left (lies_in global_base global_size a 8) (lies_in stack_base stack_size a 8)
     (and_from (leb global_base a) (leb (a + 8) (global_base + global_size)) (le-leb global_base a (omega arith)) (le-leb (a + 8) (global_base + global_size) (omega arith))))
 
 pub slot-opens : (sp n k : ℕ) → HasSlots sp n → k < n → can_access (sp + 8 * k) ≡ true

@@ -1,7 +1,6 @@
 -- What a call comes to: the callee's frame lies below the caller's, and the run stands behind its prologue; or a trap, where the reference is null or 256 calls are active.
-use Rattle.std.specs.Prelude.{◌≡◌, ◌+◌, ◌-◌, true, ◌*◌, ◌<◌, ◌≤◌, ℕ, List, [], ◌∷◌, length, map, Some, None}
+use Rattle.std.specs.Prelude.{◌≡◌, ◌+◌, ◌-◌, true, ◌*◌, ◌<◌, ◌≤◌, ℕ, List, [], ◌∷◌, length, map, Some, None, get_or}
 use Rattle.std.specs.List.{list_any}
-use Rattle.std.proofs.Common.{get_or}
 use Rattle.oat_map.specs.declared.edge.Edge.TheVariants as edges
 use Rattle.oat_map.specs.declared.trap.TrapKind.TheVariants.{Depth, NullCall}
 use Rattle.oat_map.specs.Rows.{is_called_at}

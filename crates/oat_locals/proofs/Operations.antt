@@ -15,6 +15,7 @@ use Rattle.oat_frames.specs.Frames.{IsLow}
 use Rattle.oat_frames.specs.Readied.{IsReadied}
 use Rattle.oat_frames.specs.Reaching.{RunsTo, inst_makes, next_moment, jumped}
 use Rattle.oat_frames.proofs.Kit.{thence, with_x, compared, IsQuiet, sets, compares, cbnz-skips, cbnz-passes, brk-zero}
+use Rattle.oat_frames.proofs.FrameLaws.{by-registers}
 
 -- two operands stand in X9 and X10
 abbrev pub operands : Running → ℕ → ℕ → Running
@@ -45,20 +46,7 @@ module _ (image : Image) (low : IsLow image) (m : Running) (u v : ℕ) (going : 
       → act i (operands m u v).machine ≡ goes_on (operands m u v).machine (with_reg (operands m u v).machine.regs 9 c) → (k : Running) × IsReadied image 3 12 [] m.inputs m k × (reg k.machine.regs 9 ≡ c)
   plain-ready i c at quiet does =
       let m2 : Running = operands m u v in
-      let m3 : Running = next_moment m2 (with_x m2.machine 9 c) in (
-        m3,
-        record {
-          runs = thence image 2 1 m m2 m3 [] [] loaded (sets image low m2 i 9 c going at quiet does);
-          going = going;
-          inputs = refl;
-          outputs = refl;
-          memory = refl;
-          sp = refl;
-          pc = plus-12 m.machine.regs.pc;
-          depth = refl;
-        },
-        refl,
-      )
+      let m3 : Running = next_moment m2 (with_x m2.machine 9 c) in (m3, by-registers image 3 12 [] m m3 (thence image 2 1 m m2 m3 [] [] loaded (sets image low m2 i 9 c going at quiet does)) going refl refl refl (plus-12 m.machine.regs.pc), refl)
 
   -- a comparison
   pub compare-ready : (flipped : ℕ) (t : Bool) (c : ℕ) → Stands image.code (m.machine.regs.pc + 4 + 4) (SubsReg 31 9 10) → Stands image.code (m.machine.regs.pc + 4 + 4 + 4) (Csinc 9 31 31 flipped)
@@ -69,20 +57,7 @@ module _ (image : Image) (low : IsLow image) (m : Running) (u v : ℕ) (going : 
       let m4 : Running = next_moment m3 (with_x m3.machine 9 c) in
       let first : RunsTo image 1 m2 m3 [] = compares image low m2 (SubsReg 31 9 10) u v going one (λ r next. refl) refl in
       let second : RunsTo image 1 m3 m4 [] = sets image low m3 (Csinc 9 31 31 flipped) 9 c going two (λ r next. refl)
-      (ap (λ (n : ℕ). goes_on m3.machine (with_reg m3.machine.regs 9 n)) (chosen (holds flipped m3.machine.regs) t flags ∙ is)) in (
-        m4,
-        record {
-          runs = thence image 2 2 m m2 m4 [] [] loaded (thence image 1 1 m2 m3 m4 [] [] first second);
-          going = going;
-          inputs = refl;
-          outputs = refl;
-          memory = refl;
-          sp = refl;
-          pc = plus-16 m.machine.regs.pc;
-          depth = refl;
-        },
-        refl,
-      )
+      (ap (λ (n : ℕ). goes_on m3.machine (with_reg m3.machine.regs 9 n)) (chosen (holds flipped m3.machine.regs) t flags ∙ is)) in (m4, by-registers image 4 16 [] m m4 (thence image 2 2 m m2 m4 [] [] loaded (thence image 1 1 m2 m3 m4 [] [] first second)) going refl refl refl (plus-16 m.machine.regs.pc), refl)
 
   -- ---- behind the test of a divisor
 
@@ -98,20 +73,7 @@ module _ (image : Image) (low : IsLow image) (m : Running) (u v : ℕ) (going : 
       let m3 : Running = jumped m2 m2.machine.regs (m2.machine.regs.pc + 4 + 4) in
       let m4 : Running = next_moment m3 (with_x m3.machine 9 c) in
       let first : RunsTo image 1 m2 m3 [] = cbnz-skips image low m2 10 at going test row (nonzero some) in
-      let second : RunsTo image 1 m3 m4 [] = sets image low m3 i 9 c going divides quiet (does m3.machine refl refl) in (
-        m4,
-        record {
-          runs = thence image 2 2 m m2 m4 [] [] loaded (thence image 1 1 m2 m3 m4 [] [] first second);
-          going = going;
-          inputs = refl;
-          outputs = refl;
-          memory = refl;
-          sp = refl;
-          pc = plus-20 m.machine.regs.pc;
-          depth = refl;
-        },
-        refl,
-      )
+      let second : RunsTo image 1 m3 m4 [] = sets image low m3 i 9 c going divides quiet (does m3.machine refl refl) in (m4, by-registers image 4 20 [] m m4 (thence image 2 2 m m2 m4 [] [] loaded (thence image 1 1 m2 m3 m4 [] [] first second)) going refl refl refl (plus-20 m.machine.regs.pc), refl)
 
   -- a remainder: the quotient q stands in X11
   pub remainder-ready : (i : Inst) (q c at : ℕ) → Stands image.code (m.machine.regs.pc + 4 + 4) (Cbnz 10 (pos 2)) → row_over image.map.rows (m.machine.regs.pc + 4 + 4) ≡ Some (rows.Check at) → (v ≡ 0 → ⊥)
@@ -125,20 +87,7 @@ module _ (image : Image) (low : IsLow image) (m : Running) (u v : ℕ) (going : 
       let first : RunsTo image 1 m2 m3 [] = cbnz-skips image low m2 10 at going test row (nonzero some) in
       let second : RunsTo image 1 m3 m4 [] = sets image low m3 i 11 q going divides quiet (does m3.machine refl refl) in
       let third : RunsTo image 1 m4 m5 [] = sets image low m4 (Msub 9 11 10 9) 9 c going rest (λ r next. refl)
-      (ap (λ (n : ℕ). goes_on m4.machine (with_reg m4.machine.regs 9 n)) is) in (
-        m5,
-        record {
-          runs = thence image 2 3 m m2 m5 [] [] loaded (thence image 1 2 m2 m3 m5 [] [] first (thence image 1 1 m3 m4 m5 [] [] second third));
-          going = going;
-          inputs = refl;
-          outputs = refl;
-          memory = refl;
-          sp = refl;
-          pc = plus-24 m.machine.regs.pc;
-          depth = refl;
-        },
-        refl,
-      )
+      (ap (λ (n : ℕ). goes_on m4.machine (with_reg m4.machine.regs 9 n)) is) in (m5, by-registers image 5 24 [] m m5 (thence image 2 3 m m2 m5 [] [] loaded (thence image 1 2 m2 m3 m5 [] [] first (thence image 1 1 m3 m4 m5 [] [] second third))) going refl refl refl (plus-24 m.machine.regs.pc), refl)
 
   -- a divisor of 0
   pub divides-zero : (at : ℕ) → Stands image.code (m.machine.regs.pc + 4 + 4) (Cbnz 10 (pos 2)) → row_over image.map.rows (m.machine.regs.pc + 4 + 4) ≡ Some (rows.Check at) → v ≡ 0

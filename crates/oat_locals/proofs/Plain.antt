@@ -17,7 +17,7 @@ use Rattle.oat_frames.specs.Frames.{World, Represents, line_address}
 use Rattle.oat_frames.specs.Readied.{IsReadied}
 use Rattle.oat_frames.specs.Reaching.{RunsTo, inst_makes, next_moment}
 use Rattle.oat_frames.proofs.Kit.{thence, with_x, sets, ldr, input_next, outputs_next, svc-in, svc-in-end, svc-out}
-use Rattle.oat_frames.proofs.FrameLaws.{slot-of, assigns, can-slot, loads-number, scratched}
+use Rattle.oat_frames.proofs.FrameLaws.{slot-of, by-registers, assigns, can-slot, loads-number, scratched}
 use Rattle.oat_locals.specs.Code.{const_code, copy_code, input_code, output_code}
 use Rattle.oat_locals.specs.Lines.{ConstsLead, CopiesLead, InputsLead, InputEndsTrap, OutputsLead}
 
@@ -62,16 +62,7 @@ consts-lead w ok f callers globals x value m r this =
     let two : RunsTo w.image 1 m1 m2 [] = sets w.image ok.low m1 (Movk 9 1 (n / 2 ^ 16 % 2 ^ 16)) 9 (n % 2 ^ 32) r.going here.1.0 (λ r next. refl) (ap (λ (v : ℕ). goes_on m1.machine (with_reg m1.machine.regs 9 v)) (quarter-1 n)) in
     let three : RunsTo w.image 1 m2 m3 [] = sets w.image ok.low m2 (Movk 9 2 (n / 2 ^ 32 % 2 ^ 16)) 9 (n % 2 ^ 48) r.going here.1.1.0 (λ r next. refl) (ap (λ (v : ℕ). goes_on m2.machine (with_reg m2.machine.regs 9 v)) (quarter-2 n)) in
     let last : RunsTo w.image 1 m3 m4 [] = sets w.image ok.low m3 (Movk 9 3 (n / 2 ^ 48)) 9 n r.going here.1.1.1.0 (λ r next. refl) (ap (λ (v : ℕ). goes_on m3.machine (with_reg m3.machine.regs 9 v)) (quarter-3 n small)) in
-    let ready : IsReadied w.image 4 16 [] m.inputs m m4 = record {
-      runs = thence w.image 1 3 m m1 m4 [] [] one (thence w.image 1 2 m1 m2 m4 [] [] two (thence w.image 1 1 m2 m3 m4 [] [] three last));
-      going = r.going;
-      inputs = refl;
-      outputs = refl;
-      memory = refl;
-      sp = refl;
-      pc = plus-16 m.machine.regs.pc;
-      depth = refl;
-    } in
+    let ready : IsReadied w.image 4 16 [] m.inputs m m4 = by-registers w.image 4 16 [] m m4 (thence w.image 1 3 m m1 m4 [] [] one (thence w.image 1 2 m1 m2 m4 [] [] two (thence w.image 1 1 m2 m3 m4 [] [] three last))) r.going refl refl refl (plus-16 m.machine.regs.pc) in
     assigns w ok f callers globals m r this.line.slots 4 16 9 x n [] m.inputs m4 ready
     (subst (λ (p : ℕ). Stands w.image.code p (Str 9 31 (x + 1))) (plus-16 (line_address w f)) this.line.code.1.1.1.1.0)
     (sixteen (line_address w f) (w.place f.func f.block (f.line + 1)) _ this.line.next refl) this.to.local (number-is w (w.ty f.func x) n (reg m4.machine.regs 9) this.to.ty small refl)
@@ -85,16 +76,7 @@ copies-lead w ok f callers globals x y m r this =
     let here : CodeStands w m.machine.regs.pc (copy_code x y) = subst (λ (p : ℕ). CodeStands w p (copy_code x y)) (sym r.pc) this.line.code in
     let can = can-slot w ok f callers globals m r this.line.slots y sp this.from_local refl in
     let m1 : Running = next_moment m (with_x m.machine 9 word) in
-    let ready : IsReadied w.image 1 4 [] m.inputs m m1 = record {
-      runs = ldr w.image ok.low m 9 (y + 1) r.going here.0 can.0 can.1;
-      going = r.going;
-      inputs = refl;
-      outputs = refl;
-      memory = refl;
-      sp = refl;
-      pc = refl;
-      depth = refl;
-    } in
+    let ready : IsReadied w.image 1 4 [] m.inputs m m1 = by-registers w.image 1 4 [] m m1 (ldr w.image ok.low m 9 (y + 1) r.going here.0 can.0 can.1) r.going refl refl refl (refl) in
     assigns w ok f callers globals m r this.line.slots 1 4 9 x (f.locals y) [] m.inputs m1 ready this.line.code.1.0
     (four (line_address w f) (w.place f.func f.block (f.line + 1)) _ this.line.next refl) this.to_local
     (subst (λ (ty : Ty). Represents w ty (f.locals y) word) this.types (slot-of w m.machine.regs.x m.machine.memory sp f.func f.locals this.line.slots r.holds.frame y this.from_local))

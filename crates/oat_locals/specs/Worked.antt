@@ -1,6 +1,5 @@
 -- A program of lines: 7 is read, divided by -2, and what remains is compared with the quotient; then the quotient is put.
-use Rattle.std.specs.Prelude.{◌≡◌, ◌+◌, ℕ, pos, negsuc, true, false, nat_eq, if◌then◌else◌, [], ◌∷◌, Some, None, codes}
-use Rattle.std.proofs.Common.{get_or}
+use Rattle.std.specs.Prelude.{◌≡◌, ◌+◌, ℕ, pos, negsuc, true, false, nat_eq, if◌then◌else◌, [], ◌∷◌, Some, None, codes, get_or}
 use Rattle.oat_image.specs.declared.image.Image.{Image}
 use Rattle.oat_map.specs.declared.map.Map.{Map}
 use Rattle.oat_map.specs.declared.edge.Edge.TheVariants as edges
