@@ -18,7 +18,7 @@ use Rattle.oat_frames.specs.Lines.{on_next_line}
 use Rattle.oat_frames.specs.Readied.{IsReadied}
 use Rattle.oat_frames.specs.Reaching.{RunsTo, next_moment}
 use Rattle.oat_frames.proofs.Kit.{thence, set-other, with_x, with_slot, ldr, ldr-at, str-at, moves-number}
-use Rattle.oat_frames.proofs.FrameLaws.{slot-of, puts-global, global-opens, can-slot, assigns}
+use Rattle.oat_frames.proofs.FrameLaws.{slot-of, puts-global, global-opens, can-slot, by-registers, assigns}
 use Rattle.oat_globals.specs.Code.{slot_load, slot_store}
 use Rattle.oat_globals.specs.Scalars.{IsScalarPair}
 
@@ -35,16 +35,6 @@ small_word g n l few = omega arith
 
 no_more : (a b : ℕ) → a ≡ b → a + 8 * 0 ≡ b
 no_more a b h = omega arith
-
--- What neither inputs, outputs, memory, SP nor X28 has changed by: in each line by computing.
-abbrev pub IsUntouched : Running → Running → Type 0
-IsUntouched m k =
-    (k.inputs ≡ m.inputs) × (k.outputs ≡ m.outputs) × (k.machine.memory ≡ m.machine.memory) × (k.machine.regs.sp ≡ m.machine.regs.sp) × (k.machine.regs.x 28 ≡ m.machine.regs.x 28)
-
-pub readied : (image : Image) (count bytes : ℕ) (es : List MachineEvent) (m k : Running) → RunsTo image count m k es → k.end ≡ None → IsUntouched m k → k.machine.regs.pc ≡ m.machine.regs.pc + bytes
-    → IsReadied image count bytes es m.inputs m k
-readied image count bytes es m k runs going (inputs, outputs, memory, sp, depth) pc =
-    record { runs = runs; going = going; inputs = inputs; outputs = outputs; memory = memory; sp = sp; depth = depth; pc = pc }
 
 -- what a store into a word leaves, with what follows it: so many instructions, which show so much
 pub record IsStored (image : Image) (count g word : ℕ) (shown : List MachineEvent) (k l : Running) : Type 0 where
@@ -93,7 +83,7 @@ module _ (w : World) (ok : IsWorld w) where
       → IsReadied w.image 2 8 [] m.inputs m (addressed m g)
   addresses m g going inside one two =
       let small : g < 65536 = small_word g w.globals inside ok.globals in
-      readied w.image 2 8 [] m (addressed m g) (moves-number w.image ok.low m 11 (global_address g) (omega arith) going (omega arith) one two) going (refl, refl, refl, refl, refl) (twice m.machine.regs.pc)
+      by-registers w.image 2 8 [] m (addressed m g) (moves-number w.image ok.low m 11 (global_address g) (omega arith) going (omega arith) one two) going refl refl refl (twice m.machine.regs.pc)
 
   -- the word goes into a register
   pub fetches : (k : Running) (rt g : ℕ) → k.end ≡ None → g < w.globals → k.machine.regs.x 11 ≡ global_address g → Stands w.image.code k.machine.regs.pc (Ldr rt 11 0)

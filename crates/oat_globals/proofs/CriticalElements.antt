@@ -22,11 +22,11 @@ use Rattle.oat_frames.specs.Frames.{World, IsWorld, Represents, line_address}
 use Rattle.oat_frames.specs.Readied.{IsReadied}
 use Rattle.oat_frames.specs.Reaching.{RunsTo, next_moment}
 use Rattle.oat_frames.proofs.Kit.{thence, with_x, with_slot, sets, quietly, next-is, below}
-use Rattle.oat_frames.proofs.FrameLaws.{global-opens, loads-number, number-small}
+use Rattle.oat_frames.proofs.FrameLaws.{global-opens, loads-number, number-small, by-registers}
 use Rattle.oat_globals.specs.Code.{address_code, slot_store, use_at_code, define_at_code}
 use Rattle.oat_globals.specs.Elements.{CriticalElementLoadsLead, CriticalElementStoresLead, CriticalElementLoadsTrap, CriticalElementStoresTrap}
 use Rattle.oat_globals.proofs.Showing.{GivesNothing, gives_nothing, movz, svc_shows, admitted, admits, refuses, ends_behind}
-use Rattle.oat_globals.proofs.Accessing.{IsStored, readied, shown_behind, small_word, addressed, addresses, number_word, ends_in_slot, ends_in_word}
+use Rattle.oat_globals.proofs.Accessing.{IsStored, shown_behind, small_word, addressed, addresses, number_word, ends_in_slot, ends_in_word}
 use Rattle.oat_globals.proofs.CriticalScalars.{own_word}
 
 -- ---- one access by the address of the first word and the element's number
@@ -127,8 +127,8 @@ critical_element_loads_lead w ok f callers globals x base cell len i m r line th
     (ap (λ (s : ℕ). goes_on m4.machine (with_reg m4.machine.regs 9 s)) (cell_is cell v (omega arith) (omega arith))) in
     let r6 : RunsTo w.image 1 m5 m6 es = svc_shows w.image ok.low m5 7 (svc.Use (cell + v) value) r.going at.1.1.1.1.1.1.1.1.1.1.1.0 refl refl in
     let ready : IsReadied w.image 10 44 es m.inputs m m6 =
-    readied w.image 10 44 es m m6 (thence w.image 1 9 m m1 m6 [] es r1 (thence w.image 5 4 m1 m2 m6 [] es r2
-    (thence w.image 1 3 m2 m3 m6 [] es r3 (thence w.image 1 2 m3 m4 m6 [] es r4 (thence w.image 1 1 m4 m5 m6 [] es r5 r6))))) r.going (refl, refl, refl, refl, refl) (eleven m.machine.regs.pc) in
+    by-registers w.image 10 44 es m m6 (thence w.image 1 9 m m1 m6 [] es r1 (thence w.image 5 4 m1 m2 m6 [] es r2
+    (thence w.image 1 3 m2 m3 m6 [] es r3 (thence w.image 1 2 m3 m4 m6 [] es r4 (thence w.image 1 1 m4 m5 m6 [] es r5 r6))))) r.going refl refl refl (eleven m.machine.regs.pc) in
     ends_in_slot w ok f callers globals m r line.slots 10 44 10 x value es m6 ready this.line.local.local (line.next ∙ plus (line_address w f)) at.1.1.1.1.1.1.1.1.1.1.1.1.0 (own_word w (w.ty f.func x) value _ this.line.local.ty word) where
       eleven : (p : ℕ) → p + 4 + 4 + 4 + 4 + 4 + 4 + 4 + 4 + 4 + 4 + 4 ≡ p + 44
       eleven p = omega arith
@@ -174,7 +174,7 @@ critical_element_stores_lead w ok f callers globals base cell len i x m r line t
     let r5 : RunsTo w.image 1 m4 m5 [] = sets w.image ok.low m4 (AddReg 9 9 12 0) 9 (cell + v) r.going at.1.1.1.1.1.1.1.1.1.1.0 (λ r next. refl)
     (ap (λ (s : ℕ). goes_on m4.machine (with_reg m4.machine.regs 9 s)) (cell_is cell v (omega arith) (omega arith))) in
     let ready : IsReadied w.image 9 40 [] m.inputs m m5 =
-    readied w.image 9 40 [] m m5 (thence w.image 1 8 m m1 m5 [] [] r1 (thence w.image 1 7 m1 m2 m5 [] [] r2 (thence w.image 5 2 m2 m3 m5 [] [] r3 (thence w.image 1 1 m3 m4 m5 [] [] r4 r5)))) r.going (refl, refl, refl, refl, refl) (ten m.machine.regs.pc) in
+    by-registers w.image 9 40 [] m m5 (thence w.image 1 8 m m1 m5 [] [] r1 (thence w.image 1 7 m1 m2 m5 [] [] r2 (thence w.image 5 2 m2 m3 m5 [] [] r3 (thence w.image 1 1 m3 m4 m5 [] [] r4 r5)))) r.going refl refl refl (ten m.machine.regs.pc) in
     let r6 : IsStored w.image 1 g value [] m5 m6 = stores_element w ok m5 base v r.going at.1.1.1.1.1.1.1.1.1.1.1.0 inside refl refl in
     let r7 : RunsTo w.image 1 m6 m7 es = svc_shows w.image ok.low m6 6 (svc.Define (cell + v) value) r.going at.1.1.1.1.1.1.1.1.1.1.1.1.0 refl refl in
     let both : IsStored w.image 2 g value es m5 m7 = shown_behind w.image g value m5 m6 es r6 r7 in

@@ -11,11 +11,11 @@ use Rattle.oat_frames.specs.Frames.{World, Represents, line_address}
 use Rattle.oat_frames.specs.Readied.{IsReadied}
 use Rattle.oat_frames.specs.Reaching.{RunsTo, next_moment}
 use Rattle.oat_frames.proofs.Kit.{thence, with_x, with_slot}
-use Rattle.oat_frames.proofs.FrameLaws.{loads-number, number-small}
+use Rattle.oat_frames.proofs.FrameLaws.{loads-number, number-small, by-registers}
 use Rattle.oat_globals.specs.Code.{use_code, define_code}
 use Rattle.oat_globals.specs.Scalars.{CriticalLoadsLead, CriticalStoresLead}
 use Rattle.oat_globals.proofs.Showing.{movz, svc_shows}
-use Rattle.oat_globals.proofs.Accessing.{IsStored, readied, shown_behind, addressed, addresses, fetches, puts_word, number_word, ends_in_slot, ends_in_word}
+use Rattle.oat_globals.proofs.Accessing.{IsStored, shown_behind, addressed, addresses, fetches, puts_word, number_word, ends_in_slot, ends_in_word}
 
 -- a number is its own word
 pub own_word : (w : World) (ty : Ty) (v word : ℕ) → ty ≡ I64 → Represents w I64 v word → Represents w ty v v
@@ -36,7 +36,7 @@ critical_loads_lead w ok f callers globals x g cell m r line this =
     let four : RunsTo w.image 1 m3 m4 [] = movz w.image ok.low m3 9 cell r.going this.few at.1.1.1.1.0 in
     let five : RunsTo w.image 1 m4 m5 es = svc_shows w.image ok.low m4 7 (svc.Use cell v) r.going at.1.1.1.1.1.0 refl refl in
     let ready : IsReadied w.image 5 20 es m.inputs m m5 =
-    readied w.image 5 20 es m m5 (thence w.image 2 3 m m2 m5 [] es two.runs (thence w.image 1 2 m2 m3 m5 [] es three (thence w.image 1 1 m3 m4 m5 [] es four five))) r.going (refl, refl, refl, refl, refl) (five_words m.machine.regs.pc) in
+    by-registers w.image 5 20 es m m5 (thence w.image 2 3 m m2 m5 [] es two.runs (thence w.image 1 2 m2 m3 m5 [] es three (thence w.image 1 1 m3 m4 m5 [] es four five))) r.going refl refl refl (five_words m.machine.regs.pc) in
     ends_in_slot w ok f callers globals m r line.slots 5 20 10 x v es m5 ready this.local.local (line.next ∙ plus (line_address w f)) at.1.1.1.1.1.1.0 (own_word w (w.ty f.func x) v _ this.local.ty word) where
       five_words : (p : ℕ) → p + 4 + 4 + 4 + 4 + 4 ≡ p + 20
       five_words p = omega arith
@@ -58,7 +58,7 @@ critical_stores_lead w ok f callers globals g cell x m r line this =
     let three : IsReadied w.image 2 8 [] m1.inputs m1 m3 = addresses w ok m1 g r.going this.global at.1.1.0 at.1.1.1.0 in
     let four : RunsTo w.image 1 m3 m4 [] = movz w.image ok.low m3 9 cell r.going this.few at.1.1.1.1.0 in
     let ready : IsReadied w.image 4 16 [] m.inputs m m4 =
-    readied w.image 4 16 [] m m4 (thence w.image 1 3 m m1 m4 [] [] one (thence w.image 2 1 m1 m3 m4 [] [] three.runs four)) r.going (refl, refl, refl, refl, refl) (four_words m.machine.regs.pc) in
+    by-registers w.image 4 16 [] m m4 (thence w.image 1 3 m m1 m4 [] [] one (thence w.image 2 1 m1 m3 m4 [] [] three.runs four)) r.going refl refl refl (four_words m.machine.regs.pc) in
     let five : IsStored w.image 1 g v [] m4 m5 = puts_word w ok m4 10 g r.going this.global refl at.1.1.1.1.1.0 in
     let six : RunsTo w.image 1 m5 m6 es = svc_shows w.image ok.low m5 6 (svc.Define cell v) r.going at.1.1.1.1.1.1.0 refl refl in
     let both : IsStored w.image 2 g v es m4 m6 = shown_behind w.image g v m4 m5 es five six in

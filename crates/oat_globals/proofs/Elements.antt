@@ -16,11 +16,11 @@ use Rattle.oat_frames.specs.Lines.{IsNumberLocal}
 use Rattle.oat_frames.specs.Readied.{IsReadied}
 use Rattle.oat_frames.specs.Reaching.{RunsTo, next_moment}
 use Rattle.oat_frames.proofs.Kit.{thence, with_x, sets, moves-number}
-use Rattle.oat_frames.proofs.FrameLaws.{loads-number}
+use Rattle.oat_frames.proofs.FrameLaws.{loads-number, by-registers}
 use Rattle.oat_globals.specs.Code.{element_code, slot_load, slot_store}
 use Rattle.oat_globals.specs.Elements.{IsArrayAt, ElementLoadsLead, ElementStoresLead, ElementsTrap}
 use Rattle.oat_globals.proofs.Showing.{GivesNothing, gives_nothing, admits, admitted, refuses, ends_behind}
-use Rattle.oat_globals.proofs.Accessing.{readied, loads_word, stores_word}
+use Rattle.oat_globals.proofs.Accessing.{loads_word, stores_word}
 
 -- ---- the element's address
 
@@ -57,8 +57,8 @@ module _ (w : World) (ok : IsWorld w) (f : Frame) (callers : List Frame) (global
       (ap (λ (s : ℕ). goes_on m6.machine (with_reg m6.machine.regs 11 s)) (scaled base v (omega arith) (omega arith))) in (
         m7,
         record {
-          ready = readied w.image 8 36 [] m m7 (thence w.image 1 7 m m1 m7 [] [] one (thence w.image 2 5 m1 m3 m7 [] [] two (thence w.image 2 3 m3 m4 m7 [] [] three (thence w.image 2 1 m4 m6 m7 [] [] four five))))
-              r.going (refl, refl, refl, refl, refl) (plus m.machine.regs.pc);
+          ready = by-registers w.image 8 36 [] m m7 (thence w.image 1 7 m m1 m7 [] [] one (thence w.image 2 5 m1 m3 m7 [] [] two (thence w.image 2 3 m3 m4 m7 [] [] three (thence w.image 2 1 m4 m6 m7 [] [] four five))))
+              r.going refl refl refl (plus m.machine.regs.pc);
           address = refl;
           behind = at.1.1.1.1.1.1.1.1.1.1;
         },

@@ -14,10 +14,10 @@ use Rattle.oat_frames.specs.Returns.{ReturnComesBack, return_edge}
 use Rattle.oat_frames.specs.Readied.{IsReadied}
 use Rattle.oat_frames.specs.Reaching.{RunsTo, next_moment}
 use Rattle.oat_frames.proofs.Kit.{still, thence, with_x}
-use Rattle.oat_frames.proofs.FrameLaws.{scratched, calls-lay-frames, returns-come-back}
+use Rattle.oat_frames.proofs.FrameLaws.{scratched, by-registers, calls-lay-frames, returns-come-back}
 use Rattle.oat_globals.specs.Operations.{begin_code, end_code, leave_code, role_words, begin_shown, end_shown, HasShortNumber, StartsStand, OperationCallsLead, OperationReturnsLead}
 use Rattle.oat_globals.proofs.Showing.{movz, svc_shows}
-use Rattle.oat_globals.proofs.Accessing.{twice, readied}
+use Rattle.oat_globals.proofs.Accessing.{twice}
 use Rattle.oat_globals.proofs.Sizes.{prologue_words}
 
 pub starts_stand : StartsStand
@@ -36,7 +36,7 @@ module _ (w : World) (ok : IsWorld w) where
   begins : (op : Option ℕ) (func : ℕ) (m : Running) → HasShortNumber op → m.end ≡ None → m.machine.regs.pc ≡ prologue_end w func → CodeStands w (prologue_end w func) (begin_code op)
       → (k : Running) × IsReadied w.image (role_words op) (4 * role_words op) (begin_shown w func op) m.inputs m k
   begins None func m short going pc code =
-      (m, readied w.image 0 0 [] m m (still w.image m) going (refl, refl, refl, refl, refl) (none_more m.machine.regs.pc))
+      (m, by-registers w.image 0 0 [] m m (still w.image m) going refl refl refl (none_more m.machine.regs.pc))
   begins (Some op) func m short going pc code =
       let here : CodeStands w m.machine.regs.pc (begin_code (Some op)) = subst (λ (q : ℕ). CodeStands w q (begin_code (Some op))) (sym pc) code in
       let m1 : Running = next_moment m (with_x m.machine 9 op) in
@@ -45,14 +45,14 @@ module _ (w : World) (ok : IsWorld w) where
       let one : RunsTo w.image 1 m m1 [] = movz w.image ok.low m 9 op going (short op refl) here.1.0 in
       let two : RunsTo w.image 1 m1 m2 es = svc_shows w.image ok.low m1 1 (svc.Begin op m1.machine.regs.pc) going here.1.1.0 refl refl in (
         m2,
-        readied w.image 2 8 (begin_shown w func (Some op)) m m2 (subst (λ (p : ℕ). RunsTo w.image 2 m m2 (monitors (svc.Begin op p) ∷ [])) (ap (λ (p : ℕ). p + 4) pc) (thence w.image 1 1 m m1 m2 [] es one two))
-            going (refl, refl, refl, refl, refl) (twice m.machine.regs.pc),
+        by-registers w.image 2 8 (begin_shown w func (Some op)) m m2 (subst (λ (p : ℕ). RunsTo w.image 2 m m2 (monitors (svc.Begin op p) ∷ [])) (ap (λ (p : ℕ). p + 4) pc) (thence w.image 1 1 m m1 m2 [] es one two))
+            going refl refl refl (twice m.machine.regs.pc),
       )
 
   ends_there : (op : Option ℕ) (m : Running) (is : List Item) → HasShortNumber op → m.end ≡ None → CodeStands w m.machine.regs.pc (end_code op ++ is)
       → (k : Running) × IsReadied w.image (role_words op) (4 * role_words op) (end_shown op) m.inputs m k × CodeStands w k.machine.regs.pc is
   ends_there None m is short going code =
-      (m, readied w.image 0 0 [] m m (still w.image m) going (refl, refl, refl, refl, refl) (none_more m.machine.regs.pc), code)
+      (m, by-registers w.image 0 0 [] m m (still w.image m) going refl refl refl (none_more m.machine.regs.pc), code)
   ends_there (Some op) m is short going code =
       let m1 : Running = next_moment m (with_x m.machine 9 op) in
       let m2 : Running = next_moment m1 m1.machine in
@@ -60,7 +60,7 @@ module _ (w : World) (ok : IsWorld w) where
       let one : RunsTo w.image 1 m m1 [] = movz w.image ok.low m 9 op going (short op refl) code.1.0 in
       let two : RunsTo w.image 1 m1 m2 es = svc_shows w.image ok.low m1 2 (svc.End op) going code.1.1.0 refl refl in (
         m2,
-        readied w.image 2 8 es m m2 (thence w.image 1 1 m m1 m2 [] es one two) going (refl, refl, refl, refl, refl) (twice m.machine.regs.pc),
+        by-registers w.image 2 8 es m m2 (thence w.image 1 1 m m1 m2 [] es one two) going refl refl refl (twice m.machine.regs.pc),
         code.1.1.1,
       )
 

@@ -8,9 +8,10 @@ use Rattle.oat_frames.specs.Code.{CodeStands}
 use Rattle.oat_frames.specs.Readied.{IsReadied}
 use Rattle.oat_frames.specs.Reaching.{RunsTo, next_moment}
 use Rattle.oat_frames.proofs.Kit.{with_x, moves-number}
+use Rattle.oat_frames.proofs.FrameLaws.{by-registers}
 use Rattle.oat_globals.specs.Code.{load_code, store_code, ref_code}
 use Rattle.oat_globals.specs.Scalars.{LoadsLead, StoresLead, ReferencesLead}
-use Rattle.oat_globals.proofs.Accessing.{twice, readied, addressed, addresses, loads_word, stores_word, ends_in_slot}
+use Rattle.oat_globals.proofs.Accessing.{twice, addressed, addresses, loads_word, stores_word, ends_in_slot}
 
 pub loads_lead : LoadsLead
 loads_lead w ok f callers globals x g m r line this =
@@ -43,7 +44,7 @@ references_lead w ok f callers globals x callee params m r line this =
     let m1 : Running = next_moment m m.machine in
     let k : Running = next_moment m1 (with_x m1.machine 9 (w.label callee)) in
     let two : RunsTo w.image 2 m k [] = moves-number w.image ok.low m 9 (w.label callee) (omega arith) r.going (ok.labels callee) at.0.0 at.0.1 in
-    let ready : IsReadied w.image 2 8 [] m.inputs m k = readied w.image 2 8 [] m k two r.going (refl, refl, refl, refl, refl) (twice m.machine.regs.pc) in
+    let ready : IsReadied w.image 2 8 [] m.inputs m k = by-registers w.image 2 8 [] m k two r.going refl refl refl (twice m.machine.regs.pc) in
     ends_in_slot w ok f callers globals m r line.slots 2 8 9 x (callee + 1) [] k ready this.local (line.next ∙ plus (line_address w f)) at.1.0
     (subst (λ (ty : Ty). Represents w ty (callee + 1) (w.label callee)) (sym this.ty) (reference_value w callee params this.known)) where
       plus : (p : ℕ) → p + 12 ≡ p + 8 + 4
