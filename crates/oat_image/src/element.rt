@@ -14,6 +14,9 @@ use itoa::Buffer;
 use oat_lines::read_three_fields;
 use oat_map::Row;
 
+/// The most elements of a critical array.
+const MOST_ELEMENTS: u16 = 4096;
+
 /// A row that uses or defines an element of a critical array.
 #[derive(Clone, Copy, Debug, PartialEq, Eq)]
 pub(crate) enum ElementKind {
@@ -24,7 +27,7 @@ pub(crate) enum ElementKind {
 pub(crate) fn is_length(len: u16) -> bool
     ensures { IsTrue result ↔ IsLength len }
 {
-    1 <= len && len <= 4096
+    1 <= len && len <= MOST_ELEMENTS
 }
 
 #[tactic(auto, unfolding(crate::specs::RowReading::array_of))]
@@ -35,7 +38,7 @@ fn read_array(first: &[u8], second: &[u8], third: &[u8]) -> Result<(u64, u64, u6
 {
     let address = read_address(first)?;
     let cell = read_number(0, 65535, second)?;
-    let len = read_number(1, 4096, third)?;
+    let len = read_number(1, u64::from(MOST_ELEMENTS), third)?;
     Ok((address, cell, len))
 }
 

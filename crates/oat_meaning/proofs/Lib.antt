@@ -1,4 +1,6 @@
 mod Allowed
+mod CallItems
+mod Ending
 mod MainNumber
 mod Making
 mod Passing

@@ -1,5 +1,5 @@
 -- What the record of a run tells of it.
-use Rattle.std.proofs.Common.{◌≡◌, ◌+◌, ◌<◌, ◌≤◌, ◌||◌, ℕ, Bool, true, false, cond, ltb, List, [], ◌∷◌, ◌++◌, length, take, Some, None, refl, sym, ap, subst, ◌∙◌, inl, inr, arith, append_assoc, append-nil}
+use Rattle.std.proofs.Common.{◌≡◌, ◌+◌, ◌<◌, ◌≤◌, ◌||◌, ℕ, Bool, true, false, cond, ltb, List, [], ◌∷◌, ◌++◌, length, Some, None, refl, sym, ap, subst, ◌∙◌, inl, inr, arith, append_assoc, append-nil}
 use Rattle.std.specs.Prelude.{is_some, slice_get}
 use Rattle.std.specs.List.{fold, list_any}
 use Rattle.std.proofs.lemmas.Bool.{cases_order, lt-ltb, le-ltb, ltb-true, ltb-false, false≢true}
@@ -12,11 +12,11 @@ use Rattle.oat_events.specs.Windows.{beyond, through}
 use Rattle.oat_check.specs.Steps.{LineEdge}
 use Rattle.oat_check.proofs.Sourcing.{calls_are_counted, calls_are_cut}
 use Rattle.oat_meaning.specs.declared.interpreter.Interpreter.{Interpreter}
-use Rattle.oat_meaning.specs.declared.record.CallEnd.{CallEnd}
 use Rattle.oat_meaning.specs.Made.{HasReached}
-use Rattle.oat_meaning.specs.Recording.{Recorded, end_before_call, end_of_call, nothing_recorded}
+use Rattle.oat_meaning.specs.Recording.{Recorded, calls_end, nothing_recorded}
 use Rattle.oat_meaning.specs.SourceRun.{SourceRun, calls_so_far, completed_so_far, events_so_far, loads_so_far, outputs_so_far, path_so_far}
-use Rattle.oat_meaning.proofs.Recordings.{Events, Holds, IsPart, begins_there, calls_end, edges_append, edges_in, ends_there, joined, loads_append, loads_in, opened, outputs_recorded, part_of, recorded_holds}
+use Rattle.oat_meaning.proofs.CallItems.{Events, IsPart, joined, part_of_call, opened}
+use Rattle.oat_meaning.proofs.Recordings.{Holds, edges_append, edges_in, loads_append, loads_in, outputs_recorded, recorded_holds}
 
 -- ---- a call that is on its way
 
@@ -87,8 +87,8 @@ module _ (m : Interpreter) (run : SourceRun) (s : HasReached m run) where
   many : length cut.closed ≡ calls_so_far run
   many = length_told cut.closed (calls_so_far run) (λ call. ap is_some (cut_at call) ∙ is_some_where (completed_so_far run call) _ ∙ counted call)
 
-  pub calls_told : length m.kept.recorded.ends ≡ calls_so_far run
-  calls_told = holds.count ∙ many
+  pub calls_told : length m.kept.recorded.load_ends ≡ calls_so_far run
+  calls_told = holds.loads.count ∙ many
 
   pub outputs_told : m.kept.recorded.outputs ≡ outputs_so_far run
   outputs_told = ap (λ (r : Recorded). r.outputs) s.recorded ∙ outputs_recorded run.program (events_so_far run) (nothing_recorded run.op)
@@ -100,26 +100,11 @@ module _ (m : Interpreter) (run : SourceRun) (s : HasReached m run) where
     call_there =
         cut_at call ∙ ap (λ b. cond b (Some (stretch run.op call (events_so_far run))) None) (counted call ∙ lt-ltb call (calls_so_far run) low)
 
-    within : call < length cut.closed
-    within = let e = many in omega (arith, e, low)
+    pub path_told : IsPart m.kept.recorded.edges (calls_end m.kept.recorded.path_ends call) (calls_end m.kept.recorded.path_ends (call + 1)) (path_so_far run call)
+    path_told = part_of_call (edges_in run.program run.op) (edges_append run.program run.op) _ _ cut.closed (opened cut.going) call (stretch run.op call (events_so_far run)) holds.edges call_there
 
-    begins : end_before_call m.kept.recorded call ≡ calls_end run.program run.op (take call cut.closed)
-    begins = begins_there run.program run.op m.kept.recorded cut.closed cut.going holds call within
-
-    ends : end_of_call m.kept.recorded call ≡ calls_end run.program run.op (take (call + 1) cut.closed)
-    ends = ends_there run.program run.op m.kept.recorded cut.closed cut.going holds call within
-
-    pub path_told : IsPart m.kept.recorded.edges (end_before_call m.kept.recorded call).edges (end_of_call m.kept.recorded call).edges (path_so_far run call)
-    path_told =
-        subst (λ (e : CallEnd). IsPart m.kept.recorded.edges e.edges (end_of_call m.kept.recorded call).edges (path_so_far run call)) (sym begins)
-        (subst (λ (e : CallEnd). IsPart m.kept.recorded.edges (calls_end run.program run.op (take call cut.closed)).edges e.edges (path_so_far run call)) (sym ends)
-        (part_of (edges_in run.program run.op) (edges_append run.program run.op) m.kept.recorded.edges cut.closed (opened cut.going) call (stretch run.op call (events_so_far run)) holds.edges call_there))
-
-    pub loads_told : IsPart m.kept.recorded.loads (end_before_call m.kept.recorded call).loads (end_of_call m.kept.recorded call).loads (loads_so_far run call)
-    loads_told =
-        subst (λ (e : CallEnd). IsPart m.kept.recorded.loads e.loads (end_of_call m.kept.recorded call).loads (loads_so_far run call)) (sym begins)
-        (subst (λ (e : CallEnd). IsPart m.kept.recorded.loads (calls_end run.program run.op (take call cut.closed)).loads e.loads (loads_so_far run call)) (sym ends)
-        (part_of (loads_in run.program run.op) (loads_append run.program run.op) m.kept.recorded.loads cut.closed (opened cut.going) call (stretch run.op call (events_so_far run)) holds.loads call_there))
+    pub loads_told : IsPart m.kept.recorded.loads (calls_end m.kept.recorded.load_ends call) (calls_end m.kept.recorded.load_ends (call + 1)) (loads_so_far run call)
+    loads_told = part_of_call (loads_in run.program run.op) (loads_append run.program run.op) _ _ cut.closed (opened cut.going) call (stretch run.op call (events_so_far run)) holds.loads call_there
 
   -- ---- of the first one, where none has completed
 
@@ -133,7 +118,7 @@ module _ (m : Interpreter) (run : SourceRun) (s : HasReached m run) where
         ∙ first_open (is_entered run.op) (is_left run.op) (events_so_far run) unsealed ∙ sym (none_seals (is_left run.op) (beyond (is_entered run.op) (events_so_far run)) unsealed)
 
     pub first_path_told : m.kept.recorded.edges ≡ path_so_far run 0
-    first_path_told = holds.edges ∙ ap (edges_in run.program run.op) all_open
+    first_path_told = holds.edges.all ∙ ap (edges_in run.program run.op) all_open
 
     pub first_loads_told : m.kept.recorded.loads ≡ loads_so_far run 0
-    first_loads_told = holds.loads ∙ ap (loads_in run.program run.op) all_open
+    first_loads_told = holds.loads.all ∙ ap (loads_in run.program run.op) all_open

@@ -1,5 +1,5 @@
 -- What is kept of the events of a run: its outputs, and of the calls of one operation the edges and the loads.
-use Rattle.std.specs.Prelude.{◌+◌, ◌-◌, ◌≤◌, ℕ, ℤ, Bool, false, ◌&&◌, ◌||◌, nat_eq, if◌then◌else◌, List, [], ◌∷◌, ◌++◌, length, get_or, Option, Some, None}
+use Rattle.std.specs.Prelude.{◌+◌, ◌*◌, ◌≤◌, ℕ, ℤ, Bool, true, false, ◌&&◌, ◌||◌, nat_eq, if◌then◌else◌, List, [], ◌∷◌, ◌++◌, length, get_or, Option, Some, None}
 use Rattle.std.specs.List.{fold}
 use Rattle.oat_bits.specs.Words.{signed}
 use Rattle.oat_ir.specs.declared.program.Program.{Program}
@@ -9,20 +9,20 @@ use Rattle.oat_ir.specs.declared.source.SourceEdge.TheVariants.{End}
 use Rattle.oat_events.specs.Events.{SourceEvent, takes, enters, leaves, loads, stores, outputs}
 use Rattle.oat_check.specs.Naming.{written_edge}
 use Rattle.oat_check.specs.Steps.{LineEdge}
-use Rattle.oat_meaning.specs.declared.record.CallEnd.{CallEnd}
 
--- The edges and loads of all calls of the operation lie one behind the other, and each call that has completed tells where its own end.
+-- The edges and loads of all calls of the operation lie one behind the other, and of each call that has completed it is told where its path and its loads end.
 pub record Recorded : Type 0 where
   pub op : ℕ
   pub inside : Bool
   pub outputs : List ℤ
   pub edges : List SourceEdge
+  pub path_ends : List ℕ
   pub loads : List CriticalLoad
-  pub ends : List CallEnd
+  pub load_ends : List ℕ
 
 -- before the first event
 abbrev pub nothing_recorded : ℕ → Recorded
-nothing_recorded op = record { op = op; inside = false; outputs = []; edges = []; loads = []; ends = [] }
+nothing_recorded op = record { op = op; inside = false; outputs = []; edges = []; path_ends = []; loads = []; load_ends = [] }
 
 -- ---- what each event adds
 
@@ -32,11 +32,13 @@ edge_added r edge = if r.inside then record r { edges = r.edges ++ edge ∷ [] }
 abbrev pub when_entered : Recorded → ℕ → Recorded
 when_entered r op = record r { inside = r.inside || nat_eq op r.op }
 
-abbrev pub call_end : Recorded → CallEnd
-call_end r = record { edges = length r.edges + 1; loads = length r.loads }
-
 abbrev pub completed : Recorded → Recorded
-completed r = record r { inside = false; edges = r.edges ++ End r.op ∷ []; ends = r.ends ++ call_end r ∷ [] }
+completed r = record r {
+  inside = false;
+  edges = r.edges ++ End r.op ∷ [];
+  path_ends = r.path_ends ++ (length r.edges + 1) ∷ [];
+  load_ends = r.load_ends ++ length r.loads ∷ [];
+}
 
 abbrev pub when_left : Recorded → ℕ → Recorded
 when_left r op = if r.inside && nat_eq op r.op then completed r else r
@@ -75,6 +77,22 @@ abbrev pub return_added : Recorded → SourceEdge → Option ℕ → Recorded
 return_added r edge (Some op) = edge_added (when_left r op) edge
 return_added r edge None = edge_added r edge
 
+-- ---- where calls end
+
+-- an edge that is the last of its path
+abbrev pub ends_path : SourceEdge → Bool
+ends_path (End op) = true
+ends_path _ = false
+
+-- where paths end among edges that lie behind so many: behind each one that ends its path
+abbrev pub ends_behind : ℕ → List SourceEdge → List ℕ
+ends_behind n [] = []
+ends_behind n (edge ∷ edges) = if ends_path edge then (n + 1) ∷ ends_behind (n + 1) edges else ends_behind (n + 1) edges
+
+-- where the first so many calls end, by the ends of all
+abbrev pub calls_end : List ℕ → ℕ → ℕ
+calls_end ends calls = get_or (0 ∷ ends) calls 0
+
 -- ---- room
 
 -- a record, and for how many more steps it has room
@@ -87,15 +105,11 @@ pub record TakesMore (left items capacity : ℕ) : Type 0 where
   pub room : items + left ≤ capacity
   pub few : items + left ≤ 4194304
 
--- ---- where calls end
+-- A call that has completed took two steps or more, and one that is on its way took one.
+abbrev pub steps_of_calls : ℕ → Bool → ℕ
+steps_of_calls calls inside = 2 * calls + (if inside then 1 else 0)
 
-abbrev pub no_call : CallEnd
-no_call = record { edges = 0; loads = 0 }
-
--- where a call ends that has completed
-abbrev pub end_of_call : Recorded → ℕ → CallEnd
-end_of_call r call = get_or r.ends call no_call
-
--- where the calls before it end
-abbrev pub end_before_call : Recorded → ℕ → CallEnd
-end_before_call r call = if nat_eq call 0 then no_call else end_of_call r (call - 1)
+-- a list of the ends of calls, in so much room, takes one more for every two steps that these calls took or that are left
+pub record TakesEnds (left taken capacity : ℕ) : Type 0 where
+  pub room : taken + left ≤ 2 * capacity + 1
+  pub few : taken + left ≤ 4194304

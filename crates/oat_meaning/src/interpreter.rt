@@ -70,6 +70,7 @@ impl<'a> Interpreter<'a> {
     ghost use Rattle.oat_meaning.specs.Standing.{Allows, CanResume, GoesPast, HasStepped, IsWellKept, finish_of, runs_through, source_state_of};
     ghost use Rattle.oat_meaning.specs.Activations.{locals_of};
     ghost use Rattle.oat_meaning.specs.Made.{HasReached};
+    ghost use Rattle.oat_meaning.specs.Recording.{ends_path};
     ghost use Rattle.oat_meaning.specs.SourceRun.{first_run};
 
     /// Takes all memory of a run of at most so many steps.
@@ -224,6 +225,7 @@ impl<'a> Interpreter<'a> {
 
     fn go_to(&mut self, block: u32, edge: SourceEdge)
         requires ready { IsWellKept self.old }
+        requires goes_on { ends_path edge ≡ false }
         requires left { 0 < self.old.kept.left }
         ensures { (e : LineEdge) → edge ≡ written_edge self.old.program.now e → HasStepped self.old (goes_to (source_state_of self.old) e block) self.new }
     {
@@ -271,6 +273,7 @@ impl<'a> Interpreter<'a> {
     /// Calls a function with some of the locals.
     pub fn call(&mut self, edge: SourceEdge, func: u32, args: &[u32])
         requires ready { IsWellKept self.old }
+        requires goes_on { ends_path edge ≡ false }
         requires few { length args.now ≤ 4 }
         requires left { 0 < self.old.kept.left }
         ensures { (e : LineEdge) → edge ≡ written_edge self.old.program.now e → HasStepped self.old (runs self.old.program.now (source_state_of self.old) e func args.now) self.new }

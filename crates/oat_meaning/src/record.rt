@@ -1,9 +1,9 @@
 //! What is kept of a run while it is made.
-ghost use Rattle.std.specs.Prelude.{◌≡◌, ◌+◌, ◌<◌, ◌≤◌, ℤ, IfOk, length, option_map};
+ghost use Rattle.std.specs.Prelude.{◌≡◌, ◌+◌, ◌<◌, ◌≤◌, ℤ, true, false, IfOk, length, option_map};
 ghost use Rattle.oat_meaning.specs.Recording.{
+  calls_end,
   completed,
-  end_before_call,
-  end_of_call,
+  ends_path,
   nothing_recorded,
   call_added,
   edge_added,
@@ -16,16 +16,9 @@ use oat_ir::{CriticalLoad, SourceEdge};
 use std::alloc::{AllocError, Global};
 use std::marker::Model;
 
-/// Where the edges and the loads of a call of the operation end.
-#[derive(Clone, Copy, Debug, PartialEq, Eq)]
-pub struct CallEnd {
-    pub edges: u32,
-    pub loads: u32,
-}
-
-const NO_CALL: CallEnd = CallEnd { edges: 0, loads: 0 };
-
 /// The outputs of a run, and the edges and loads of all calls of one operation, one call behind the other.
+///
+/// The path of a call that has completed ends behind its edge `End`.
 #[derive(Drop)]
 pub struct Record {
     op: u16,
@@ -34,20 +27,20 @@ pub struct Record {
     outputs: Vec<i64>,
     edges: Vec<SourceEdge>,
     loads: Vec<CriticalLoad>,
-    /// Of the calls that have completed.
-    ends: Vec<CallEnd>,
+    /// Where the loads end of each call that has completed.
+    load_ends: Vec<u32>,
     /// For how many more steps there is room.
     left: u32,
 }
 
 impl Model for Record {
     ghost use Rattle.std.specs.Prelude.{vec_len, vec_capacity};
-    ghost use Rattle.oat_meaning.specs.Recording.{RoomyRecord, TakesMore};
+    ghost use Rattle.oat_meaning.specs.Recording.{RoomyRecord, TakesEnds, TakesMore, ends_behind, steps_of_calls};
 
     ghost Value = { RoomyRecord };
 
     ghost view = { λ r. record {
-      recorded = record { op = r.op; inside = r.inside; outputs = r.outputs.items; edges = r.edges.items; loads = r.loads.items; ends = r.ends.items };
+      recorded = record { op = r.op; inside = r.inside; outputs = r.outputs.items; edges = r.edges.items; path_ends = ends_behind 0 r.edges.items; loads = r.loads.items; load_ends = r.load_ends.items };
       left = r.left;
     } };
 
@@ -55,7 +48,13 @@ impl Model for Record {
         TakesMore r.left (vec_len r.outputs) (vec_capacity r.outputs)
         × TakesMore r.left (vec_len r.edges) (vec_capacity r.edges)
         × TakesMore r.left (vec_len r.loads) (vec_capacity r.loads)
-        × TakesMore r.left (vec_len r.ends) (vec_capacity r.ends) };
+        × TakesEnds r.left (steps_of_calls (vec_len r.load_ends) r.inside) (vec_capacity r.load_ends) };
+}
+
+fn ends_path(edge: &SourceEdge) -> bool
+    ensures { result ≡ ends_path edge.now }
+{
+    matches!(edge, SourceEdge::End { .. })
 }
 
 impl Record {
@@ -71,7 +70,7 @@ impl Record {
             outputs: Vec::with_capacity(alloc, room)?,
             edges: Vec::with_capacity(alloc, room)?,
             loads: Vec::with_capacity(alloc, room)?,
-            ends: Vec::with_capacity(alloc, room)?,
+            load_ends: Vec::with_capacity(alloc, room / 2)?,
             left: steps,
         })
     }
@@ -100,8 +99,11 @@ impl Record {
         self.left -= 1;
     }
 
+    /// An edge that doesn't end a path.
+    #[tactic(auto, using(crate::proofs::Ending::edge_ends_nothing))]
     pub fn edge(&mut self, edge: SourceEdge)
-        requires { 0 < self.old.left }
+        requires room { 0 < self.old.left }
+        requires goes_on { ends_path edge ≡ false }
         ensures recorded { self.new.recorded ≡ edge_added self.old.recorded edge }
         ensures left { self.new.left + 1 ≡ self.old.left }
     {
@@ -112,35 +114,39 @@ impl Record {
     }
 
     /// A call, and the number of the operation that is called, if it is one.
+    #[tactic(auto, using(crate::proofs::Ending::edge_ends_nothing))]
     pub fn call(&mut self, edge: SourceEdge, entered: Option<u16>)
-        requires { 0 < self.old.left }
+        requires room { 0 < self.old.left }
+        requires goes_on { ends_path edge ≡ false }
         ensures recorded { self.new.recorded ≡ call_added self.old.recorded edge entered }
         ensures left { self.new.left + 1 ≡ self.old.left }
     {
-        self.edge(edge);
-        if let Some(op) = entered {
-            self.inside = self.inside || op == self.op;
+        if self.inside {
+            self.edges.push_reserved(edge);
+        } else if let Some(op) = entered {
+            self.inside = op == self.op;
         }
+        self.left -= 1;
     }
 
     // The operation's call has completed.
+    #[tactic(auto, using(crate::proofs::Ending::end_ends_path))]
     fn complete(&mut self)
-        requires { 0 < self.old.left }
+        requires room { 0 < self.old.left }
+        requires inside { self.old.recorded.inside ≡ true }
         ensures recorded { self.new.recorded ≡ completed self.old.recorded }
         ensures left { self.new.left + 1 ≡ self.old.left }
     {
         self.edges.push_reserved(SourceEdge::End { op: self.op });
-        self.ends.push_reserved(CallEnd {
-            edges: self.edges.len() as u32,
-            loads: self.loads.len() as u32,
-        });
+        self.load_ends.push_reserved(self.loads.len() as u32);
         self.inside = false;
         self.left -= 1;
     }
 
     /// A return, and the number of the operation that is left, if it is one.
     pub fn ret(&mut self, edge: SourceEdge, left: Option<u16>)
-        requires { 0 < self.old.left }
+        requires room { 0 < self.old.left }
+        requires goes_on { ends_path edge ≡ false }
         ensures recorded { self.new.recorded ≡ return_added self.old.recorded edge left }
         ensures left { self.new.left + 1 ≡ self.old.left }
     {
@@ -172,28 +178,40 @@ impl Record {
 
     /// How many calls have completed.
     pub fn calls(&self) -> u32
-        ensures { result ≡ length self.now.recorded.ends }
+        ensures { result ≡ length self.now.recorded.load_ends }
     {
-        self.ends.len() as u32
+        self.load_ends.len() as u32
     }
 
-    /// Where a call ends that has completed.
-    pub fn end_of_call(&self, call: u32) -> CallEnd
-        ensures { result ≡ end_of_call self.now.recorded call }
+    /// Where the paths of the first so many calls end.
+    pub fn path_end(&self, calls: usize) -> usize
+        ensures { result ≡ calls_end self.now.recorded.path_ends calls }
     {
-        match self.ends.as_slice().get(call as usize) {
-            Some(end) => *end,
-            None => NO_CALL,
+        if calls == 0 {
+            return 0;
         }
+        let mut due = calls;
+        for (place, edge) in self.edges.as_slice().iter().enumerate() {
+            if ends_path(edge) {
+                if due == 1 {
+                    return place + 1;
+                }
+                due -= 1;
+            }
+        }
+        0
     }
 
-    /// Where the calls before a call end.
-    pub fn end_before_call(&self, call: u32) -> CallEnd
-        ensures { result ≡ end_before_call self.now.recorded call }
+    /// Where the loads of the first so many calls end.
+    pub fn load_end(&self, calls: usize) -> usize
+        ensures { result ≡ calls_end self.now.recorded.load_ends calls }
     {
-        if call == 0 {
-            return NO_CALL;
+        if calls == 0 {
+            return 0;
         }
-        self.end_of_call(call - 1)
+        match self.load_ends.as_slice().get(calls - 1) {
+            Some(end) => *end as usize,
+            None => 0,
+        }
     }
 }

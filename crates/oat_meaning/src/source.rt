@@ -15,12 +15,12 @@ use oat_ir::{CriticalLoad, SourceEdge, SourceEnd};
 use std::alloc::{AllocError, Global};
 use std::marker::Model;
 
-fn part<T>(items: &[T], start: u32, end: u32) -> &[T]
+fn part<T>(items: &[T], start: usize, end: usize) -> &[T]
     requires ordered { start ≤ end }
     requires inside { end ≤ length items.now }
     ensures { result.now ≡ slice_range items.now start end }
 {
-    &items[start as usize..end as usize]
+    &items[start..end]
 }
 
 /// A program on its way through its run on some inputs, with what that shows of the calls of one operation.
@@ -145,10 +145,11 @@ impl<'a> Source<'a> {
         ensures { result.now ≡ path_so_far self.now call }
     {
         let kept = &self.interpreter.kept;
+        let before = call as usize;
         part(
             kept.edges(),
-            kept.end_before_call(call).edges,
-            kept.end_of_call(call).edges,
+            kept.path_end(before),
+            kept.path_end(before + 1),
         )
     }
 
@@ -158,10 +159,11 @@ impl<'a> Source<'a> {
         ensures { result.now ≡ loads_so_far self.now call }
     {
         let kept = &self.interpreter.kept;
+        let before = call as usize;
         part(
             kept.loads(),
-            kept.end_before_call(call).loads,
-            kept.end_of_call(call).loads,
+            kept.load_end(before),
+            kept.load_end(before + 1),
         )
     }
 }

@@ -1,31 +1,21 @@
-use Rattle.std.proofs.Common.{◌<◌, ◌∙◌, ap, subst, sym, length, arith}
-use Rattle.std.specs.List.{slice_range}
-use Rattle.oat_meaning.specs.declared.record.CallEnd.{CallEnd}
+use Rattle.std.proofs.Common.{◌<◌, ◌∙◌, ap, subst, sym}
 use Rattle.oat_meaning.specs.SourceRun.{SourceRun, calls_so_far, path_so_far}
+use Rattle.oat_meaning.proofs.CallItems.{part_at}
 use Rattle.oat_meaning.proofs.Told.{path_told}
 use Rattle.oat_meaning.proofs.source.Source.path_of.Goals as goal
 
 pub part-requires-clause-ordered : goal.part-requires-clause-ordered
 part-requires-clause-ordered c =
     let low = subst (λ (run : SourceRun). c.args.call < calls_so_far run) (sym c.self.view_is) c.requires in
-    let told = path_told c.self.inside.interpreter _ c.self.invariant c.args.call low in
-    let ordered = told.ordered in
-    let start = ap (λ (e : CallEnd). e.edges) c.end_before_call.ensures in
-    let end = ap (λ (e : CallEnd). e.edges) c.end_of_call.ensures in
-    omega (arith, ordered, start, end)
+    (part_at _ _ _ _ _ _ _ (path_told c.self.inside.interpreter _ c.self.invariant c.args.call low) c.edges.ensures c.path_end.ensures c.path_end-2.ensures).ordered
 
 pub part-requires-clause-inside : goal.part-requires-clause-inside
 part-requires-clause-inside c =
     let low = subst (λ (run : SourceRun). c.args.call < calls_so_far run) (sym c.self.view_is) c.requires in
-    let told = path_told c.self.inside.interpreter _ c.self.invariant c.args.call low in
-    let inside = told.inside in
-    let all = ap length c.edges.ensures in
-    let end = ap (λ (e : CallEnd). e.edges) c.end_of_call.ensures in
-    omega (arith, inside, all, end)
+    (part_at _ _ _ _ _ _ _ (path_told c.self.inside.interpreter _ c.self.invariant c.args.call low) c.edges.ensures c.path_end.ensures c.path_end-2.ensures).inside
 
 pub returns : goal.returns
 returns c =
     let low = subst (λ (run : SourceRun). c.args.call < calls_so_far run) (sym c.self.view_is) c.requires in
-    let told = path_told c.self.inside.interpreter _ c.self.invariant c.args.call low in
-    c.part.ensures ∙ (λ i. slice_range (c.edges.ensures i) (c.end_before_call.ensures i).edges (c.end_of_call.ensures i).edges) ∙ told.is
+    c.part.ensures ∙ (part_at _ _ _ _ _ _ _ (path_told c.self.inside.interpreter _ c.self.invariant c.args.call low) c.edges.ensures c.path_end.ensures c.path_end-2.ensures).is
     ∙ ap (λ (run : SourceRun). path_so_far run c.args.call) c.self.view_is
