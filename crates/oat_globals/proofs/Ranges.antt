@@ -1,7 +1,7 @@
 -- Each instruction of the lines has a word.
-use Rattle.std.proofs.Common.{◌≡◌, ◌+◌, ◌%◌, ◌^◌, ◌<◌, ◌≤◌, ℕ, zero, suc, pos, Bool, true, false, cond, ltb, List, [], ◌∷◌, ◌++◌, Option, Some, None, refl, arith}
+use Rattle.std.proofs.Common.{◌≡◌, ◌+◌, ◌%◌, ◌^◌, ◌<◌, ◌≤◌, ℕ, zero, suc, pos, Bool, true, false, cond, ltb, List, [], ◌∷◌, ◌++◌, Option, Some, None, refl, arith, lit<}
 use Rattle.std.proofs.lemmas.Bool.{ltb-true}
-use Rattle.oat_a64.specs.declared.inst.Inst.TheVariants.{AddReg, SubsReg, BCond, Brk, Svc, Movz, Ldr, Str, LdrReg, StrReg}
+use Rattle.oat_a64.specs.declared.inst.Inst.TheVariants.{AddReg, SubsReg, BCond, Svc, Movz, Ldr, Str, LdrReg, StrReg}
 use Rattle.oat_a64.specs.Table.{IsInRange}
 use Rattle.oat_mem.specs.DataMemory.{global_address}
 use Rattle.oat_asm.specs.declared.item.Item.{Item}
@@ -15,35 +15,32 @@ use Rattle.oat_globals.specs.Sizes.{GlobalLinesAreInRange}
 
 -- ---- single instructions
 
-loads_in : (r rn k : ℕ) → r < 32 → rn < 32 → k < 4096 → IsInRange (Ldr r rn k)
-loads_in r rn k a b c = (omega arith, (omega arith, (omega arith, tt)))
+-- of the slot of a local
+from_slot : (r x : ℕ) → r < 32 → x < 255 → IsInRange (Ldr r 31 (x + 1))
+from_slot r x a b = (a, (lit< tt, (omega arith, tt)))
 
-stores_in : (r rn k : ℕ) → r < 32 → rn < 32 → k < 4096 → IsInRange (Str r rn k)
-stores_in r rn k a b c = (omega arith, (omega arith, (omega arith, tt)))
+into_slot : (r x : ℕ) → r < 32 → x < 255 → IsInRange (Str r 31 (x + 1))
+into_slot r x a b = (a, (lit< tt, (omega arith, tt)))
 
+-- of a number of 16 bits
 movz_in : (r v : ℕ) → r < 32 → v < 2 ^ 16 → IsInRange (Movz r 0 v)
 movz_in r v a b = (omega arith, (omega arith, (omega arith, tt)))
 
-svc_in : (n : ℕ) → n < 2 ^ 16 → IsInRange (Svc n)
-svc_in n a = (omega arith, tt)
-
+-- and others
 subs_in : IsInRange (SubsReg 31 12 11)
-subs_in = (omega arith, (omega arith, (omega arith, tt)))
-
-add_in : (r s rm amount : ℕ) → r < 32 → s < 32 → rm < 32 → amount < 64 → IsInRange (AddReg r s rm amount)
-add_in r s rm amount a b c d = (omega arith, (omega arith, (omega arith, (omega arith, tt))))
+subs_in = (lit< tt, (lit< tt, (lit< tt, tt)))
 
 skip_in : IsInRange (BCond 3 (pos 2))
 skip_in = (refl, (omega arith, tt))
 
-brk_in : IsInRange (Brk 2)
-brk_in = (omega arith, tt)
+read_in : IsInRange (Ldr 9 11 0)
+read_in = (lit< tt, (lit< tt, (lit< tt, tt)))
 
-load_element_in : IsInRange (LdrReg 10 11 12)
-load_element_in = (omega arith, (omega arith, (omega arith, tt)))
+write_in : IsInRange (Str 9 11 0)
+write_in = (lit< tt, (lit< tt, (lit< tt, tt)))
 
-store_element_in : IsInRange (StrReg 10 11 12)
-store_element_in = (omega arith, (omega arith, (omega arith, tt)))
+cell_in : IsInRange (AddReg 9 9 12 0)
+cell_in = (lit< tt, (lit< tt, (lit< tt, (lit< tt, tt))))
 
 -- ---- parts of lines
 
@@ -54,29 +51,17 @@ address_in : (g : ℕ) (is : List Item) → g < 65536 → AreItemsInRange is →
 address_in g is small rest = number_in (global_address g) is (omega arith) rest
 
 index_in : (is : List Item) → AreItemsInRange is → AreItemsInRange (index_test ++ is)
-index_in is rest = (subs_in, (tt, (skip_in, (brk_in, rest))))
+index_in is rest = (subs_in, (tt, (skip_in, ((lit< tt, tt), rest))))
 
 test_in : (len : ℕ) (is : List Item) → len < 2 ^ 16 → AreItemsInRange is → AreItemsInRange (element_test len ++ is)
-test_in len is a rest = (movz_in 11 len (omega arith) a, (subs_in, (skip_in, (brk_in, rest))))
-
-from_slot : (r x : ℕ) → r < 32 → x < 255 → IsInRange (Ldr r 31 (x + 1))
-from_slot r x a b = loads_in r 31 (x + 1) a (omega arith) (omega arith)
-
-into_slot : (r x : ℕ) → r < 32 → x < 255 → IsInRange (Str r 31 (x + 1))
-into_slot r x a b = stores_in r 31 (x + 1) a (omega arith) (omega arith)
+test_in len is a rest = (movz_in 11 len (lit< tt) a, (subs_in, (skip_in, ((lit< tt, tt), rest))))
 
 element_in : (base len i : ℕ) (is : List Item) → base < 65536 → len ≤ 65536 → i < 255 → AreItemsInRange is → AreItemsInRange (element_code base len i ++ is)
 element_in base len i is a b c rest = (
-  from_slot 12 i (omega arith) c,
+  from_slot 12 i (lit< tt) c,
   number_in len (index_test ++ address_code base ++ item.Inst (AddReg 11 11 12 3) ∷ is) (omega arith)
-      (index_in (address_code base ++ item.Inst (AddReg 11 11 12 3) ∷ is) (address_in base (item.Inst (AddReg 11 11 12 3) ∷ is) a (add_in 11 11 12 3 (omega arith) (omega arith) (omega arith) (omega arith), rest))),
+      (index_in (address_code base ++ item.Inst (AddReg 11 11 12 3) ∷ is) (address_in base (item.Inst (AddReg 11 11 12 3) ∷ is) a ((lit< tt, (lit< tt, (lit< tt, (lit< tt, tt)))), rest))),
 )
-
-read_in : IsInRange (Ldr 9 11 0)
-read_in = loads_in 9 11 0 (omega arith) (omega arith) (omega arith)
-
-write_in : IsInRange (Str 9 11 0)
-write_in = stores_in 9 11 0 (omega arith) (omega arith) (omega arith)
 
 -- ---- functions
 
@@ -89,58 +74,52 @@ source_register params from few = by (ltb from params) refl where
 stores_fit : (params from n : ℕ) (is : List Item) → params ≤ 4 → from + n ≤ 255 → AreItemsInRange is → AreItemsInRange (local_stores params from n ++ is)
 stores_fit params from zero is few small rest = rest
 stores_fit params from (suc n) is few small rest =
-    (stores_in (cond (ltb from params) from 31) 31 (from + 1) (source_register params from few) (omega arith) (omega arith), stores_fit params (from + 1) n is few (omega arith) rest)
+    (into_slot (cond (ltb from params) from 31) from (source_register params from few) (omega arith), stores_fit params (from + 1) n is few (omega arith) rest)
 
 begin_in : (op : Option ℕ) → HasShortNumber op → AreItemsInRange (begin_code op)
 begin_in None short = tt
-begin_in (Some op) short = (tt, (movz_in 9 op (omega arith) (short op refl), (svc_in 1 (omega arith), tt)))
+begin_in (Some op) short = (tt, (movz_in 9 op (lit< tt) (short op refl), ((lit< tt, tt), tt)))
 
 end_in : (op : Option ℕ) (is : List Item) → HasShortNumber op → AreItemsInRange is → AreItemsInRange (end_code op ++ is)
 end_in None is short rest = rest
-end_in (Some op) is short rest = (tt, (movz_in 9 op (omega arith) (short op refl), (svc_in 2 (omega arith), rest)))
+end_in (Some op) is short rest = (tt, (movz_in 9 op (lit< tt) (short op refl), ((lit< tt, tt), rest)))
 
 -- ---- all
 
-nine : (cell : ℕ) → cell < 2 ^ 16 → IsInRange (Movz 9 0 cell)
-nine cell h = movz_in 9 cell (omega arith) h
-
-sum : IsInRange (AddReg 9 9 12 0)
-sum = add_in 9 9 12 0 (omega arith) (omega arith) (omega arith) (omega arith)
-
 pub global_lines_are_in_range : GlobalLinesAreInRange
 global_lines_are_in_range = record {
-  load = λ x g hx hg. address_in g (item.Inst (Ldr 9 11 0) ∷ slot_store 9 x ∷ []) hg (read_in, (into_slot 9 x (omega arith) hx, tt));
-  store = λ g x hg hx. address_in g (slot_load 9 x ∷ item.Inst (Str 9 11 0) ∷ []) hg (from_slot 9 x (omega arith) hx, (write_in, tt));
-  ref = λ x l hx. (omega arith, (into_slot 9 x (omega arith) hx, tt));
-  loadx = λ x base len i hx hb hl hi. element_in base len i (item.Inst (Ldr 9 11 0) ∷ slot_store 9 x ∷ []) hb hl hi (read_in, (into_slot 9 x (omega arith) hx, tt));
-  storex = λ base len i x hb hl hi hx. element_in base len i (slot_load 9 x ∷ item.Inst (Str 9 11 0) ∷ []) hb hl hi (from_slot 9 x (omega arith) hx, (write_in, tt));
+  load = λ x g hx hg. address_in g (item.Inst (Ldr 9 11 0) ∷ slot_store 9 x ∷ []) hg (read_in, (into_slot 9 x (lit< tt) hx, tt));
+  store = λ g x hg hx. address_in g (slot_load 9 x ∷ item.Inst (Str 9 11 0) ∷ []) hg (from_slot 9 x (lit< tt) hx, (write_in, tt));
+  ref = λ x l hx. (omega arith, (into_slot 9 x (lit< tt) hx, tt));
+  loadx = λ x base len i hx hb hl hi. element_in base len i (item.Inst (Ldr 9 11 0) ∷ slot_store 9 x ∷ []) hb hl hi (read_in, (into_slot 9 x (lit< tt) hx, tt));
+  storex = λ base len i x hb hl hi hx. element_in base len i (slot_load 9 x ∷ item.Inst (Str 9 11 0) ∷ []) hb hl hi (from_slot 9 x (lit< tt) hx, (write_in, tt));
   critical_load = λ x g cell hx hg hc. (
     tt,
     address_in g (item.Inst (Ldr 10 11 0) ∷ item.Inst (Movz 9 0 cell) ∷ item.Inst (Svc 7) ∷ slot_store 10 x ∷ []) hg
-        (loads_in 10 11 0 (omega arith) (omega arith) (omega arith), (nine cell hc, (svc_in 7 (omega arith), (into_slot 10 x (omega arith) hx, tt)))),
+        ((lit< tt, (lit< tt, (lit< tt, tt))), (movz_in 9 cell (lit< tt) hc, ((lit< tt, tt), (into_slot 10 x (lit< tt) hx, tt)))),
   );
   critical_store = λ g cell x hg hc hx. (
-    from_slot 10 x (omega arith) hx,
+    from_slot 10 x (lit< tt) hx,
     (
       tt,
       address_in g (item.Inst (Movz 9 0 cell) ∷ item.Inst (Str 10 11 0) ∷ item.Inst (Svc 6) ∷ []) hg
-          (nine cell hc, (stores_in 10 11 0 (omega arith) (omega arith) (omega arith), (svc_in 6 (omega arith), tt))),
+          (movz_in 9 cell (lit< tt) hc, ((lit< tt, (lit< tt, (lit< tt, tt))), ((lit< tt, tt), tt))),
     ),
   );
   critical_loadx = critical_loadx;
   critical_storex = critical_storex;
-  start = λ params locals op few small short. ((omega arith, (omega arith, (omega arith, tt))), (stores_in 30 31 0 (omega arith) (omega arith) (omega arith), stores_fit params 0 locals (begin_code op) few (omega arith) (begin_in op short)));
+  start = λ params locals op few small short. ((omega arith, (omega arith, (omega arith, tt))), ((lit< tt, (lit< tt, (lit< tt, tt))), stores_fit params 0 locals (begin_code op) few (omega arith) (begin_in op short)));
   leave = λ locals from op small inside short. end_in op (return_code locals from) short (
-    from_slot 0 from (omega arith) inside,
-    (loads_in 30 31 0 (omega arith) (omega arith) (omega arith), ((omega arith, (omega arith, (omega arith, tt))), (tt, (svc_in 5 (omega arith), ((omega arith, tt), tt))))),
+    from_slot 0 from (lit< tt) inside,
+    ((lit< tt, (lit< tt, (lit< tt, tt))), ((omega arith, (omega arith, (omega arith, tt))), (tt, ((lit< tt, tt), ((omega arith, tt), tt))))),
   );
 } where
   critical_loadx : (x base cell len i : ℕ) → x < 255 → base < 65536 → cell < 2 ^ 16 → len < 2 ^ 16 → i < 255 → AreItemsInRange (use_at_code x base cell len i)
   critical_loadx x base cell len i hx hb hc hl hi =
       let uses : List Item = item.Inst (LdrReg 10 11 12) ∷ item.Inst (Movz 9 0 cell) ∷ item.Inst (AddReg 9 9 12 0) ∷ item.Inst (Svc 7) ∷ slot_store 10 x ∷ [] in
-      (from_slot 12 i (omega arith) hi, (tt, test_in len (address_code base ++ uses) hl (address_in base uses hb (load_element_in, (nine cell hc, (sum, (svc_in 7 (omega arith), (into_slot 10 x (omega arith) hx, tt))))))))
+      (from_slot 12 i (lit< tt) hi, (tt, test_in len (address_code base ++ uses) hl (address_in base uses hb ((lit< tt, (lit< tt, (lit< tt, tt))), (movz_in 9 cell (lit< tt) hc, (cell_in, ((lit< tt, tt), (into_slot 10 x (lit< tt) hx, tt))))))))
 
   critical_storex : (base cell len i x : ℕ) → base < 65536 → cell < 2 ^ 16 → len < 2 ^ 16 → i < 255 → x < 255 → AreItemsInRange (define_at_code base cell len i x)
   critical_storex base cell len i x hb hc hl hi hx =
       let defines : List Item = item.Inst (Movz 9 0 cell) ∷ item.Inst (AddReg 9 9 12 0) ∷ item.Inst (StrReg 10 11 12) ∷ item.Inst (Svc 6) ∷ [] in
-      (from_slot 12 i (omega arith) hi, (from_slot 10 x (omega arith) hx, (tt, test_in len (address_code base ++ defines) hl (address_in base defines hb (nine cell hc, (sum, (store_element_in, (svc_in 6 (omega arith), tt))))))))
+      (from_slot 12 i (lit< tt) hi, (from_slot 10 x (lit< tt) hx, (tt, test_in len (address_code base ++ defines) hl (address_in base defines hb (movz_in 9 cell (lit< tt) hc, (cell_in, ((lit< tt, (lit< tt, (lit< tt, tt))), ((lit< tt, tt), tt))))))))
