@@ -47,6 +47,10 @@ pub record IsStored (image : Image) (count g word : ℕ) (shown : List MachineEv
   pub depth : l.machine.regs.x 28 ≡ k.machine.regs.x 28
   pub pc : l.machine.regs.pc ≡ k.machine.regs.pc + 4 * count
 
+pub stored_by : (image : Image) (g word : ℕ) (k : Running) → k.end ≡ None → RunsTo image 1 k (next_moment k (with_slot k.machine (global_address g) word)) []
+    → IsStored image 1 g word [] k (next_moment k (with_slot k.machine (global_address g) word))
+stored_by image g word k going runs = record { runs = runs; going = going; inputs = refl; outputs = refl; memory = refl; sp = refl; depth = refl; pc = refl }
+
 -- one more instruction, which gives a register other than X28 a number
 further : (image : Image) (count bytes rt v : ℕ) (m k : Running) → IsReadied image count bytes [] m.inputs m k → rt < 28 → RunsTo image 1 k (next_moment k (with_x k.machine rt v)) []
     → IsReadied image (count + 1) (bytes + 4) [] m.inputs m (next_moment k (with_x k.machine rt v))
@@ -97,16 +101,8 @@ module _ (w : World) (ok : IsWorld w) where
       → IsStored w.image 1 g (reg k.machine.regs rt) [] k (next_moment k (with_slot k.machine (global_address g) (reg k.machine.regs rt)))
   puts_word k rt g going inside address at =
       let small : g < 65536 = small_word g w.globals inside ok.globals in
-      record {
-        runs = str-at w.image ok.low k rt 11 0 (global_address g) going at (no_more (k.machine.regs.x 11) (global_address g) address) (omega arith) (global-opens g small);
-        going = going;
-        inputs = refl;
-        outputs = refl;
-        memory = refl;
-        sp = refl;
-        depth = refl;
-        pc = refl;
-      }
+      stored_by w.image g (reg k.machine.regs rt) k going
+      (str-at w.image ok.low k rt 11 0 (global_address g) going at (no_more (k.machine.regs.x 11) (global_address g) address) (omega arith) (global-opens g small))
 
 module _ (w : World) (ok : IsWorld w) (f : Frame) (callers : List Frame) (globals : ℕ → ℕ) (m : Running) (r : IsAt w f callers globals m) (slots : IsSlotted w f.func) where
   -- ---- what words stand for

@@ -26,7 +26,7 @@ use Rattle.oat_frames.proofs.FrameLaws.{global-opens, loads-number, number-small
 use Rattle.oat_globals.specs.Code.{address_code, slot_store, use_at_code, define_at_code}
 use Rattle.oat_globals.specs.Elements.{CriticalElementLoadsLead, CriticalElementStoresLead, CriticalElementLoadsTrap, CriticalElementStoresTrap}
 use Rattle.oat_globals.proofs.Showing.{GivesNothing, gives_nothing, movz, svc_shows, admitted, admits, refuses, ends_behind}
-use Rattle.oat_globals.proofs.Accessing.{IsStored, shown_behind, small_word, addressed, addresses, number_word, ends_in_slot, ends_in_word}
+use Rattle.oat_globals.proofs.Accessing.{IsStored, stored_by, shown_behind, small_word, addressed, addresses, number_word, ends_in_slot, ends_in_word}
 use Rattle.oat_globals.proofs.CriticalScalars.{own_word}
 
 -- ---- one access by the address of the first word and the element's number
@@ -55,19 +55,11 @@ module _ (w : World) (ok : IsWorld w) where
       let small : b + v < 65536 = small_word (b + v) w.globals inside ok.globals in
       let l = below w.image ok.low k (StrReg 10 11 12) at in
       let next : Machine = with_slot k.machine a (reg k.machine.regs 10) in
-      record {
-        runs = quietly w.image ok.low k (next_moment k next) (StrReg 10 11 12) going at
-            (ap (λ (b : ℕ). makes k (stores k.machine 10 b)) (element_is b v (k.machine.regs.x 11) (k.machine.regs.x 12) small base index)
-            ∙ ap (λ (t : Bool). makes k (cond t (goes_on next next.regs) (fault k.machine (Access a)))) (global-opens (b + v) small)
-            ∙ next-is k next (omega arith)) going refl;
-        going = going;
-        inputs = refl;
-        outputs = refl;
-        memory = refl;
-        sp = refl;
-        depth = refl;
-        pc = refl;
-      }
+      stored_by w.image (b + v) (reg k.machine.regs 10) k going
+      (quietly w.image ok.low k (next_moment k next) (StrReg 10 11 12) going at
+      (ap (λ (b : ℕ). makes k (stores k.machine 10 b)) (element_is b v (k.machine.regs.x 11) (k.machine.regs.x 12) small base index)
+      ∙ ap (λ (t : Bool). makes k (cond t (goes_on next next.regs) (fault k.machine (Access a)))) (global-opens (b + v) small)
+      ∙ next-is k next (omega arith)) going refl)
 
 -- ---- the test of a group
 
