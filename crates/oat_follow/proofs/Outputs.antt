@@ -5,7 +5,7 @@ use Rattle.std.proofs.lemmas.List.Elements.{filter_map-append}
 use Rattle.oat_a64.specs.declared.event.Event.{Event}
 use Rattle.oat_a64.specs.declared.event.Event.TheVariants as event
 use Rattle.oat_a64.specs.declared.inst.Inst.{Inst}
-use Rattle.oat_a64.specs.declared.inst.Inst.TheVariants.{BCond, Cbz, Cbnz, Ldr, Str, Svc, Brk}
+use Rattle.oat_a64.specs.declared.inst.Inst.TheVariants.{BCond, Cbz, Cbnz, Ldr, Str, LdrReg, StrReg, Svc, Brk}
 use Rattle.oat_a64.specs.Fetch.{inst_of}
 use Rattle.oat_a64.specs.Step.{Machine, Effect, Regs, instruction_at, word_at, decodes, acts, act, step, signed, holds, reg, reg_or_sp, wrap}
 use Rattle.oat_mem.specs.DataMemory.{can_access}
@@ -67,6 +67,8 @@ prints-same (Cbz rt z) m = prints-if (eqb (reg m.regs rt) 0) _ _ (Cbz rt z) m re
 prints-same (Cbnz rt z) m = prints-if (not (eqb (reg m.regs rt) 0)) _ _ (Cbnz rt z) m refl refl
 prints-same (Ldr rt rn imm) m = prints-if (can_access (wrap (reg_or_sp m.regs rn + 8 * imm))) _ _ (Ldr rt rn imm) m refl refl
 prints-same (Str rt rn imm) m = prints-if (can_access (wrap (reg_or_sp m.regs rn + 8 * imm))) _ _ (Str rt rn imm) m refl refl
+prints-same (LdrReg rt rn rm) m = prints-if (can_access (wrap (reg_or_sp m.regs rn + 8 * reg m.regs rm))) _ _ (LdrReg rt rn rm) m refl refl
+prints-same (StrReg rt rn rm) m = prints-if (can_access (wrap (reg_or_sp m.regs rn + 8 * reg m.regs rm))) _ _ (StrReg rt rn rm) m refl refl
 prints-same (Svc number) m = prints-svc number m (leb number 9) refl
 prints-same (Brk number) m = prints-if (leb 1 number && leb number 4) _ _ (Brk number) m refl refl
 prints-same _ m = refl

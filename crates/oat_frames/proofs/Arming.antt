@@ -13,7 +13,8 @@ use Rattle.oat_frames.specs.Code.{CodeStands, argument_loads, depth_tested}
 use Rattle.oat_frames.specs.Frames.{World, IsLow}
 use Rattle.oat_frames.specs.Comes.{EndsWithin}
 use Rattle.oat_frames.specs.Phases.{HasSlots, ArgumentsLoaded, CallCounted}
-use Rattle.oat_frames.specs.Reaching.{RunsTo, inst_makes, next_moment, jumped}
+use Rattle.oat_follow.specs.Reaching.{RunsTo, inst_makes}
+use Rattle.oat_frames.specs.Moments.{next_moment, jumped}
 use Rattle.oat_frames.proofs.Reaching.{thence, counted, kept-on}
 use Rattle.oat_frames.proofs.Runs.{loaded}
 use Rattle.oat_frames.proofs.Registers.{with_x, compared, wrap-is}

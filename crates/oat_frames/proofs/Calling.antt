@@ -9,11 +9,12 @@ use Rattle.oat_map.specs.declared.row.Row.TheVariants as rows
 use Rattle.oat_map.specs.Rows.{row_over}
 use Rattle.oat_journal.specs.Run.{Running}
 use Rattle.oat_frames.specs.Code.{CodeStands, call_code, behind_call}
-use Rattle.oat_frames.specs.Events.{MachineEvent, moves}
+use Rattle.oat_follow.specs.Events.{MachineEvent, moves}
 use Rattle.oat_frames.specs.Frames.{HoldsState, line_address}
 use Rattle.oat_frames.specs.Calls.{CallLaysFrame, CallsLayFrames, CallsLead, DeepCallsTrap}
 use Rattle.oat_frames.specs.Phases.{HasSlots, CallCounted}
-use Rattle.oat_frames.specs.Reaching.{RunsTo, jumped}
+use Rattle.oat_follow.specs.Reaching.{RunsTo}
+use Rattle.oat_frames.specs.Moments.{jumped}
 use Rattle.oat_frames.proofs.Reaching.{thence, counted, kept-on}
 use Rattle.oat_frames.proofs.Arming.{armed, too-deep}
 use Rattle.oat_frames.proofs.Entering.{Enters, behind-test, returns-behind, enters, deep, one-more, given-by, at-first}

@@ -15,7 +15,8 @@ use Rattle.oat_frames.specs.Code.{CodeStands, depth_tested, behind_call, prologu
 use Rattle.oat_frames.specs.Frames.{World, IsWorld, Represents, IsAt, HoldsState, CallersAt, IsStackPointer, IsSlotted, ReturnsTo, frame_size}
 use Rattle.oat_frames.specs.Calls.{CallSite, IsFunctionAt, IsBehindPrologue, callee_frame, prologue_end}
 use Rattle.oat_frames.specs.Phases.{CallCounted, FrameLaid, first_value}
-use Rattle.oat_frames.specs.Reaching.{RunsTo, KeepsGoing}
+use Rattle.oat_follow.specs.Reaching.{RunsTo}
+use Rattle.oat_frames.specs.Moments.{KeepsGoing}
 use Rattle.oat_frames.proofs.Arming.{behind-loads}
 use Rattle.oat_frames.proofs.Holding.{slot-of, frame-of, above, globals-stay, word-is, value-is, value-small, zero-value}
 use Rattle.oat_frames.proofs.Opening.{HasRoom, has-room, opened}

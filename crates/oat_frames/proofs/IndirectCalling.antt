@@ -12,11 +12,12 @@ use Rattle.oat_journal.specs.Run.{Running}
 use Rattle.oat_ir.specs.declared.func.Ty.{Ty}
 use Rattle.oat_ir.specs.declared.func.Ty.TheVariants.{Fn}
 use Rattle.oat_frames.specs.Code.{CodeStands, icall_code, behind_call}
-use Rattle.oat_frames.specs.Events.{MachineEvent, moves}
+use Rattle.oat_follow.specs.Events.{MachineEvent, moves}
 use Rattle.oat_frames.specs.Frames.{World, Represents, HoldsState, line_address}
 use Rattle.oat_frames.specs.Calls.{CallSite, IsReferencedAt, IndirectCallsLead, NullCallsTrap}
 use Rattle.oat_frames.specs.Phases.{HasSlots, CallCounted}
-use Rattle.oat_frames.specs.Reaching.{RunsTo, inst_makes, next_moment, jumped}
+use Rattle.oat_follow.specs.Reaching.{RunsTo, inst_makes}
+use Rattle.oat_frames.specs.Moments.{next_moment, jumped}
 use Rattle.oat_frames.proofs.Reaching.{thence}
 use Rattle.oat_frames.proofs.Arming.{armed}
 use Rattle.oat_frames.proofs.Entering.{Enters, behind-test, returns-behind, enters, deep, one-more, given-by, at-first}

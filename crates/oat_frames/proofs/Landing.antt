@@ -10,13 +10,14 @@ use Rattle.oat_journal.specs.Run.{Running}
 use Rattle.oat_ir.specs.declared.func.Ty.{Ty}
 use Rattle.oat_ir.specs.declared.func.Ty.TheVariants.{I64}
 use Rattle.oat_check.specs.Steps.{Frame, assigned}
-use Rattle.oat_frames.specs.Events.{MachineEvent}
+use Rattle.oat_follow.specs.Events.{MachineEvent}
 use Rattle.oat_frames.specs.Frames.{World, IsWorld, Represents, IsSlotted, HoldsState, IsAt, line_address}
 use Rattle.oat_frames.specs.Comes.{ComesTo, with_result}
 use Rattle.oat_frames.specs.Lines.{IsNumberLocal}
 use Rattle.oat_frames.specs.Phases.{HasSlots}
 use Rattle.oat_frames.specs.Readied.{IsReadied}
-use Rattle.oat_frames.specs.Reaching.{RunsTo, next_moment}
+use Rattle.oat_follow.specs.Reaching.{RunsTo}
+use Rattle.oat_frames.specs.Moments.{next_moment}
 use Rattle.oat_frames.proofs.Reaching.{thence}
 use Rattle.oat_frames.proofs.Registers.{with_x, with_slot}
 use Rattle.oat_frames.proofs.Holding.{opens, slot-of, frame-of, puts-local}

@@ -7,9 +7,10 @@ use Rattle.oat_map.specs.declared.trap.TrapKind.TheVariants.{Depth, NullCall}
 use Rattle.oat_journal.specs.declared.end.DeviceEnd.TheVariants as ends
 use Rattle.oat_shape.specs.Groups.{Stands}
 use Rattle.oat_journal.specs.Run.{Running}
-use Rattle.oat_frames.specs.Events.{prints}
+use Rattle.oat_follow.specs.Events.{prints}
 use Rattle.oat_frames.specs.Frames.{IsLow}
-use Rattle.oat_frames.specs.Reaching.{RunsTo, inst_makes, next_moment}
+use Rattle.oat_follow.specs.Reaching.{RunsTo, inst_makes}
+use Rattle.oat_frames.specs.Moments.{next_moment}
 use Rattle.oat_frames.proofs.Reaching.{goes-as, stops}
 use Rattle.oat_a64.specs.Step.{signed, unsigned}
 use Rattle.oat_journal.specs.Run.{with_input, with_output}

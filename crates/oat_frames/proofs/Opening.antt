@@ -6,7 +6,8 @@ use Rattle.oat_journal.specs.Run.{Running}
 use Rattle.oat_frames.specs.Code.{CodeStands, prologue}
 use Rattle.oat_frames.specs.Frames.{World, IsLow, IsStackPointer, frame_size}
 use Rattle.oat_frames.specs.Phases.{HasSlots, LocalsStored, FrameLaid}
-use Rattle.oat_frames.specs.Reaching.{RunsTo, next_moment}
+use Rattle.oat_follow.specs.Reaching.{RunsTo}
+use Rattle.oat_frames.specs.Moments.{next_moment}
 use Rattle.oat_frames.proofs.Reaching.{thence, counted, kept-on}
 use Rattle.oat_frames.proofs.Runs.{filled}
 use Rattle.oat_frames.proofs.Slots.{IsFrameSize, frame-size-is, slot-opens, slot-small}

@@ -1,63 +1,16 @@
--- One instruction, and some behind others.
-use Rattle.std.proofs.Common.{◌≡◌, ◌+◌, ℕ, List, [], ◌++◌, Option, Some, None, refl, ap, subst, ◌∙◌}
+-- One instruction told in other words, and some behind others.
+use Rattle.std.proofs.Common.{◌≡◌, ℕ, List, [], Some, None, ap, subst, ◌∙◌}
 use Rattle.std.specs.List.{cons_option}
-use Rattle.std.proofs.lemmas.List.Elements.{filter_map-append}
 use Rattle.oat_a64.specs.declared.inst.Inst.{Inst}
 use Rattle.oat_a64.specs.Step.{instruction_at}
 use Rattle.oat_image.specs.declared.image.Image.{Image}
-use Rattle.oat_journal.specs.declared.end.DeviceEnd.{DeviceEnd}
-use Rattle.oat_journal.specs.Run.{Running, Entry, found, entry, made_entry, from_entry, turn, turns, journal_from}
-use Rattle.oat_journal.specs.TurnLaws.{AddsUp, MakesOne}
-use Rattle.oat_journal.proofs.RunLaws.{one_turn, turns_add}
-use Rattle.oat_frames.specs.Events.{MachineEvent, told_at, events_of}
-use Rattle.oat_frames.specs.Reaching.{RunsTo, KeepsGoing, inst_makes, inst_entry, run_on, shown_on}
+use Rattle.oat_journal.specs.Run.{Running, found}
+use Rattle.oat_follow.specs.Events.{MachineEvent, told_at}
+use Rattle.oat_follow.specs.Reaching.{RunsTo, inst_makes}
+use Rattle.oat_frames.specs.Moments.{KeepsGoing}
+pub use Rattle.oat_follow.proofs.FollowLaws.{instructions_lead as goes, last_instructions_lead as stops, none_lead as still, instructions_follow as thence}
 
-shown-adds : (image : Image) (a b : ℕ) (m : Running) → shown_on image (a + b) m ≡ shown_on image a m ++ shown_on image b (run_on image a m)
-shown-adds image a b m =
-    let adds : AddsUp image.code [] a b m = turns_add image.code [] a b m in
-    ap (events_of image.map) adds.journal ∙ filter_map-append (told_at image.map) (journal_from image.code [] a m) (journal_from image.code [] b (run_on image a m))
-
-one-entry : (code : List ℕ) (m : Running) (o : Option Entry) → entry code [] m ≡ o → journal_from code [] 1 m ≡ from_entry o []
-unfolding journal_from
-one-entry code m o is = ap (λ (e : Option Entry). from_entry e []) is
-
-just-one : (code : List ℕ) (m : Running) → turns code [] 1 m ≡ turn code [] m
-unfolding turns
-just-one code m = refl
-
--- an instruction that doesn't end the run
-pub goes : (image : Image) (m : Running) (i : Inst) → m.end ≡ None → instruction_at image.code m.machine.regs.pc ≡ Some i → (inst_makes m i).end ≡ None
-    → RunsTo image 1 m (inst_makes m i) (cons_option (told_at image.map (inst_entry m i)) [])
-goes image m i going at on =
-    let one : MakesOne image.code [] m i = one_turn image.code [] m i going at in
-    let noted : entry image.code [] m ≡ Some (inst_entry m i) =
-    one.noted (ap (λ (r : Running). r.end) one.next ∙ on) ∙ ap (λ (r : Running). Some (record { inst = i; found = found [] m; left = r.machine.regs })) one.next in
-    record { run = just-one image.code m ∙ one.next; told = ap (events_of image.map) (one-entry image.code m (Some (inst_entry m i)) noted) }
-
--- an instruction that ends the run
-pub stops : (image : Image) (m : Running) (i : Inst) (why : DeviceEnd) → m.end ≡ None → instruction_at image.code m.machine.regs.pc ≡ Some i → (inst_makes m i).end ≡ Some why
-    → RunsTo image 1 m (inst_makes m i) []
-stops image m i why going at off =
-    let one : MakesOne image.code [] m i = one_turn image.code [] m i going at in
-    let ends : (turn image.code [] m).end ≡ Some why = ap (λ (r : Running). r.end) one.next ∙ off in
-    let none : entry image.code [] m ≡ None =
-    ap (λ (o : Option Inst). made_entry o (found [] m) (turn image.code [] m).end (turn image.code [] m)) at ∙ ap (λ (e : Option DeviceEnd). made_entry (Some i) (found [] m) e (turn image.code [] m)) ends in
-    record { run = just-one image.code m ∙ one.next; told = ap (events_of image.map) (one-entry image.code m None none) }
-
-pub still : (image : Image) (m : Running) → RunsTo image 0 m m []
-unfolding turns journal_from
-still image m = record { run = refl; told = refl }
-
-pub thence : (image : Image) (a b : ℕ) (m k l : Running) (xs ys : List MachineEvent) → RunsTo image a m k xs → RunsTo image b k l ys → RunsTo image (a + b) m l (xs ++ ys)
-thence image a b m k l xs ys first second =
-    let adds : AddsUp image.code [] a b m = turns_add image.code [] a b m in
-    record {
-      run = adds.run ∙ ap (λ (r : Running). run_on image b r) first.run ∙ second.run;
-      told = shown-adds image a b m ∙ ap (λ (es : List MachineEvent). es ++ shown_on image b (run_on image a m)) first.told
-          ∙ ap (λ (r : Running). xs ++ shown_on image b r) first.run ∙ ap (λ (es : List MachineEvent). xs ++ es) second.told;
-    }
-
--- the same, where what the instruction leaves is told in other words
+-- an instruction that goes on, where what the instruction leaves is told in other words
 pub goes-as : (image : Image) (m k : Running) (i : Inst) → m.end ≡ None → instruction_at image.code m.machine.regs.pc ≡ Some i → inst_makes m i ≡ k → k.end ≡ None
     → RunsTo image 1 m k (cons_option (told_at image.map (record { inst = i; found = found [] m; left = k.machine.regs })) [])
 goes-as image m k i going at is on =

@@ -5,7 +5,7 @@ use Rattle.std.proofs.lemmas.Bool.{lt-ltb}
 use Rattle.oat_a64.specs.Step.{Machine, goes_on, set, with_reg, with_flags, wrap, difference}
 use Rattle.oat_mem.specs.DataMemory.{with_word}
 use Rattle.oat_journal.specs.Run.{Running, makes}
-use Rattle.oat_frames.specs.Reaching.{next_moment}
+use Rattle.oat_frames.specs.Moments.{next_moment}
 
 -- ---- numbers
 

@@ -10,13 +10,14 @@ use Rattle.oat_shape.specs.Groups.{Stands}
 use Rattle.oat_journal.specs.Run.{Running}
 use Rattle.oat_map.specs.Rows.{row_over, is_returned_to}
 use Rattle.oat_frames.specs.Code.{CodeStands, return_code}
-use Rattle.oat_frames.specs.Events.{MachineEvent, moves}
+use Rattle.oat_follow.specs.Events.{MachineEvent, moves}
 use Rattle.oat_ir.specs.declared.func.Ty.{Ty}
 use Rattle.oat_check.specs.Steps.{Frame}
 use Rattle.oat_frames.specs.Frames.{line_address, Represents, HoldsState, ReturnsTo, return_address, frame_size}
 use Rattle.oat_frames.specs.Returns.{ReturnComesBack, ReturnsComeBack, ReturnsLead}
 use Rattle.oat_frames.specs.Phases.{HasSlots}
-use Rattle.oat_frames.specs.Reaching.{RunsTo, next_moment, jumped}
+use Rattle.oat_follow.specs.Reaching.{RunsTo}
+use Rattle.oat_frames.specs.Moments.{next_moment, jumped}
 use Rattle.oat_frames.proofs.Reaching.{thence}
 use Rattle.oat_frames.proofs.Holding.{opens, slot-of, puts-local, popped}
 use Rattle.oat_frames.proofs.Slots.{slot-opens, slot-small}

@@ -8,7 +8,7 @@ use Rattle.oat_journal.specs.Run.{Running}
 use Rattle.oat_frames.specs.Code.{CodeStands, argument_loads, local_stores}
 use Rattle.oat_frames.specs.Frames.{World, IsLow}
 use Rattle.oat_frames.specs.Phases.{HasSlots, ArgumentsLoaded, LocalsStored, first_value}
-use Rattle.oat_frames.specs.Reaching.{next_moment}
+use Rattle.oat_frames.specs.Moments.{next_moment}
 use Rattle.oat_frames.proofs.Reaching.{still, thence, counted, kept-on}
 use Rattle.oat_frames.proofs.Slots.{slot-opens, slot-small}
 use Rattle.oat_frames.proofs.Registers.{with_x, with_slot, set-same, set-other}

@@ -10,9 +10,10 @@ use Rattle.oat_image.specs.declared.image.Image.{Image}
 use Rattle.oat_mem.specs.DataMemory.{can_access, word_in}
 use Rattle.oat_shape.specs.Groups.{Stands}
 use Rattle.oat_journal.specs.Run.{Running, makes}
-use Rattle.oat_frames.specs.Events.{MachineEvent, told_by}
+use Rattle.oat_follow.specs.Events.{MachineEvent, told_by}
 use Rattle.oat_frames.specs.Frames.{IsLow}
-use Rattle.oat_frames.specs.Reaching.{RunsTo, inst_makes, next_moment}
+use Rattle.oat_follow.specs.Reaching.{RunsTo, inst_makes}
+use Rattle.oat_frames.specs.Moments.{next_moment}
 use Rattle.oat_frames.proofs.Reaching.{goes-as, thence}
 use Rattle.oat_frames.proofs.Registers.{wrap-is, difference-is, set-31, set-same, set-twice, with_x, with_sp, with_slot, compared, next-is}
 

@@ -12,9 +12,10 @@ use Rattle.oat_shape.specs.Groups.{Stands}
 use Rattle.oat_journal.specs.Run.{Running, makes}
 use Rattle.oat_map.specs.Rows.{row_over, is_returned_to, is_called_at}
 use Rattle.oat_journal.specs.Window.{edge_over}
-use Rattle.oat_frames.specs.Events.{moves}
+use Rattle.oat_follow.specs.Events.{moves}
 use Rattle.oat_frames.specs.Frames.{IsLow}
-use Rattle.oat_frames.specs.Reaching.{RunsTo, next_moment, jumped}
+use Rattle.oat_follow.specs.Reaching.{RunsTo}
+use Rattle.oat_frames.specs.Moments.{next_moment, jumped}
 use Rattle.oat_frames.proofs.Reaching.{goes-as}
 use Rattle.oat_map.specs.declared.edge.Edge.{Edge}
 use Rattle.oat_a64.specs.declared.inst.Inst.TheVariants.{B}

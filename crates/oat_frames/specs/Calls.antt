@@ -8,8 +8,9 @@ use Rattle.oat_journal.specs.declared.end.DeviceEnd.TheVariants as ends
 use Rattle.oat_journal.specs.Run.{Running}
 use Rattle.oat_ir.specs.declared.func.Ty.TheVariants.{I64, Fn}
 use Rattle.oat_check.specs.Steps.{Frame}
-use Rattle.oat_frames.specs.Events.{MachineEvent, moves}
-use Rattle.oat_frames.specs.Reaching.{RunsTo, KeepsGoing}
+use Rattle.oat_follow.specs.Events.{MachineEvent, moves}
+use Rattle.oat_follow.specs.Reaching.{RunsTo}
+use Rattle.oat_frames.specs.Moments.{KeepsGoing}
 use Rattle.oat_frames.specs.Frames.{World, IsWorld, IsSlotted, IsAt, HoldsState, line_address}
 use Rattle.oat_frames.specs.Comes.{StepsTo, EndsWithin}
 use Rattle.oat_frames.specs.Code.{CodeStands, call_code, icall_code, prologue}

@@ -1,5 +1,4 @@
-pub mod Events
-pub mod Reaching
+pub mod Moments
 pub mod Frames
 pub mod Comes
 pub mod Code

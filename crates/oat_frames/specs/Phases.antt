@@ -3,7 +3,8 @@ use Rattle.std.specs.Prelude.{◌≡◌, ◌+◌, ◌*◌, ◌%◌, ◌<◌, ◌
 use Rattle.oat_image.specs.declared.image.Image.{Image}
 use Rattle.oat_mem.specs.DataMemory.{word_in}
 use Rattle.oat_journal.specs.Run.{Running}
-use Rattle.oat_frames.specs.Reaching.{RunsTo, KeepsGoing}
+use Rattle.oat_follow.specs.Reaching.{RunsTo}
+use Rattle.oat_frames.specs.Moments.{KeepsGoing}
 
 -- n slots from a stack pointer on can be read and written
 pub record HasSlots (sp n : ℕ) : Type 0 where

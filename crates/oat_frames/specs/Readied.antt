@@ -2,8 +2,8 @@
 use Rattle.std.specs.Prelude.{◌≡◌, ◌+◌, ℕ, ℤ, List, None}
 use Rattle.oat_image.specs.declared.image.Image.{Image}
 use Rattle.oat_journal.specs.Run.{Running}
-use Rattle.oat_frames.specs.Events.{MachineEvent}
-use Rattle.oat_frames.specs.Reaching.{RunsTo}
+use Rattle.oat_follow.specs.Events.{MachineEvent}
+use Rattle.oat_follow.specs.Reaching.{RunsTo}
 
 pub record IsReadied (image : Image) (count bytes : ℕ) (es : List MachineEvent) (asked : List ℤ) (m k : Running) : Type 0 where
   pub runs : RunsTo image count m k es

@@ -3,8 +3,9 @@ use Rattle.std.specs.Prelude.{◌≡◌, ◌+◌, ◌<◌, ℕ, ℤ, List, [], �
 use Rattle.oat_map.specs.declared.edge.Edge.TheVariants as edges
 use Rattle.oat_journal.specs.Run.{Running, started, start_memory}
 use Rattle.oat_check.specs.Steps.{Frame}
-use Rattle.oat_frames.specs.Events.{MachineEvent, moves}
-use Rattle.oat_frames.specs.Reaching.{RunsTo, KeepsGoing}
+use Rattle.oat_follow.specs.Events.{MachineEvent, moves}
+use Rattle.oat_follow.specs.Reaching.{RunsTo}
+use Rattle.oat_frames.specs.Moments.{KeepsGoing}
 use Rattle.oat_frames.specs.Frames.{World, IsWorld, IsSlotted, IsAt, HoldsState, GlobalsAt, line_address, return_address}
 use Rattle.oat_frames.specs.Comes.{StepsTo, with_result}
 use Rattle.oat_frames.specs.Calls.{prologue_end}

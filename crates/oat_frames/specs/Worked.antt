@@ -5,10 +5,10 @@ use Rattle.oat_map.specs.declared.map.Map.{Map}
 use Rattle.oat_map.specs.declared.edge.Edge.TheVariants as edges
 use Rattle.oat_map.specs.declared.row.Row.TheVariants as rows
 use Rattle.oat_journal.specs.Run.{Running, started}
-use Rattle.oat_frames.specs.Events.{moves}
+use Rattle.oat_follow.specs.Events.{moves}
 use Rattle.oat_ir.specs.declared.func.Ty.TheVariants.{I64}
 use Rattle.oat_frames.specs.Frames.{World, slot, IsAt}
-use Rattle.oat_frames.specs.Reaching.{RunsTo}
+use Rattle.oat_follow.specs.Reaching.{RunsTo}
 
 abbrev pub one_call_map : Map
 one_call_map = record {

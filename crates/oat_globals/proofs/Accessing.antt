@@ -10,13 +10,14 @@ use Rattle.oat_ir.specs.declared.func.Ty.{Ty}
 use Rattle.oat_ir.specs.declared.func.Ty.TheVariants.{I64}
 use Rattle.oat_check.specs.Steps.{Frame, assigned}
 use Rattle.oat_journal.specs.Run.{Running}
-use Rattle.oat_frames.specs.Events.{MachineEvent}
+use Rattle.oat_follow.specs.Events.{MachineEvent}
 use Rattle.oat_frames.specs.Frames.{World, IsWorld, Represents, IsSlotted, HoldsState, IsAt, line_address}
 use Rattle.oat_frames.specs.Code.{CodeStands}
 use Rattle.oat_frames.specs.Comes.{StepsTo, with_result}
 use Rattle.oat_frames.specs.Lines.{on_next_line}
 use Rattle.oat_frames.specs.Readied.{IsReadied}
-use Rattle.oat_frames.specs.Reaching.{RunsTo, next_moment}
+use Rattle.oat_follow.specs.Reaching.{RunsTo}
+use Rattle.oat_frames.specs.Moments.{next_moment}
 use Rattle.oat_frames.proofs.Kit.{thence, set-other, with_x, with_slot, ldr, ldr-at, str-at, moves-number}
 use Rattle.oat_frames.proofs.FrameLaws.{slot-of, puts-global, global-opens, can-slot, by-registers, assigns}
 use Rattle.oat_globals.specs.Code.{slot_load, slot_store}

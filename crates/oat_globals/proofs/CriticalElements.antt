@@ -17,10 +17,11 @@ use Rattle.oat_journal.specs.declared.end.DeviceEnd.TheVariants as ends
 use Rattle.oat_journal.specs.Run.{Running, makes}
 use Rattle.oat_frames.specs.Code.{CodeStands}
 use Rattle.oat_frames.specs.Comes.{EndsWithin}
-use Rattle.oat_frames.specs.Events.{MachineEvent, monitors}
+use Rattle.oat_follow.specs.Events.{MachineEvent, monitors}
 use Rattle.oat_frames.specs.Frames.{World, IsWorld, Represents, line_address}
 use Rattle.oat_frames.specs.Readied.{IsReadied}
-use Rattle.oat_frames.specs.Reaching.{RunsTo, next_moment}
+use Rattle.oat_follow.specs.Reaching.{RunsTo}
+use Rattle.oat_frames.specs.Moments.{next_moment}
 use Rattle.oat_frames.proofs.Kit.{thence, with_x, with_slot, sets, quietly, next-is, below}
 use Rattle.oat_frames.proofs.FrameLaws.{global-opens, loads-number, number-small, by-registers}
 use Rattle.oat_globals.specs.Code.{address_code, slot_store, use_at_code, define_at_code}

@@ -6,10 +6,11 @@ use Rattle.oat_measure.specs.declared.call.MonitorCall.TheVariants as svc
 use Rattle.oat_mem.specs.DataMemory.{word_in, global_address}
 use Rattle.oat_journal.specs.Run.{Running}
 use Rattle.oat_frames.specs.Code.{CodeStands}
-use Rattle.oat_frames.specs.Events.{MachineEvent, monitors}
+use Rattle.oat_follow.specs.Events.{MachineEvent, monitors}
 use Rattle.oat_frames.specs.Frames.{World, Represents, line_address}
 use Rattle.oat_frames.specs.Readied.{IsReadied}
-use Rattle.oat_frames.specs.Reaching.{RunsTo, next_moment}
+use Rattle.oat_follow.specs.Reaching.{RunsTo}
+use Rattle.oat_frames.specs.Moments.{next_moment}
 use Rattle.oat_frames.proofs.Kit.{thence, with_x, with_slot}
 use Rattle.oat_frames.proofs.FrameLaws.{loads-number, number-small, by-registers}
 use Rattle.oat_globals.specs.Code.{use_code, define_code}

@@ -14,7 +14,8 @@ use Rattle.oat_frames.specs.Code.{CodeStands}
 use Rattle.oat_frames.specs.Frames.{World, IsWorld, IsSlotted, IsAt, line_address}
 use Rattle.oat_frames.specs.Lines.{IsNumberLocal}
 use Rattle.oat_frames.specs.Readied.{IsReadied}
-use Rattle.oat_frames.specs.Reaching.{RunsTo, next_moment}
+use Rattle.oat_follow.specs.Reaching.{RunsTo}
+use Rattle.oat_frames.specs.Moments.{next_moment}
 use Rattle.oat_frames.proofs.Kit.{thence, with_x, sets, moves-number}
 use Rattle.oat_frames.proofs.FrameLaws.{loads-number, by-registers}
 use Rattle.oat_globals.specs.Code.{element_code, slot_load, slot_store}

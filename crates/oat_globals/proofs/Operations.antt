@@ -7,12 +7,13 @@ use Rattle.oat_measure.specs.declared.call.MonitorCall.TheVariants as svc
 use Rattle.oat_check.specs.Steps.{Frame}
 use Rattle.oat_journal.specs.Run.{Running}
 use Rattle.oat_frames.specs.Code.{CodeStands, prologue, return_code}
-use Rattle.oat_frames.specs.Events.{MachineEvent, monitors}
+use Rattle.oat_follow.specs.Events.{MachineEvent, monitors}
 use Rattle.oat_frames.specs.Frames.{World, IsWorld, IsSlotted, HoldsState, line_address}
 use Rattle.oat_frames.specs.Calls.{CallLaysFrame, callee_frame, call_edge, prologue_end}
 use Rattle.oat_frames.specs.Returns.{ReturnComesBack, return_edge}
 use Rattle.oat_frames.specs.Readied.{IsReadied}
-use Rattle.oat_frames.specs.Reaching.{RunsTo, next_moment}
+use Rattle.oat_follow.specs.Reaching.{RunsTo}
+use Rattle.oat_frames.specs.Moments.{next_moment}
 use Rattle.oat_frames.proofs.Kit.{still, thence, with_x}
 use Rattle.oat_frames.proofs.FrameLaws.{scratched, by-registers, calls-lay-frames, returns-come-back}
 use Rattle.oat_globals.specs.Operations.{begin_code, end_code, leave_code, role_words, begin_shown, end_shown, HasShortNumber, StartsStand, OperationCallsLead, OperationReturnsLead}

@@ -6,7 +6,8 @@ use Rattle.oat_journal.specs.Run.{Running}
 use Rattle.oat_frames.specs.Frames.{World, Represents, line_address}
 use Rattle.oat_frames.specs.Code.{CodeStands}
 use Rattle.oat_frames.specs.Readied.{IsReadied}
-use Rattle.oat_frames.specs.Reaching.{RunsTo, next_moment}
+use Rattle.oat_follow.specs.Reaching.{RunsTo}
+use Rattle.oat_frames.specs.Moments.{next_moment}
 use Rattle.oat_frames.proofs.Kit.{with_x, moves-number}
 use Rattle.oat_frames.proofs.FrameLaws.{by-registers}
 use Rattle.oat_globals.specs.Code.{load_code, store_code, ref_code}

@@ -15,10 +15,11 @@ use Rattle.oat_journal.specs.declared.end.DeviceEnd.{DeviceEnd}
 use Rattle.oat_journal.specs.declared.end.DeviceEnd.TheVariants as ends
 use Rattle.oat_journal.specs.Run.{Running, makes}
 use Rattle.oat_journal.specs.Window.{edge_over}
-use Rattle.oat_frames.specs.Events.{MachineEvent, moves, monitors, told_by}
+use Rattle.oat_follow.specs.Events.{MachineEvent, moves, monitors, told_by}
 use Rattle.oat_frames.specs.Frames.{World, IsLow}
 use Rattle.oat_frames.specs.Comes.{EndsWithin}
-use Rattle.oat_frames.specs.Reaching.{RunsTo, inst_makes, next_moment, jumped}
+use Rattle.oat_follow.specs.Reaching.{RunsTo, inst_makes}
+use Rattle.oat_frames.specs.Moments.{next_moment, jumped}
 use Rattle.oat_frames.proofs.Kit.{goes-as, stops, thence, quietly, next-is, below, with_x, compared, compares, sets, skip-is, pass-is}
 
 -- A transfer at an address gives no edge, whatever follows: in the group of a row that only tests.

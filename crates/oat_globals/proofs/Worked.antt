@@ -5,10 +5,10 @@ use Rattle.oat_check.specs.Steps.{Frame, assigned}
 use Rattle.oat_journal.specs.Run.{Running, started}
 use Rattle.oat_frames.specs.Calls.{CallSite, callee_frame}
 use Rattle.oat_frames.specs.Comes.{StepsTo, with_result}
-use Rattle.oat_frames.specs.Events.{MachineEvent}
+use Rattle.oat_follow.specs.Events.{MachineEvent}
 use Rattle.oat_frames.specs.Frames.{IsAt}
 use Rattle.oat_frames.specs.Lines.{on_next_line}
-use Rattle.oat_frames.specs.Reaching.{RunsTo}
+use Rattle.oat_follow.specs.Reaching.{RunsTo}
 use Rattle.oat_frames.specs.Returns.{main_frame}
 use Rattle.oat_frames.proofs.Kit.{thence}
 use Rattle.oat_frames.proofs.FrameLaws.{start-leads}

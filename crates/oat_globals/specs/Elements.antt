@@ -7,7 +7,7 @@ use Rattle.oat_check.specs.Steps.{Frame, assigned}
 use Rattle.oat_measure.specs.declared.call.MonitorCall.TheVariants as svc
 use Rattle.oat_journal.specs.declared.end.DeviceEnd.TheVariants as ends
 use Rattle.oat_journal.specs.Run.{Running}
-use Rattle.oat_frames.specs.Events.{monitors}
+use Rattle.oat_follow.specs.Events.{monitors}
 use Rattle.oat_frames.specs.Frames.{World, IsWorld, IsSlotted, IsAt, line_address}
 use Rattle.oat_frames.specs.Code.{CodeStands}
 use Rattle.oat_frames.specs.Comes.{StepsTo, EndsWithin, with_result}

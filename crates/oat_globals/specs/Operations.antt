@@ -7,7 +7,7 @@ use Rattle.oat_asm.specs.Expansion.{expanded}
 use Rattle.oat_check.specs.Steps.{Frame}
 use Rattle.oat_measure.specs.declared.call.MonitorCall.TheVariants as svc
 use Rattle.oat_journal.specs.Run.{Running}
-use Rattle.oat_frames.specs.Events.{MachineEvent, monitors}
+use Rattle.oat_follow.specs.Events.{MachineEvent, monitors}
 use Rattle.oat_frames.specs.Frames.{World, IsWorld, IsAt, line_address}
 use Rattle.oat_frames.specs.Comes.{StepsTo, with_result}
 use Rattle.oat_frames.specs.Code.{CodeStands, prologue, return_code}

@@ -4,7 +4,7 @@ use Rattle.oat_ir.specs.declared.func.Ty.TheVariants.{I64, Fn}
 use Rattle.oat_check.specs.Steps.{Frame, assigned}
 use Rattle.oat_measure.specs.declared.call.MonitorCall.TheVariants as svc
 use Rattle.oat_journal.specs.Run.{Running}
-use Rattle.oat_frames.specs.Events.{monitors}
+use Rattle.oat_follow.specs.Events.{monitors}
 use Rattle.oat_frames.specs.Frames.{World, IsWorld, IsAt}
 use Rattle.oat_frames.specs.Comes.{StepsTo, with_result}
 use Rattle.oat_frames.specs.Lines.{IsLineAt, IsNumberLocal, on_next_line}

@@ -10,9 +10,9 @@ use Rattle.oat_map.specs.declared.row.Row.TheVariants as rows
 use Rattle.oat_measure.specs.declared.call.MonitorCall.TheVariants as svc
 use Rattle.oat_ir.specs.declared.func.Ty.TheVariants.{I64, Fn}
 use Rattle.oat_journal.specs.Run.{Running, started}
-use Rattle.oat_frames.specs.Events.{moves, monitors}
+use Rattle.oat_follow.specs.Events.{moves, monitors}
 use Rattle.oat_frames.specs.Frames.{World, slot, IsAt}
-use Rattle.oat_frames.specs.Reaching.{RunsTo}
+use Rattle.oat_follow.specs.Reaching.{RunsTo}
 
 -- main, its lines one behind another: the start, a reference, a store and a load of the function scalar, a store and a load of an element, the call, and the halt
 abbrev pub main_insts : List Inst

@@ -24,7 +24,8 @@ use Rattle.oat_frames.specs.Comes.{StepsTo, EndsWithin, with_result}
 use Rattle.oat_frames.specs.Frames.{World, IsWorld, Represents, IsSlotted, IsAt, line_address}
 use Rattle.oat_frames.specs.Lines.{IsLineAt, IsNumberLocal}
 use Rattle.oat_frames.specs.Readied.{IsReadied}
-use Rattle.oat_frames.specs.Reaching.{RunsTo, next_moment}
+use Rattle.oat_follow.specs.Reaching.{RunsTo}
+use Rattle.oat_frames.specs.Moments.{next_moment}
 use Rattle.oat_frames.proofs.Kit.{thence, with_x, IsQuiet}
 use Rattle.oat_frames.proofs.FrameLaws.{assigns, comes-within, loads-number, number-small}
 use Rattle.oat_locals.specs.Code.{binary_code, operation_code, one_inst, compared_by, divisor_tested}

@@ -13,7 +13,8 @@ use Rattle.oat_shape.specs.Groups.{Stands}
 use Rattle.oat_check.specs.Operators.{truth}
 use Rattle.oat_frames.specs.Frames.{IsLow}
 use Rattle.oat_frames.specs.Readied.{IsReadied}
-use Rattle.oat_frames.specs.Reaching.{RunsTo, inst_makes, next_moment, jumped}
+use Rattle.oat_follow.specs.Reaching.{RunsTo, inst_makes}
+use Rattle.oat_frames.specs.Moments.{next_moment, jumped}
 use Rattle.oat_frames.proofs.Kit.{thence, with_x, compared, IsQuiet, sets, compares, cbnz-skips, cbnz-passes, brk-zero}
 use Rattle.oat_frames.proofs.FrameLaws.{by-registers}
 

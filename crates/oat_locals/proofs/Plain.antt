@@ -12,10 +12,11 @@ use Rattle.oat_ir.specs.declared.func.Ty.TheVariants.{I64}
 use Rattle.oat_check.specs.Operators as words
 use Rattle.oat_check.proofs.Bounds.{number_small}
 use Rattle.oat_frames.specs.Code.{CodeStands}
-use Rattle.oat_frames.specs.Events.{prints}
+use Rattle.oat_follow.specs.Events.{prints}
 use Rattle.oat_frames.specs.Frames.{World, Represents, line_address}
 use Rattle.oat_frames.specs.Readied.{IsReadied}
-use Rattle.oat_frames.specs.Reaching.{RunsTo, inst_makes, next_moment}
+use Rattle.oat_follow.specs.Reaching.{RunsTo, inst_makes}
+use Rattle.oat_frames.specs.Moments.{next_moment}
 use Rattle.oat_frames.proofs.Kit.{thence, with_x, sets, ldr, input_next, outputs_next, svc-in, svc-in-end, svc-out}
 use Rattle.oat_frames.proofs.FrameLaws.{slot-of, by-registers, assigns, can-slot, loads-number, scratched}
 use Rattle.oat_locals.specs.Code.{const_code, copy_code, input_code, output_code}

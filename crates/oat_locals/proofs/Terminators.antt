@@ -10,11 +10,12 @@ use Rattle.oat_journal.specs.Run.{Running}
 use Rattle.oat_journal.specs.Window.{edge_over}
 use Rattle.oat_frames.specs.Code.{CodeStands}
 use Rattle.oat_check.specs.Steps.{Frame}
-use Rattle.oat_frames.specs.Events.{MachineEvent, moves}
+use Rattle.oat_follow.specs.Events.{MachineEvent, moves}
 use Rattle.oat_frames.specs.Comes.{StepsTo}
 use Rattle.oat_frames.specs.Frames.{World, IsWorld, IsSlotted, IsAt, HoldsState, line_address}
 use Rattle.oat_frames.specs.Lines.{IsNumberLocal}
-use Rattle.oat_frames.specs.Reaching.{RunsTo, inst_makes, next_moment, jumped}
+use Rattle.oat_follow.specs.Reaching.{RunsTo, inst_makes}
+use Rattle.oat_frames.specs.Moments.{next_moment, jumped}
 use Rattle.oat_frames.proofs.Kit.{thence, with_x, b, cbnz-leads, cbnz-falls, svc-bit, svc-halt}
 use Rattle.oat_frames.proofs.FrameLaws.{found-contains, loads-number, scratched}
 use Rattle.oat_locals.specs.Code.{jump_code, branch_code, halt_code}

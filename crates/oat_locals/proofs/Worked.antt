@@ -12,7 +12,7 @@ use Rattle.oat_journal.specs.Run.{started}
 use Rattle.oat_asm.specs.Standing.{IsOver}
 use Rattle.oat_ir.specs.declared.instr.BinOp.TheVariants.{Div, Rem, Lt}
 use Rattle.oat_check.specs.Steps.{Frame}
-use Rattle.oat_frames.specs.Events.{MachineEvent, moves, prints}
+use Rattle.oat_follow.specs.Events.{MachineEvent, moves, prints}
 use Rattle.oat_frames.specs.Frames.{World, IsWorld}
 use Rattle.oat_frames.specs.Comes.{with_result}
 use Rattle.oat_frames.specs.Lines.{IsNumberLocal, on_next_line}

@@ -8,7 +8,7 @@ use Rattle.oat_journal.specs.Run.{Running}
 use Rattle.oat_ir.specs.declared.instr.BinOp.{BinOp}
 use Rattle.oat_check.specs.Operators.{number, result_of}
 use Rattle.oat_check.specs.Steps.{Frame}
-use Rattle.oat_frames.specs.Events.{prints}
+use Rattle.oat_follow.specs.Events.{prints}
 use Rattle.oat_frames.specs.Frames.{World, IsWorld, IsAt}
 use Rattle.oat_frames.specs.Comes.{ComesTo, StepsTo, EndsWithin, with_result}
 use Rattle.oat_frames.specs.Lines.{IsLineAt, IsNumberLocal, on_next_line}

@@ -6,7 +6,7 @@ use Rattle.oat_journal.specs.Run.{Running}
 use Rattle.oat_shape.specs.Shape.{IsShaped}
 use Rattle.oat_check.specs.Steps.{Frame}
 use Rattle.oat_frames.specs.Code.{CodeStands}
-use Rattle.oat_frames.specs.Events.{moves}
+use Rattle.oat_follow.specs.Events.{moves}
 use Rattle.oat_frames.specs.Frames.{World, IsWorld, IsSlotted, IsAt, line_address}
 use Rattle.oat_frames.specs.Comes.{StepsTo, EndsWithin}
 use Rattle.oat_frames.specs.Lines.{IsNumberLocal}

@@ -6,10 +6,10 @@ use Rattle.oat_map.specs.declared.edge.Edge.TheVariants as edges
 use Rattle.oat_map.specs.declared.row.Row.TheVariants as rows
 use Rattle.oat_journal.specs.declared.end.DeviceEnd.TheVariants as ends
 use Rattle.oat_journal.specs.Run.{Running, started}
-use Rattle.oat_frames.specs.Events.{moves, prints}
+use Rattle.oat_follow.specs.Events.{moves, prints}
 use Rattle.oat_ir.specs.declared.func.Ty.TheVariants.{I64}
 use Rattle.oat_frames.specs.Frames.{World, slot}
-use Rattle.oat_frames.specs.Reaching.{RunsTo}
+use Rattle.oat_follow.specs.Reaching.{RunsTo}
 
 abbrev pub lines_map : Map
 lines_map = record {
