@@ -18,6 +18,7 @@ pub use branch_form::BranchForm;
 pub use item::{Item, Items};
 pub use mark::Mark;
 pub use note::Note;
+pub use words::puts;
 
 #[cfg(test)]
 mod tests;

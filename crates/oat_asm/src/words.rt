@@ -101,17 +101,26 @@ fn push_address(code: &mut Vec<u32>, register: u8, address: u64) -> Result<(), A
     requires address { address < 2 ^ 32 }
     ensures { OnOk result (code.new.items ≡ code.old.items ++ map word_of (puts register address)) }
 {
+    let [low, high] = puts(register, address);
+    code.push(encode(&low))?;
+    code.push(encode(&high))?;
+    Ok(())
+}
+
+/// The two moves that put a number of 32 bits into a register.
+pub fn puts(register: u8, number: u64) -> [Inst; 2]
+    requires number { number < 2 ^ 32 }
+    ensures { result ≡ puts register number }
+{
     let low = Inst::Movz {
         rd: register,
         hw: 0,
-        imm: (address % 0x1_0000) as u16,
+        imm: (number % 0x1_0000) as u16,
     };
     let high = Inst::Movk {
         rd: register,
         hw: 1,
-        imm: (address / 0x1_0000) as u16,
+        imm: (number / 0x1_0000) as u16,
     };
-    code.push(encode(&low))?;
-    code.push(encode(&high))?;
-    Ok(())
+    [low, high]
 }
