@@ -1,9 +1,5 @@
--- The room of `policy`: where its work stops and goes on, that it has one answer, and what its statuses say.
-use Rattle.std.proofs.Common.{◌≡◌, ◌≢◌, ◌↔◌, ◌≤◌, ◌∙◌, ◌++◌, ℕ, List, [], ◌∷◌, length, take, drop, codes, Option, Some, None, Ok, refl, sym, ap, subst, arith, length-drop}
-use Rattle.std.specs.List.{filter_map}
-use Rattle.std.proofs.lemmas.List.{append-nil, append_assoc, length-take-le}
-use Rattle.oat_world.specs.Outside.{Contents}
-use Rattle.oat_map.specs.declared.map.Map.{Map}
+-- The room of `policy`: where its work stops and goes on, and that it has one answer.
+use Rattle.std.proofs.Common.{◌≡◌, ◌≢◌, ◌≤◌, ◌∙◌, ℕ, List, [], ◌∷◌, length, sym, ap, arith}
 use Rattle.oat_map.specs.Walk.{Step, passed, moved, path_of}
 use Rattle.oat_image.specs.declared.image.Image.{Image}
 use Rattle.oat_case.specs.declared.case.Case.{Case}
@@ -18,36 +14,24 @@ use Rattle.oat_lines.specs.FaultText.{fault_text}
 use Rattle.oat_lines.proofs.Steps.{is_fault}
 use Rattle.oat_policy.specs.declared.fault.PolicyFaultKind.{PolicyFaultKind}
 use Rattle.oat_policy.specs.declared.policy.PolicyRule.{PolicyRule}
-use Rattle.oat_policy.specs.declared.verdict.PolicyVerdict.{PolicyVerdict}
-use Rattle.oat_policy.specs.declared.verdict.PolicyVerdict.TheVariants.{Holds, Breaks}
 use Rattle.oat_policy.specs.FaultText.{policy_fault_word}
 use Rattle.oat_policy.specs.Reading.{policy_of}
-use Rattle.oat_policy.specs.Verdict.{verdict_of}
 use Rattle.oat_first.specs.First.{First, fails, passes, IsOne, IsDecisive}
 use Rattle.oat_first.proofs.FirstLaws.{First-one}
 use Rattle.oat_tool.specs.declared.page.Stop.{Stop}
-use Rattle.oat_tool.specs.declared.command.Command.TheVariants.{Verify, Policy}
-use Rattle.oat_tool.specs.Outcome.{Outcome, line}
-use Rattle.oat_tool.specs.Answer.{Answer, refused, as_outcome, status_of}
-use Rattle.oat_tool.specs.Loads.{File, AreLoaded, wanted_of}
-use Rattle.oat_tool.specs.Commands.{IsLine, files_of, limits_of}
+use Rattle.oat_tool.specs.Answer.{Answer, refused}
+use Rattle.oat_tool.specs.Loads.{File}
 use Rattle.oat_tool.specs.BlobText.{IsBlobText}
 use Rattle.oat_tool.specs.Refusals.{RefusesBlob}
 use Rattle.oat_tool.specs.Admits.{Rejects, AreAdmitted}
-use Rattle.oat_tool.specs.Report.{report_of, path_in}
-use Rattle.oat_tool.specs.Defined.{Defined, done}
-use Rattle.oat_tool.specs.DefinedLaws.{IsOfWork}
-use Rattle.oat_tool.specs.Policy.{IsPolicyText, RefusesPolicy, said_of, said_text, policy_text, ended_by, with_policy, ConcludesWith, Polices}
-use Rattle.oat_tool.specs.PolicyLaws.{ReportsPolicy, PolicyIsReported, PolicyIsSaid, verify_words, PutsBehind, behind_acceptance, refusal_alone, VerifyIsPutFirst, PolicyIsHeadlined, OnePolicyAnswer}
+use Rattle.oat_tool.specs.Report.{path_in}
+use Rattle.oat_tool.specs.Policy.{IsPolicyText, RefusesPolicy, said_of, with_policy, ConcludesWith, Polices}
+use Rattle.oat_tool.specs.PolicyLaws.{OnePolicyAnswer}
 use Rattle.oat_tool.specs.Works.{StopsWith}
-use Rattle.oat_tool.proofs.Working.{StopsWith-more, IsDone, refused_is_not_done}
+use Rattle.oat_tool.proofs.Working.{StopsWith-more}
 use Rattle.oat_tool.proofs.Refusing.{ok_one, err_one, never, blob_is_decisive}
-use Rattle.oat_tool.proofs.Admitting.{Admits-rejected, Admits-admitted, Admits-one, Admits-through}
-use Rattle.oat_tool.proofs.Setting.{work_is_done}
-use Rattle.oat_tool.proofs.Answering.{work_is_of_command}
-use Rattle.oat_tool.proofs.Following.{whole_is_put}
-use Rattle.oat_tool.proofs.Naming.{lines_name_files}
-use Rattle.oat_tool.proofs.Verifying.{verifies_concluded, one_report, judged_holds}
+use Rattle.oat_tool.proofs.Admitting.{Admits-rejected, Admits-admitted, Admits-one}
+use Rattle.oat_tool.proofs.Verifying.{one_report}
 
 -- ---- the policy's file gives one policy, or is refused in one way
 

@@ -1,9 +1,8 @@
 -- What the statuses of `policy` say, and what of it is `verify`'s.
-use Rattle.std.proofs.Common.{◌≡◌, ◌≢◌, ◌↔◌, ◌∙◌, ◌++◌, ℕ, List, [], ◌∷◌, length, take, drop, codes, Option, Some, None, refl, sym, ap, subst, arith, length-drop}
+use Rattle.std.proofs.Common.{◌≡◌, ◌≢◌, ◌↔◌, ◌∙◌, ◌++◌, ℕ, List, [], ◌∷◌, length, take, drop, Option, Some, None, refl, sym, ap, subst, arith, length-drop}
 use Rattle.std.proofs.lemmas.List.{append-nil, length-take-le}
 use Rattle.oat_world.specs.Outside.{Contents}
 use Rattle.oat_map.specs.declared.map.Map.{Map}
-use Rattle.oat_map.specs.declared.edge.Edge.{Edge}
 use Rattle.oat_image.specs.declared.image.Image.{Image}
 use Rattle.oat_case.specs.declared.case.Case.{Case}
 use Rattle.oat_verify.specs.declared.verdict.Verdict.{Verdict}
@@ -14,15 +13,16 @@ use Rattle.oat_policy.specs.declared.verdict.PolicyVerdict.TheVariants.{Holds, B
 use Rattle.oat_policy.specs.Verdict.{verdict_of}
 use Rattle.oat_first.specs.First.{fails, passes}
 use Rattle.oat_tool.specs.declared.command.Command.TheVariants.{Verify, Policy}
-use Rattle.oat_tool.specs.Outcome.{Outcome, line}
-use Rattle.oat_tool.specs.Answer.{Answer, as_outcome, status_of}
-use Rattle.oat_tool.specs.Loads.{File, AreLoaded, wanted_of}
+use Rattle.oat_tool.specs.declared.page.Ended.TheVariants.{Rejected}
+use Rattle.oat_tool.specs.Outcome.{Outcome}
+use Rattle.oat_tool.specs.Answer.{Answer, shows, as_outcome, status_of}
+use Rattle.oat_tool.specs.Loads.{Wanted, File, AreLoaded, wanted_of}
 use Rattle.oat_tool.specs.Commands.{IsLine, files_of, limits_of}
 use Rattle.oat_tool.specs.Admits.{AreAdmitted}
 use Rattle.oat_tool.specs.Report.{report_of}
-use Rattle.oat_tool.specs.Defined.{Defined, done}
+use Rattle.oat_tool.specs.Defined.{done}
 use Rattle.oat_tool.specs.DefinedLaws.{IsOfWork}
-use Rattle.oat_tool.specs.Policy.{said_of, said_text, policy_text, ended_by, with_policy, Polices}
+use Rattle.oat_tool.specs.Policy.{said_of, said_text, ended_by, with_policy, Polices}
 use Rattle.oat_tool.specs.PolicyLaws.{ReportsPolicy, PolicyIsReported, PolicyIsSaid, verify_words, PutsBehind, behind_acceptance, refusal_alone, VerifyIsPutFirst, PolicyIsHeadlined}
 use Rattle.oat_tool.proofs.Working.{IsDone, refused_is_not_done}
 use Rattle.oat_tool.proofs.Admitting.{Admits-through}
@@ -136,7 +136,7 @@ behind : (flow : Map) (rules : List PolicyRule) (serial : Option ℕ) (verdict :
 behind flow rules serial (Accept path) o is =
     behind_acceptance (verdict_of flow rules path) refl (ap (λ (p : Outcome). p.out) is) (ap (λ (p : Outcome). p.err) is)
 behind flow rules serial (Refuse cause) o is =
-    refusal_alone refl (is ∙ ap (λ (text : List ℕ). record { status = 1; out = text; err = [] }) (append-nil (as_outcome (report_of flow serial (Refuse cause))).out))
+    refusal_alone refl (is ∙ ap (λ (text : List ℕ). as_outcome (shows Rejected text [])) (append-nil (as_outcome (report_of flow serial (Refuse cause))).out))
 
 wanted_front : (names : List (List ℕ)) → wanted_of (take 3 names) (limits_of Verify) ≡ wanted_of names (limits_of Verify)
 wanted_front [] = refl
@@ -148,14 +148,15 @@ wanted_front (a ∷ b ∷ c ∷ d ∷ names) = refl
 asks_verify : (words : List (List ℕ)) → IsLine words Policy → IsLine (verify_words words) Verify
 asks_verify words asked =
     let dropped = length-drop 1 words in
+    let count : length words ≡ 5 = asked.count in
     (lines_name_files (verify_words words) Verify (1, omega arith, refl)).1
-    (take 3 (drop 1 words), length-take-le 3 (drop 1 words) (omega (arith, dropped, asked.count)), refl)
+    (take 3 (drop 1 words), length-take-le 3 (drop 1 words) (omega (arith, dropped, count)), refl)
 
 pub verify_is_put_first : VerifyIsPutFirst
 verify_is_put_first words contents o asked defined work =
     let r = policy_is_reported words contents o asked defined work in
     let j = r.policed.judged in
-    let held = subst (λ ws. AreLoaded contents ws (j.image ∷ j.case ∷ j.blob ∷ [])) (sym (wanted_front (drop 1 words))) j.held in
+    let held = subst (λ (ws : List Wanted). AreLoaded contents ws (j.image ∷ j.case ∷ j.blob ∷ [])) (sym (wanted_front (drop 1 words))) j.held in
     let report = report_of r.image.map r.serial r.verdict in
     let verifies = verifies_concluded j.image j.case j.blob r.image j.c j.bytes report j.admitted j.blob_read
     (record { verdict = r.verdict; right = j.right; serial = r.serial; carried = r.carried; reported = refl }) in (

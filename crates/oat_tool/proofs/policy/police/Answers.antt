@@ -1,8 +1,18 @@
+use Rattle.std.proofs.Common.{◌≡◌, ℕ, List, map, get_or, ap, subst}
 use Rattle.std.proofs.lemmas.Result.{err_from_is_err_and}
+use Rattle.oat_tool.specs.declared.command.Command.TheVariants as commands
+use Rattle.oat_tool.specs.Commands.{limits_of}
 use Rattle.oat_tool.specs.Loads.{File}
 use Rattle.oat_tool.proofs.Lists.{four_of}
 use Rattle.oat_tool.proofs.Policing.{polices_rejected, polices_no_blob, polices_no_policy, polices_concluded}
 use Rattle.oat_tool.proofs.policy.police.Goals as goal
+
+pub policy_in-requires : goal.policy_in-requires
+policy_in-requires c =
+    let files = four_of (λ (f : File). f.limit) c.args.files.now c.index-files-0.result c.index-files-1.result c.index-files-2.result c.index-files-3.result
+    _ _ _ _ c.requires c.index-files-0.is c.index-files-1.is c.index-files-2.is c.index-files-3.is in
+    ap (λ (limits : List ℕ). get_or limits 3 c.index-files-3.result.limit)
+    (subst (λ (fs : List File). map (λ (f : File). f.limit) fs ≡ limits_of commands.Policy) files c.requires)
 
 pub returns-in_err-admitted : goal.returns-in_err-admitted
 returns-in_err-admitted c =
