@@ -60,7 +60,7 @@ front_loaded contents [] image case blob policy held = absurd held
 front_loaded contents (a ∷ []) image case blob policy held = absurd held.1
 front_loaded contents (a ∷ b ∷ []) image case blob policy held = absurd held.1.1
 front_loaded contents (a ∷ b ∷ c ∷ []) image case blob policy held = absurd held.1.1.1
-front_loaded contents (a ∷ b ∷ c ∷ d ∷ names) image case blob policy held = (held.0, held.1.0, held.1.1.0, tt)
+front_loaded contents (a ∷ b ∷ c ∷ d ∷ names) image case blob policy held = (held.0, (held.1.0, (held.1.1.0, tt)))
 
 policing_reported : (words : List (List ℕ)) (contents : Contents) (image case blob policy : File) (a : Answer)
     → AreLoaded contents (files_of words Policy) (image ∷ case ∷ blob ∷ policy ∷ []) → (i : Image) (c : Case) → AreAdmitted image case i c

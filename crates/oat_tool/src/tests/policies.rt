@@ -64,13 +64,7 @@ const JUDGED: [(&str, &str, u8, &str, &str); 10] = [
         "accept 1\njump main#0 main.b\nend 1\n",
         "policy breaks 1 1\n",
     ),
-    (
-        "policy B ORDER BLOB_ORDER P",
-        "",
-        1,
-        "refuse hash\n",
-        "",
-    ),
+    ("policy B ORDER BLOB_ORDER P", "", 1, "refuse hash\n", ""),
     (
         "policy B KB BITS_0 P",
         "never icall:*:up",
@@ -161,11 +155,7 @@ fn policies_are_loaded_last_and_within_their_limit(rt: HostRuntime) -> Result<()
     let long = vec![in rt.alloc(); 10u8; 65_537]?;
     let whole = format!(in rt.alloc(); "{CALLS_PATH}policy holds\n")?;
     let table: [(&str, usize, (u8, &str, &str)); 4] = [
-        (
-            "policy B KB BLOB_CALLS P",
-            65_536,
-            (0, whole.as_str(), ""),
-        ),
+        ("policy B KB BLOB_CALLS P", 65_536, (0, whole.as_str(), "")),
         (
             "policy JOINED KB ODD P",
             65_537,
