@@ -152,7 +152,6 @@ fn paths_are_judged_by_policies(rt: HostRuntime) -> Result<(), Fail> {
 
 #[test]
 fn policies_are_loaded_last_and_within_their_limit(rt: HostRuntime) -> Result<(), Fail> {
-    let long = vec![in rt.alloc(); 10u8; 65_537]?;
     let whole = format!(in rt.alloc(); "{CALLS_PATH}policy holds\n")?;
     let table: [(&str, usize, (u8, &str, &str)); 4] = [
         ("policy B KB BLOB_CALLS P", 65_536, (0, whole.as_str(), "")),
@@ -165,7 +164,8 @@ fn policies_are_loaded_last_and_within_their_limit(rt: HostRuntime) -> Result<()
         ("policy B KB BLOB_CALLS X", 0, (4, "", "read fault X\n")),
     ];
     for (line, count, want) in table {
-        expect_policy(&rt, rt.alloc(), line, &long[..count], want)?;
+        let policy = vec![in rt.alloc(); 10u8; count]?;
+        expect_policy(&rt, rt.alloc(), line, policy.as_slice(), want)?;
     }
     Ok(())
 }
