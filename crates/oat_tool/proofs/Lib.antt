@@ -14,6 +14,8 @@ mod Programming
 mod Interpreting
 mod Admitting
 mod Verifying
+mod Policing
+mod PolicySaying
 mod Running
 mod Naming
 mod Lines

@@ -1,5 +1,5 @@
 -- The room of `verify`: where its work stops and goes on, that it has one answer, and what its statuses say.
-use Rattle.std.proofs.Common.{◌≡◌, ◌∙◌, ℕ, List, [], ◌∷◌, inl, inr, sym, ap, subst, arith}
+use Rattle.std.proofs.Common.{◌≡◌, ◌∙◌, ℕ, List, [], ◌∷◌, inl, inr, refl, sym, ap, subst, arith}
 use Rattle.oat_world.specs.Outside.{Contents}
 use Rattle.oat_map.specs.declared.edge.Edge.{Edge}
 use Rattle.oat_image.specs.declared.image.Image.{Image}
@@ -7,7 +7,7 @@ use Rattle.oat_case.specs.declared.case.Case.{Case}
 use Rattle.oat_verify.specs.declared.verdict.Cause.{Cause}
 use Rattle.oat_verify.specs.declared.verdict.Verdict.{Verdict}
 use Rattle.oat_verify.specs.declared.verdict.Verdict.TheVariants.{Accept, Refuse}
-use Rattle.oat_verify.specs.Verdict.{Subject, subject_of}
+use Rattle.oat_verify.specs.Verdict.{Subject, subject_of, IsVerdict}
 use Rattle.oat_verify.proofs.OneVerdict.{one_serial, one_verdict, acceptance_at_once}
 use Rattle.oat_attest.proofs.Headlines.{headline}
 use Rattle.oat_first.specs.First.{First, fails, passes, IsOne}
@@ -61,7 +61,7 @@ verifies_concluded image case blob i c bytes a admitted spelled concludes =
 
 -- ---- one answer
 
-one_report : (s : Subject) (bytes : List ℕ) → IsOne Answer (Concludes s bytes)
+pub one_report : (s : Subject) (bytes : List ℕ) → IsOne Answer (Concludes s bytes)
 one_report s bytes a b one two =
     let serials = one_serial bytes one.serial two.serial one.carried two.carried in
     let verdicts = one_verdict s bytes one.verdict two.verdict one.right two.right in
@@ -156,12 +156,13 @@ verdict_is_sealed words contents o asked defined seven =
 
 -- ---- the headline
 
-judged_holds : (words : List (List ℕ)) (contents : Contents) (image : Image) (path : List Edge)
-    → (judged : IsJudged words contents image (Accept path)) → HeadlineHolds image judged.c.session judged.bytes path
-judged_holds words contents image path judged = λ begin_at begins.
+pub judged_holds : (words : List (List ℕ)) (contents : Contents) (image : Image) (verdict : Verdict) (path : List Edge)
+    → (judged : IsJudged words contents image verdict) → verdict ≡ Accept path → HeadlineHolds image judged.c.session judged.bytes path
+judged_holds words contents image verdict path judged same = λ begin_at begins.
     headline image judged.c.session begin_at
     (record { well_formed = judged.admitted.image_read.well_formed; shaped = judged.admitted.shaped; begins = begins })
-    judged.bytes path ((acceptance_at_once (subject_of image judged.c.session) judged.bytes path).0 judged.right)
+    judged.bytes path ((acceptance_at_once (subject_of image judged.c.session) judged.bytes path).0
+    (subst (λ (v : Verdict). IsVerdict (subject_of image judged.c.session) judged.bytes v) same judged.right))
 
 acceptance : (words : List (List ℕ)) (contents : Contents) (o : Outcome) (out err : Put) (status : ℕ) → ShowsJust o out err status
     → (path : List Edge) × ReportsVerdict words contents (Accept path) o → ShowsAcceptance words contents out err status
@@ -174,7 +175,7 @@ acceptance words contents o out err status just (path, reported) = record {
     carried = reported.carried;
     shown = subst (λ (p : Outcome). ShowsJust p out err status) reported.is just;
   };
-  headline = judged_holds words contents reported.image path reported.judged;
+  headline = judged_holds words contents reported.image (Accept path) path reported.judged refl;
 }
 
 -- Each call carries the headline.

@@ -3,16 +3,17 @@
 use Rattle.std.specs.Prelude.{◌≡◌, ◌+◌, ℕ, Bool, true, false, not, ◌&&◌, ◌||◌, nat_eq, List, [], ◌∷◌, length, take, drop, Contains, codes}
 use Rattle.std.specs.Str.{bytes_eq}
 use Rattle.oat_tool.specs.declared.command.Command.{Command}
-use Rattle.oat_tool.specs.declared.command.Command.TheVariants.{Run, Verify, Device}
+use Rattle.oat_tool.specs.declared.command.Command.TheVariants.{Run, Verify, Device, Policy}
 use Rattle.oat_tool.specs.Loads.{Wanted, wanted_of}
 
 abbrev pub commands : List Command
-commands = Run ∷ Verify ∷ Device ∷ []
+commands = Run ∷ Verify ∷ Device ∷ Policy ∷ []
 
 abbrev pub fixed_of : Command → List (List ℕ)
 fixed_of Run = codes "run" ∷ []
 fixed_of Verify = codes "verify" ∷ []
 fixed_of Device = codes "device" ∷ []
+fixed_of Policy = codes "policy" ∷ []
 
 abbrev pub program_limit : ℕ
 program_limit = 1048576
@@ -26,10 +27,14 @@ case_limit = 4194304
 abbrev pub blob_limit : ℕ
 blob_limit = 41943040
 
+abbrev pub policy_limit : ℕ
+policy_limit = 65536
+
 abbrev pub limits_of : Command → List ℕ
 limits_of Run = program_limit ∷ case_limit ∷ []
 limits_of Verify = image_limit ∷ case_limit ∷ blob_limit ∷ []
 limits_of Device = image_limit ∷ case_limit ∷ []
+limits_of Policy = image_limit ∷ case_limit ∷ blob_limit ∷ policy_limit ∷ []
 
 -- Words are of a command: they begin as it does, and name as many files as it loads.
 pub record IsLine (words : List (List ℕ)) (command : Command) : Type 0 where

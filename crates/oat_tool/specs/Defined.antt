@@ -3,7 +3,7 @@ use Rattle.std.specs.Prelude.{◌≡◌, ℕ, List}
 use Rattle.oat_world.specs.Outside.{Contents}
 use Rattle.oat_first.specs.First.{First}
 use Rattle.oat_tool.specs.declared.command.Command.{Command}
-use Rattle.oat_tool.specs.declared.command.Command.TheVariants.{Run, Verify, Device}
+use Rattle.oat_tool.specs.declared.command.Command.TheVariants.{Run, Verify, Device, Policy}
 use Rattle.oat_tool.specs.Outcome.{Outcome}
 use Rattle.oat_tool.specs.Texts.{usage}
 use Rattle.oat_tool.specs.Answer.{Answer, IsAnswered}
@@ -12,12 +12,14 @@ use Rattle.oat_tool.specs.Commands.{IsLine, files_of}
 use Rattle.oat_tool.specs.Interpret.{Interprets}
 use Rattle.oat_tool.specs.Verify.{Verifies}
 use Rattle.oat_tool.specs.Device.{Runs}
+use Rattle.oat_tool.specs.Policy.{Polices}
 
 -- what a command answers to its files
 abbrev pub Does : Command → List File → Answer → Type 0
 Does Run = Interprets
 Does Verify = Verifies
 Does Device = Runs
+Does Policy = Polices
 
 -- The first load that fails decides, and else the command's answer; a load may fail where the count of faults rose.
 abbrev pub Ends : List (List ℕ) → Command → Contents → (rose : Type 0) → Outcome → Type 0

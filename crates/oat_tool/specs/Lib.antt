@@ -25,3 +25,5 @@ pub mod VerifyLaws
 pub mod Headline
 pub mod Device
 pub mod DeviceLaws
+pub mod Policy
+pub mod PolicyLaws

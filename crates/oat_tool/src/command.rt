@@ -9,6 +9,8 @@ const CASE_LIMIT: usize = 4_194_304;
 
 const BLOB_LIMIT: usize = 41_943_040;
 
+const POLICY_LIMIT: usize = 65_536;
+
 /// A command of the program.
 #[derive(Clone, Copy, Debug, PartialEq, Eq)]
 pub enum Command {
@@ -18,6 +20,8 @@ pub enum Command {
     Verify,
     /// Runs a case on an image, measured.
     Device,
+    /// Judges a blob as `Verify` does, and the accepted path by a policy.
+    Policy,
 }
 
 impl Command {
@@ -29,6 +33,7 @@ impl Command {
             Command::Run => &["run"],
             Command::Verify => &["verify"],
             Command::Device => &["device"],
+            Command::Policy => &["policy"],
         }
     }
 
@@ -40,9 +45,15 @@ impl Command {
             Command::Run => &[PROGRAM_LIMIT, CASE_LIMIT],
             Command::Verify => &[IMAGE_LIMIT, CASE_LIMIT, BLOB_LIMIT],
             Command::Device => &[IMAGE_LIMIT, CASE_LIMIT],
+            Command::Policy => &[IMAGE_LIMIT, CASE_LIMIT, BLOB_LIMIT, POLICY_LIMIT],
         }
     }
 }
 
 /// The commands of the program.
-pub const COMMANDS: [Command; 3] = [Command::Run, Command::Verify, Command::Device];
+pub const COMMANDS: [Command; 4] = [
+    Command::Run,
+    Command::Verify,
+    Command::Device,
+    Command::Policy,
+];

@@ -5,6 +5,7 @@ ghost use Rattle.oat_tool.specs.CallLaws.{WholeIsPut, DefinedIsShown, TheDefined
 
 pub mod device;
 pub mod interpret;
+pub mod policy;
 pub mod verify;
 
 /// Of each call whose contents are told.

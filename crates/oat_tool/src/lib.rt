@@ -20,6 +20,7 @@ mod interpret;
 pub mod laws;
 mod page;
 mod pieces;
+mod policy;
 mod programs;
 mod put;
 mod report;

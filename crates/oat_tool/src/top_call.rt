@@ -13,6 +13,7 @@ use crate::device::device;
 use crate::files::{File, load_all};
 use crate::interpret::interpret;
 use crate::page::Halt;
+use crate::policy::police;
 use crate::put::{finish, say, say_starved};
 use crate::texts::USAGE;
 use crate::verify::verify;
@@ -38,6 +39,7 @@ fn work<O: Sink, E: Sink>(
         Command::Run => finish(alloc, interpret(alloc, files), out, err),
         Command::Verify => finish(alloc, verify(alloc, files), out, err),
         Command::Device => finish(alloc, device(alloc, files), out, err),
+        Command::Policy => finish(alloc, police(alloc, files), out, err),
     }
 }
 

@@ -1,0 +1,119 @@
+-- The room of `policy`: where its work stops and goes on, and that it has one answer.
+use Rattle.std.proofs.Common.{◌≡◌, ◌≢◌, ◌≤◌, ◌∙◌, ℕ, List, [], ◌∷◌, length, sym, ap, arith}
+use Rattle.oat_map.specs.Walk.{Step, passed, moved, path_of}
+use Rattle.oat_image.specs.declared.image.Image.{Image}
+use Rattle.oat_case.specs.declared.case.Case.{Case}
+use Rattle.oat_verify.specs.declared.verdict.Verdict.{Verdict}
+use Rattle.oat_verify.specs.declared.verdict.Verdict.TheVariants.{Accept, Refuse}
+use Rattle.oat_verify.specs.Verdict.{Subject, subject_of, IsVerdict}
+use Rattle.oat_verify.proofs.OneVerdict.{one_verdict, acceptance_at_once}
+use Rattle.oat_lines.specs.declared.fault.Fault.{Fault}
+use Rattle.oat_lines.specs.declared.fault.Fault.TheVariants.{Memory}
+use Rattle.oat_lines.specs.Faults.{Fails}
+use Rattle.oat_lines.specs.FaultText.{fault_text}
+use Rattle.oat_lines.proofs.Steps.{is_fault}
+use Rattle.oat_policy.specs.declared.fault.PolicyFaultKind.{PolicyFaultKind}
+use Rattle.oat_policy.specs.declared.policy.PolicyRule.{PolicyRule}
+use Rattle.oat_policy.specs.FaultText.{policy_fault_word}
+use Rattle.oat_policy.specs.Reading.{policy_of}
+use Rattle.oat_first.specs.First.{First, fails, passes, IsOne, IsDecisive}
+use Rattle.oat_first.proofs.FirstLaws.{First-one}
+use Rattle.oat_tool.specs.declared.page.Stop.{Stop}
+use Rattle.oat_tool.specs.Answer.{Answer, refused}
+use Rattle.oat_tool.specs.Loads.{File}
+use Rattle.oat_tool.specs.BlobText.{IsBlobText}
+use Rattle.oat_tool.specs.Refusals.{RefusesBlob}
+use Rattle.oat_tool.specs.Admits.{Rejects, AreAdmitted}
+use Rattle.oat_tool.specs.Report.{path_in}
+use Rattle.oat_tool.specs.Policy.{IsPolicyText, RefusesPolicy, said_of, with_policy, ConcludesWith, Polices}
+use Rattle.oat_tool.specs.PolicyLaws.{OnePolicyAnswer}
+use Rattle.oat_tool.specs.Works.{StopsWith}
+use Rattle.oat_tool.proofs.Working.{StopsWith-more}
+use Rattle.oat_tool.proofs.Refusing.{ok_one, err_one, never, blob_is_decisive}
+use Rattle.oat_tool.proofs.Admitting.{Admits-rejected, Admits-admitted, Admits-one}
+use Rattle.oat_tool.proofs.Verifying.{one_report}
+
+-- ---- the policy's file gives one policy, or is refused in one way
+
+pub refuses_policy : (file : File) (fault : Fault PolicyFaultKind) (a : Answer) → fault ≢ Memory
+    → Fails fault (policy_of file.text) → a ≡ refused file.name (fault_text policy_fault_word fault) → RefusesPolicy file a
+refuses_policy file fault a other given told =
+    record { fault = fault; first = is_fault fault (policy_of file.text) other given; told = told }
+
+policy_is_decisive : (file : File) → IsDecisive (List PolicyRule) Answer (IsPolicyText file.text) (RefusesPolicy file)
+policy_is_decisive file = record {
+  one_value = λ rules others one two. ok_one others rules (policy_of file.text) two one;
+  one_failure = λ a b one two.
+      one.told ∙ (ap (λ fault. refused file.name (fault_text policy_fault_word fault)) (err_one one.fault two.fault (policy_of file.text) one.first two.first) ∙ sym two.told);
+  apart = λ rules a read refuses. never rules refuses.fault (policy_of file.text) read refuses.first;
+}
+
+-- ---- an accepted path is one that a policy can be asked about
+
+path_is_short : (steps : List Step) → length (path_of steps) ≤ length steps
+path_is_short [] = omega arith
+path_is_short (passed ∷ steps) = let rest = path_is_short steps in omega (arith, rest)
+path_is_short (moved edge ∷ steps) = let rest = path_is_short steps in omega (arith, rest)
+
+pub accepted_is_short : (s : Subject) (bytes : List ℕ) (verdict : Verdict) → IsVerdict s bytes verdict → length (path_in verdict) ≤ 4194304
+accepted_is_short s bytes (Accept path) right =
+    let walked = ((acceptance_at_once s bytes path).0 right).walked in
+    let short = path_is_short walked.steps in
+    rw walked.path_is (omega (arith, short, walked.within))
+accepted_is_short s bytes (Refuse cause) right = omega arith
+
+-- ---- where the work stops, and where it goes on to the verdict
+
+-- what comes after the blob's bytes
+abbrev Ruling : File → Subject → List ℕ → Answer → Type 0
+Ruling policy s bytes = First (List PolicyRule) Answer (IsPolicyText policy.text) (RefusesPolicy policy) (λ rules. ConcludesWith s rules bytes)
+
+-- what comes after an image and a case are admitted
+abbrev pub Policing : File → File → Image → Case → Answer → Type 0
+Policing blob policy i c = First (List ℕ) Answer (IsBlobText blob.text) (RefusesBlob blob) (λ bytes. Ruling policy (subject_of i c.session) bytes)
+
+pub polices_rejected : (image case blob policy : File) (stop : Stop) → StopsWith (Rejects image case) stop
+    → StopsWith (Polices (image ∷ case ∷ blob ∷ policy ∷ [])) stop
+polices_rejected image case blob policy stop stops =
+    StopsWith-more (Rejects image case) (Polices (image ∷ case ∷ blob ∷ policy ∷ [])) stop
+    (λ a rejected. Admits-rejected image case (Policing blob policy) a rejected) stops
+
+pub polices_no_blob : (image case blob policy : File) (i : Image) (c : Case) (stop : Stop) → AreAdmitted image case i c
+    → StopsWith (RefusesBlob blob) stop → StopsWith (Polices (image ∷ case ∷ blob ∷ policy ∷ [])) stop
+polices_no_blob image case blob policy i c stop admitted stops =
+    StopsWith-more (RefusesBlob blob) (Polices (image ∷ case ∷ blob ∷ policy ∷ [])) stop
+    (λ a refused. Admits-admitted image case (Policing blob policy) a i c admitted (fails refused)) stops
+
+pub polices_no_policy : (image case blob policy : File) (i : Image) (c : Case) (bytes : List ℕ) (stop : Stop) → AreAdmitted image case i c
+    → IsBlobText blob.text bytes → StopsWith (RefusesPolicy policy) stop → StopsWith (Polices (image ∷ case ∷ blob ∷ policy ∷ [])) stop
+polices_no_policy image case blob policy i c bytes stop admitted spelled stops =
+    StopsWith-more (RefusesPolicy policy) (Polices (image ∷ case ∷ blob ∷ policy ∷ [])) stop
+    (λ a refused. Admits-admitted image case (Policing blob policy) a i c admitted (passes bytes spelled (fails refused))) stops
+
+pub polices_concluded : (image case blob policy : File) (i : Image) (c : Case) (bytes : List ℕ) (rules : List PolicyRule) (a : Answer)
+    → AreAdmitted image case i c → IsBlobText blob.text bytes → IsPolicyText policy.text rules
+    → ConcludesWith (subject_of i c.session) rules bytes a → Polices (image ∷ case ∷ blob ∷ policy ∷ []) a
+polices_concluded image case blob policy i c bytes rules a admitted spelled read concludes =
+    Admits-admitted image case (Policing blob policy) a i c admitted (passes bytes spelled (passes rules read concludes))
+
+-- ---- one answer
+
+one_conclusion : (s : Subject) (rules : List PolicyRule) (bytes : List ℕ) → IsOne Answer (ConcludesWith s rules bytes)
+one_conclusion s rules bytes a b one two =
+    let reports = one_report s bytes one.report two.report one.concluded two.concluded in
+    let verdicts = one_verdict s bytes one.concluded.verdict two.concluded.verdict one.concluded.right two.concluded.right in
+    one.is ∙ (ap (with_policy (said_of s.map rules one.concluded.verdict)) reports
+    ∙ (ap (λ (v : Verdict). with_policy (said_of s.map rules v) two.report) verdicts ∙ sym two.is))
+
+pub one_policy_answer : OnePolicyAnswer
+one_policy_answer [] a b one two = absurd one
+one_policy_answer (image ∷ []) a b one two = absurd one
+one_policy_answer (image ∷ case ∷ []) a b one two = absurd one
+one_policy_answer (image ∷ case ∷ blob ∷ []) a b one two = absurd one
+one_policy_answer (image ∷ case ∷ blob ∷ policy ∷ []) a b one two =
+    Admits-one image case (Policing blob policy) (λ i c admitted.
+    First-one (List ℕ) Answer (IsBlobText blob.text) (RefusesBlob blob) (λ bytes. Ruling policy (subject_of i c.session) bytes) (blob_is_decisive blob)
+    (λ bytes spelled.
+    First-one (List PolicyRule) Answer (IsPolicyText policy.text) (RefusesPolicy policy) (λ rules. ConcludesWith (subject_of i c.session) rules bytes)
+    (policy_is_decisive policy) (λ rules read. one_conclusion (subject_of i c.session) rules bytes))) a b one two
+one_policy_answer (image ∷ case ∷ blob ∷ policy ∷ other ∷ files) a b one two = absurd one

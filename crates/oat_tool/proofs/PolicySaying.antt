@@ -1,0 +1,179 @@
+-- What the statuses of `policy` say, and what of it is `verify`'s.
+use Rattle.std.proofs.Common.{◌≡◌, ◌≢◌, ◌↔◌, ◌∙◌, ◌++◌, ℕ, List, [], ◌∷◌, length, take, drop, Option, Some, None, refl, sym, ap, subst, arith, length-drop}
+use Rattle.std.proofs.lemmas.List.{append-nil, length-take-le}
+use Rattle.oat_world.specs.Outside.{Contents}
+use Rattle.oat_map.specs.declared.map.Map.{Map}
+use Rattle.oat_image.specs.declared.image.Image.{Image}
+use Rattle.oat_case.specs.declared.case.Case.{Case}
+use Rattle.oat_verify.specs.declared.verdict.Verdict.{Verdict}
+use Rattle.oat_verify.specs.declared.verdict.Verdict.TheVariants.{Accept, Refuse}
+use Rattle.oat_policy.specs.declared.policy.PolicyRule.{PolicyRule}
+use Rattle.oat_policy.specs.declared.verdict.PolicyVerdict.{PolicyVerdict}
+use Rattle.oat_policy.specs.declared.verdict.PolicyVerdict.TheVariants.{Holds, Breaks}
+use Rattle.oat_policy.specs.Verdict.{verdict_of}
+use Rattle.oat_first.specs.First.{fails, passes}
+use Rattle.oat_tool.specs.declared.command.Command.TheVariants.{Verify, Policy}
+use Rattle.oat_tool.specs.declared.page.Ended.TheVariants.{Rejected}
+use Rattle.oat_tool.specs.Outcome.{Outcome}
+use Rattle.oat_tool.specs.Answer.{Answer, shows, as_outcome, status_of}
+use Rattle.oat_tool.specs.Loads.{Wanted, File, AreLoaded, wanted_of}
+use Rattle.oat_tool.specs.Commands.{IsLine, files_of, limits_of}
+use Rattle.oat_tool.specs.Admits.{AreAdmitted}
+use Rattle.oat_tool.specs.Report.{report_of}
+use Rattle.oat_tool.specs.Defined.{done}
+use Rattle.oat_tool.specs.DefinedLaws.{IsOfWork}
+use Rattle.oat_tool.specs.Policy.{said_of, said_text, ended_by, with_policy, Polices}
+use Rattle.oat_tool.specs.PolicyLaws.{ReportsPolicy, PolicyIsReported, PolicyIsSaid, verify_words, PutsBehind, behind_acceptance, refusal_alone, VerifyIsPutFirst, PolicyIsHeadlined}
+use Rattle.oat_tool.proofs.Working.{IsDone, refused_is_not_done}
+use Rattle.oat_tool.proofs.Admitting.{Admits-through}
+use Rattle.oat_tool.proofs.Setting.{work_is_done}
+use Rattle.oat_tool.proofs.Answering.{work_is_of_command}
+use Rattle.oat_tool.proofs.Following.{whole_is_put}
+use Rattle.oat_tool.proofs.Naming.{lines_name_files}
+use Rattle.oat_tool.proofs.Verifying.{verifies_concluded, judged_holds}
+use Rattle.oat_tool.proofs.Policing.{Policing}
+
+-- ---- statuses
+
+kept_by : (said : Option PolicyVerdict) → status_of (ended_by said) ≡ 0 ↔ (said ≡ Some Holds)
+kept_by None = (λ zeroth. absurd (omega (arith, zeroth)), λ same. absurd (cc))
+kept_by (Some Holds) = (λ zeroth. refl, λ same. refl)
+kept_by (Some (Breaks at place)) = (λ zeroth. absurd (omega (arith, zeroth)), λ same. absurd (cc))
+
+rejected_by : (said : Option PolicyVerdict) → status_of (ended_by said) ≡ 1 ↔ (said ≢ Some Holds)
+rejected_by None = (λ first same. cc, λ other. refl)
+rejected_by (Some Holds) = (λ first same. omega (arith, first), λ other. absurd (other refl))
+rejected_by (Some (Breaks at place)) = (λ first same. cc, λ other. refl)
+
+not_unsealed : (said : Option PolicyVerdict) → status_of (ended_by said) ≡ 7 → ⊥
+not_unsealed None seven = omega (arith, seven)
+not_unsealed (Some Holds) seven = omega (arith, seven)
+not_unsealed (Some (Breaks at place)) seven = omega (arith, seven)
+
+-- ---- the outcome is a verdict's report with what the policy says
+
+-- the first three of the four files, as `verify` asks for them
+front_loaded : (contents : Contents) (names : List (List ℕ)) (image case blob policy : File)
+    → AreLoaded contents (wanted_of names (limits_of Policy)) (image ∷ case ∷ blob ∷ policy ∷ [])
+    → AreLoaded contents (wanted_of names (limits_of Verify)) (image ∷ case ∷ blob ∷ [])
+front_loaded contents [] image case blob policy held = absurd held
+front_loaded contents (a ∷ []) image case blob policy held = absurd held.1
+front_loaded contents (a ∷ b ∷ []) image case blob policy held = absurd held.1.1
+front_loaded contents (a ∷ b ∷ c ∷ []) image case blob policy held = absurd held.1.1.1
+front_loaded contents (a ∷ b ∷ c ∷ d ∷ names) image case blob policy held = (held.0, (held.1.0, (held.1.1.0, tt)))
+
+policing_reported : (words : List (List ℕ)) (contents : Contents) (image case blob policy : File) (a : Answer)
+    → AreLoaded contents (files_of words Policy) (image ∷ case ∷ blob ∷ policy ∷ []) → (i : Image) (c : Case) → AreAdmitted image case i c
+    → Policing blob policy i c a → IsDone (as_outcome a).status → ReportsPolicy words contents (as_outcome a)
+policing_reported words contents image case blob policy a held i c admitted (fails refused) is_done =
+    absurd (refused_is_not_done a _ _ refused.told is_done)
+policing_reported words contents image case blob policy a held i c admitted (passes bytes spelled (fails refused)) is_done =
+    absurd (refused_is_not_done a _ _ refused.told is_done)
+policing_reported words contents image case blob policy a held i c admitted (passes bytes spelled (passes rules read concludes)) is_done =
+    let verdict = concludes.concluded.verdict in
+    let said = said_of i.map rules verdict in
+    let is : as_outcome a ≡ as_outcome (with_policy said (report_of i.map concludes.concluded.serial verdict)) =
+    ap as_outcome (concludes.is ∙ ap (with_policy said) concludes.concluded.reported) in
+    let status = ap (λ (p : Outcome). p.status) is in
+    record {
+      image = i;
+      verdict = verdict;
+      rules = rules;
+      policed = record {
+        judged = record {
+          image = image;
+          case = case;
+          blob = blob;
+          held = front_loaded contents (drop 1 words) image case blob policy held;
+          c = c;
+          admitted = admitted;
+          bytes = bytes;
+          blob_read = spelled;
+          right = concludes.concluded.right;
+        };
+        policy = policy;
+        held = held;
+        policy_read = read;
+      };
+      serial = concludes.concluded.serial;
+      carried = concludes.concluded.carried;
+      is = is;
+      kept = subst (λ (n : ℕ). n ≡ 0 ↔ (said ≡ Some Holds)) (sym status) (kept_by said);
+      rejected = subst (λ (n : ℕ). n ≡ 1 ↔ (said ≢ Some Holds)) (sym status) (rejected_by said);
+    }
+
+policy_reported : (words : List (List ℕ)) (contents : Contents) (files : List File) (a : Answer) → AreLoaded contents (files_of words Policy) files
+    → Polices files a → IsDone (as_outcome a).status → ReportsPolicy words contents (as_outcome a)
+policy_reported words contents [] a held none is_done = absurd none
+policy_reported words contents (image ∷ []) a held none is_done = absurd none
+policy_reported words contents (image ∷ case ∷ []) a held none is_done = absurd none
+policy_reported words contents (image ∷ case ∷ blob ∷ []) a held none is_done = absurd none
+policy_reported words contents (image ∷ case ∷ blob ∷ policy ∷ []) a held polices is_done =
+    let through = Admits-through image case (Policing blob policy) a is_done polices in
+    policing_reported words contents image case blob policy a held through.i through.c through.admitted through.after is_done
+policy_reported words contents (image ∷ case ∷ blob ∷ policy ∷ other ∷ files) a held none is_done = absurd none
+
+pub policy_is_reported : PolicyIsReported
+policy_is_reported words contents o asked defined work =
+    let answered = work_is_of_command words contents Policy o asked defined work in
+    subst (λ (p : Outcome). ReportsPolicy words contents p) (sym answered.is)
+    (policy_reported words contents answered.files answered.answer answered.held answered.given
+    (λ two. work_is_done o.status work (ap (λ (p : Outcome). p.status) answered.is ∙ two)))
+
+pub policy_is_said : PolicyIsSaid
+policy_is_said words contents o asked defined work =
+    let r = policy_is_reported words contents o asked defined work in
+    let report = report_of r.image.map r.serial r.verdict in
+    let put = ap (λ (p : Outcome). p.out) r.is in (
+      λ seven. not_unsealed (said_of r.image.map r.rules r.verdict) (sym (ap (λ (p : Outcome). p.status) r.is) ∙ seven),
+      λ zeroth. ((as_outcome report).out, put ∙ ap (λ (said : Option PolicyVerdict). (as_outcome report).out ++ said_text said) (r.kept.0 zeroth)),
+    )
+
+-- ---- what `verify` puts comes first
+
+behind : (flow : Map) (rules : List PolicyRule) (serial : Option ℕ) (verdict : Verdict) (o : Outcome)
+    → o ≡ as_outcome (with_policy (said_of flow rules verdict) (report_of flow serial verdict)) → PutsBehind (as_outcome (report_of flow serial verdict)) o
+behind flow rules serial (Accept path) o is =
+    behind_acceptance (verdict_of flow rules path) refl (ap (λ (p : Outcome). p.out) is) (ap (λ (p : Outcome). p.err) is)
+behind flow rules serial (Refuse cause) o is =
+    refusal_alone refl (is ∙ ap (λ (text : List ℕ). as_outcome (shows Rejected text [])) (append-nil (as_outcome (report_of flow serial (Refuse cause))).out))
+
+wanted_front : (names : List (List ℕ)) → wanted_of (take 3 names) (limits_of Verify) ≡ wanted_of names (limits_of Verify)
+wanted_front [] = refl
+wanted_front (a ∷ []) = refl
+wanted_front (a ∷ b ∷ []) = refl
+wanted_front (a ∷ b ∷ c ∷ []) = refl
+wanted_front (a ∷ b ∷ c ∷ d ∷ names) = refl
+
+asks_verify : (words : List (List ℕ)) → IsLine words Policy → IsLine (verify_words words) Verify
+asks_verify words asked =
+    let dropped = length-drop 1 words in
+    let count : length words ≡ 5 = asked.count in
+    (lines_name_files (verify_words words) Verify (1, omega arith, refl)).1
+    (take 3 (drop 1 words), length-take-le 3 (drop 1 words) (omega (arith, dropped, count)), refl)
+
+pub verify_is_put_first : VerifyIsPutFirst
+verify_is_put_first words contents o asked defined work =
+    let r = policy_is_reported words contents o asked defined work in
+    let j = r.policed.judged in
+    let held = subst (λ (ws : List Wanted). AreLoaded contents ws (j.image ∷ j.case ∷ j.blob ∷ [])) (sym (wanted_front (drop 1 words))) j.held in
+    let report = report_of r.image.map r.serial r.verdict in
+    let verifies = verifies_concluded j.image j.case j.blob r.image j.c j.bytes report j.admitted j.blob_read
+    (record { verdict = r.verdict; right = j.right; serial = r.serial; carried = r.carried; reported = refl }) in (
+      as_outcome report,
+      done Verify (asks_verify words asked) (passes (j.image ∷ j.case ∷ j.blob ∷ []) held (record { answer = report; given = verifies; is = refl })),
+      behind r.image.map r.rules r.serial r.verdict o r.is,
+    )
+
+-- ---- the headline
+
+pub policy_is_headlined : PolicyIsHeadlined
+policy_is_headlined words contents files out err status told ran asked work =
+    let all = whole_is_put words contents files out err status told ran work in
+    let r = policy_is_reported words contents all.outcome asked all.is_defined (subst IsOfWork all.shown.same_status work) in
+    record {
+      outcome = all.outcome;
+      reports = r;
+      shown = all.shown;
+      headline = λ path same. judged_holds words contents r.image r.verdict path r.policed.judged same;
+    }

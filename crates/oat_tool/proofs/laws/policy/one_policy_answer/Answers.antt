@@ -1,0 +1,5 @@
+use Rattle.oat_tool.proofs.Policing as room
+use Rattle.oat_tool.proofs.laws.policy.one_policy_answer.Goals as goal
+
+pub returns : goal.returns
+returns c = room.one_policy_answer
