@@ -44,9 +44,13 @@ word_count (Check at) = 2
 abbrev pub after : Row → ℕ
 after row = (address_of row + 4 * word_count row) % 2 ^ 64
 
+-- the addresses of the rows, in their order
+abbrev pub row_addresses : List Row → List ℕ
+row_addresses rows = map address_of rows
+
 -- the addresses of the rows rise strictly
 abbrev pub IsOrdered : List Row → Type 0
-IsOrdered rows = IsStrictlyIncreasing (map address_of rows)
+IsOrdered rows = IsStrictlyIncreasing (row_addresses rows)
 
 -- the first row whose address is at least `place`; where the rows are ordered, it is the lowest one
 abbrev pub next : List Row → ℕ → Option Row

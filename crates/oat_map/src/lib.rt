@@ -2,6 +2,7 @@
 #![tactic(auto)]
 
 mod edge;
+mod index;
 pub mod laws;
 mod map;
 mod name;
@@ -9,6 +10,7 @@ mod row;
 mod trap;
 
 pub use edge::{Edge, Path};
+pub use index::RowIndex;
 pub use map::{Block, Function, Map};
 pub use name::Name;
 pub use row::Row;

@@ -1,5 +1,6 @@
 mod OneAnswer
 pub mod OneStuck
 pub mod ReplayLemmas
+mod RowSearch
 mod TurnLemmas
 mod WalkSoFar

@@ -5,11 +5,13 @@ mod cause;
 pub mod laws;
 mod path;
 mod replay;
+mod search;
 mod turn;
 
 pub use cause::{ReplayCause, WalkFault};
 pub use path::walk;
 pub use replay::Replay;
+pub use search::find_row;
 pub use turn::Turn;
 
 #[cfg(test)]

@@ -1,12 +1,15 @@
-ghost use Rattle.std.specs.Prelude.{◌≤◌, vec_len, vec_capacity};
-ghost use Rattle.oat_map.specs.Rows.{IsOrdered};
+ghost use Rattle.std.specs.Prelude.{◌≡◌, ◌≤◌, vec_len, vec_capacity};
+ghost use Rattle.oat_map.specs.Rows.{row_addresses};
 ghost use Rattle.oat_map.specs.Walk.{path_limit};
 
 use crate::cause::ReplayCause;
+use crate::search::row_at_or_above;
 use crate::turn::{Turn, end_turn};
 use oat_blob::Records;
-use oat_map::{Edge, Map, Row};
+use oat_map::{Edge, Map, Row, RowIndex};
 use std::alloc::{AllocError, Global};
+use std::marker::Brand;
+use std::sync::ledger::Blank;
 
 /// The most turns that lead on.
 pub const PATH_LIMIT: u32 = 4_194_304;
@@ -15,6 +18,7 @@ pub const PATH_LIMIT: u32 = 4_194_304;
 #[derive(Drop)]
 pub struct Replay<'a> {
     map: &'a Map,
+    index: RowIndex,
     op: u16,
     place: u64,
     /// Where the open calls are to be returned to.
@@ -22,7 +26,7 @@ pub struct Replay<'a> {
     turns: u32,
     bits_used: u32,
     targets_used: u32,
-    ghost ordered: { IsOrdered map.now.rows },
+    ghost indexed: { index ≡ row_addresses map.now.rows },
     ghost room: { path_limit ≤ vec_capacity stack },
     ghost low: { vec_len stack ≤ turns },
 }
@@ -30,7 +34,7 @@ pub struct Replay<'a> {
 impl<'a> Replay<'a> {
     ghost use Rattle.std.specs.Prelude.{ℕ, ◌≡◌, ◌<◌, ◌+◌, Bool, List, [], ◌∷◌, ◌++◌, IsSome, IfOk};
     ghost use Rattle.oat_map.specs.declared.row.Row.TheVariants as rows;
-    ghost use Rattle.oat_map.specs.Rows.{after, next, start};
+    ghost use Rattle.oat_map.specs.Rows.{IsOrdered, after, next, start};
     ghost use Rattle.oat_replay.specs.StandsBehind.{StandsBehind, TurnsAt, TurnsOn};
 
     /// A replay at the start of the operation, with room for all its open calls.
@@ -40,9 +44,11 @@ impl<'a> Replay<'a> {
         ensures { IfOk result (λ replay. (bits : List Bool) (targets : List ℕ) → StandsBehind map.now op bits targets replay []) }
     {
         let place = map.start(op).unwrap();
+        let index = RowIndex::of(alloc, map)?;
         let stack = Vec::with_capacity(alloc, PATH_LIMIT as usize)?;
         Ok(Replay {
             map,
+            index,
             op,
             place,
             stack,
@@ -84,8 +90,8 @@ impl<'a> Replay<'a> {
     fn row_behind(&self) -> Option<Row>
         ensures { result ≡ next self.now.map.now.rows self.now.place }
     {
-        let index = self.map.next_row(self.place)?;
-        self.map.rows.as_slice().get(index).copied()
+        let rows = self.map.rows.as_slice();
+        row_at_or_above::<Brand>(rows, &self.index, self.place, Blank::new(1))
     }
 
     /// Goes on by one turn.

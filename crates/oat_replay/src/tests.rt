@@ -237,22 +237,32 @@ fn turn_stays_where_it_is_stuck(rt: HostRuntime) -> Result<(), Fail> {
     Ok(())
 }
 
+/// Jumps in a row, each of which goes to the one that stands `stride` behind it, and the last ones
+/// round to the first.
+fn ring_map(alloc: Global, jumps: u32, stride: u32) -> Result<Map, AllocError> {
+    let mut rows = Vec::new(alloc);
+    rows.push(Row::Begin { at: 0x10000, op: 1 })?;
+    for k in 0..jumps {
+        let next = (u64::from(k) + u64::from(stride)) % u64::from(jumps);
+        rows.push(Row::Jump {
+            at: 0x10008 + 4 * u64::from(k),
+            to: 0x10008 + 4 * next,
+        })?;
+    }
+    map_of(alloc, rows.as_slice())
+}
+
 #[test]
-fn walk_of_an_endless_jump_reaches_the_limit(rt: HostRuntime) -> Result<(), Fail> {
-    let rows = [
-        Row::Begin { at: 0x10000, op: 1 },
-        Row::Jump {
-            at: 0x10008,
-            to: 0x10008,
-        },
-    ];
-    let map = map_of(rt.alloc(), &rows)?;
-    assert!(rt; map.ordered());
-    assert!(rt; map.start(1).is_some());
+fn walk_of_endless_jumps_reaches_the_limit(rt: HostRuntime) -> Result<(), Fail> {
     let nothing = few_records(&[], &[]).ok_or("too many records")?;
-    match walk(rt.alloc(), &map, 1, &nothing) {
-        Ok(_) => assert!(rt; false, "a path of an endless jump"),
-        Err(fault) => assert_eq!(rt; Some(fault), stuck(ReplayCause::PathLimit, 4_194_305)),
+    for (jumps, stride) in [(1, 0), (99_999, 49_999)] {
+        let map = ring_map(rt.alloc(), jumps, stride)?;
+        assert!(rt; map.ordered());
+        assert!(rt; map.start(1).is_some());
+        match walk(rt.alloc(), &map, 1, &nothing) {
+            Ok(_) => assert!(rt; false, "a path of endless jumps"),
+            Err(fault) => assert_eq!(rt; Some(fault), stuck(ReplayCause::PathLimit, 4_194_305)),
+        }
     }
     Ok(())
 }
