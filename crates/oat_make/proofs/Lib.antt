@@ -1,0 +1,7 @@
+mod Arriving
+mod Formed
+mod Helpers
+mod Made
+mod Rounds
+mod Running
+mod Written
