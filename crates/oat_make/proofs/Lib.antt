@@ -4,4 +4,5 @@ mod Helpers
 mod Made
 mod Rounds
 mod Running
+mod Worked
 mod Written

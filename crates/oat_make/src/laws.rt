@@ -1,5 +1,6 @@
 //! Laws of the drill, each the contract of a function that does nothing.
 ghost use Rattle.oat_make.specs.Laws.{DrillTextsAreShort, DrillsAreChecked, DrillsAreWritten, DrillsCanBeAttested, DrillsComplete, DrillsFit};
+ghost use Rattle.oat_make.specs.Worked.{FirstDrillIsShown};
 
 use oat_text::laws::printed_is_text;
 
@@ -33,4 +34,9 @@ pub fn drills_complete()
 /// Its case leaves room for that.
 pub fn drills_can_be_attested()
     ensures { DrillsCanBeAttested }
+{}
+
+/// The drill of 1 does what another program computed.
+pub fn first_drill_is_shown()
+    ensures { FirstDrillIsShown }
 {}
