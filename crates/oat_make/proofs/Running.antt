@@ -1,5 +1,5 @@
 -- The whole run: main calls the operation, which runs 80 rounds and returns, and main halts.
-use Rattle.std.proofs.Common.{◌||◌, ◌≡◌, ◌+◌, ◌-◌, ◌≤◌, ℕ, Bool, true, false, cond, List, [], ◌∷◌, ◌++◌, length, get_or, Option, Some, refl, sym, ap, ◌∙◌, arith, ℤ, length-append, append-nil}
+use Rattle.std.proofs.Common.{◌||◌, ◌≡◌, ◌+◌, ◌-◌, ◌≤◌, ℕ, Bool, true, false, cond, List, [], ◌∷◌, ◌++◌, length, get_or, Some, refl, sym, ap, ◌∙◌, arith, ℤ, length-append, append-nil}
 use Rattle.std.specs.Prelude.{slice_get}
 use Rattle.std.specs.Option.{option_and_then}
 use Rattle.std.specs.List.{filter_map, list_any}
@@ -11,7 +11,7 @@ use Rattle.oat_ir.specs.declared.func.Func.{Func}
 use Rattle.oat_events.specs.Windows.{through}
 use Rattle.oat_events.specs.Events as event
 use Rattle.oat_events.specs.Events.{SourceEvent, is_left}
-use Rattle.oat_events.specs.Source.{Finish, halted, state_after, shown_from, edge_taken, output_in, has_completed, outputs_of, path_of_call}
+use Rattle.oat_events.specs.Source.{halted, state_after, shown_from, edge_taken, output_in, has_completed, outputs_of, path_of_call}
 use Rattle.oat_events.proofs.SourceLaws.{state_after_more, shown_from_more}
 use Rattle.oat_check.specs.Globals.{Values, first_values}
 use Rattle.oat_check.specs.Naming.{written_edge}
@@ -19,8 +19,8 @@ use Rattle.oat_check.specs.Runs.{main_number, source_of, source_run, source_even
 use Rattle.oat_check.specs.Shown.{written_end}
 use Rattle.oat_check.specs.Steps.{LineEdge, finishes, LinePlace, Frame, SourceState, assigned, shows, operation_number, operation_of, calls, returns, line_place, current_line, result_at}
 use Rattle.oat_check.proofs.Sourcing.{ended_runs_stay}
-use Rattle.oat_make.specs.Drill.{drill_with, drill_work, drill_main, drill_limit, drill_constant, drill_inputs, drill_program}
-use Rattle.oat_make.specs.Laws.{Completes, DrillsComplete}
+use Rattle.oat_make.specs.Drill.{drill_work, drill_main, drill_limit, drill_constant, drill_inputs, drill_program}
+use Rattle.oat_make.specs.Laws.{DrillsComplete}
 use Rattle.oat_make.proofs.Arriving.{Events, EventCounts, Arrives, arrives_on, runs_in, steps_in}
 use Rattle.oat_make.proofs.Helpers.{standing}
 use Rattle.oat_make.proofs.Rounds.{IsDrill, work_is, at_test, tested, goes_out, rounds}

@@ -1,11 +1,9 @@
 -- The drill's text is what is printed for its program, and so a text of it; it is short. The case is well formed, and leaves room for the run.
-use Rattle.std.proofs.Common.{◌≡◌, ◌+◌, ◌*◌, ◌<◌, ◌%◌, ◌^◌, ◌≤◌, Bool, true, ℕ, ℤ, pos, List, [], ◌∷◌, ◌++◌, length, map, refl, subst, ap, ◌∙◌, lit<, arith, ltb-true, length-append}
-use Rattle.std.specs.Prelude.{All, IsTrue, nat_lt}
-use Rattle.std.specs.Fmt.{digits, signed_decimal}
+use Rattle.std.proofs.Common.{◌≡◌, ◌+◌, ◌<◌, ◌%◌, ◌^◌, ◌≤◌, Bool, true, ℕ, ℤ, pos, List, [], ◌∷◌, ◌++◌, map, refl, subst, lit<, arith}
+use Rattle.std.specs.Prelude.{All, IsTrue}
+use Rattle.std.specs.Fmt.{digits}
 use Rattle.std.specs.List.{AllByRecursion, flat_map, list_all, range_with_len}
 use Rattle.std.proofs.lemmas.Bool.{lt-ltb}
-use Rattle.std.proofs.lemmas.Fmt.{length-decimal-le}
-use Rattle.std.proofs.lemmas.List.Concat.{flat_map-append}
 use Rattle.std.proofs.lemmas.List.Elements.{All-append, All-from_recursion}
 use Rattle.std.proofs.Math.Nat.{mod-lt}
 use Rattle.oat_map.specs.Name.{IsName, is_name}
@@ -13,14 +11,13 @@ use Rattle.oat_map.proofs.NameTests.{name_from_test}
 use Rattle.oat_lines.specs.Fields.{ended}
 use Rattle.oat_lines.specs.Integer.{is_i64}
 use Rattle.oat_ir.specs.declared.func.Local.{Local}
-use Rattle.oat_ir.specs.declared.instr.Instr.{Instr}
 use Rattle.oat_ir.specs.declared.instr.Instr.TheVariants.{Input}
 use Rattle.oat_text.specs.Grammar.{IsProgramText, program_text}
 use Rattle.oat_text.specs.Laws.{HasGlobalValues, HasConstant, HasBlockValues, HasFuncValues, HasValues, PrintedIsText}
 use Rattle.oat_case.specs.Limits.{IsWellFormedCase}
 use Rattle.oat_make.specs.Drill.{helper, helper_name, helper_call, round_instrs, drill_work, drill_main, drill_with, drill_limit, drill_constant, draw, drill_program}
-use Rattle.oat_make.specs.Text.{drill_case, drill_text, drill_lines, helper_lines, work_lines, main_lines}
-use Rattle.oat_make.specs.Laws.{DrillsAreWritten, DrillTextsAreShort, DrillsCanBeAttested}
+use Rattle.oat_make.specs.Text.{drill_case, drill_lines}
+use Rattle.oat_make.specs.Laws.{DrillsAreWritten, DrillsCanBeAttested}
 use Rattle.oat_make.proofs.Formed.{both, formed, instrs_at, last_instrs}
 use Rattle.oat_make.proofs.Running.{drills_complete}
 

@@ -1,5 +1,5 @@
 -- What holds of the drill of every number: its text is read and its program checked, its code is small, its operation completes, and its case leaves room for that.
-use Rattle.std.specs.Prelude.{◌≡◌, ◌≤◌, ◌+◌, ◌*◌, ℕ, true, List, [], length}
+use Rattle.std.specs.Prelude.{◌≡◌, ◌≤◌, ◌+◌, ◌*◌, ℕ, true, [], length}
 use Rattle.std.specs.List.{sum_by}
 use Rattle.oat_ir.specs.declared.program.Program.{Program}
 use Rattle.oat_ir.specs.declared.source.SourceEnd.TheVariants.{Halted}
