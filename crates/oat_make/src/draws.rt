@@ -12,8 +12,10 @@ impl Draws {
         ensures stirred { self.new.state ≡ stirred self.old.state }
         ensures drawn { result ≡ stirred self.old.state / 2 ^ 33 }
     {
-        let next: u128 = u128::from(self.state) * 6364136223846793005 + 1442695040888963407;
-        self.state = (next % 18446744073709551616) as u64;
-        self.state / 8589934592
+        self.state = self
+            .state
+            .wrapping_mul(6364136223846793005)
+            .wrapping_add(1442695040888963407);
+        self.state >> 33
     }
 }

@@ -5,6 +5,7 @@ ghost use Rattle.oat_make.specs.Text.{drill_text, helper_lines, main_lines, work
 use crate::draws::Draws;
 use std::alloc::{AllocError, Global};
 
+/// Bytes behind the text so far.
 fn put(out: &mut Vec<u8>, bytes: &[u8]) -> Result<(), AllocError>
     ensures { OnOk result (out.new.items ≡ out.old.items ++ bytes.now) }
 {
@@ -23,14 +24,33 @@ fn put_helper(out: &mut Vec<u8>, j: u64, constant: u64) -> Result<(), AllocError
     ensures { OnOk result (out.new.items ≡ out.old.items ++ flat_map ended (helper_lines j (pos constant))) }
 {
     let lines = format!(in *out.allocator();
-        "func h{j} v:i64\nlocal k i64\nlocal m i64\nlocal c i64\nblock b0\nconst k {constant}\nadd v v k\nload m limit\nlt c m v\nbranch c over under\nblock over\nsub v v m\nret v\nblock under\nret v\nend\n"
+        "func h{j} v:i64\n\
+        local k i64\nlocal m i64\nlocal c i64\n\
+        block b0\nconst k {constant}\nadd v v k\nload m limit\nlt c m v\nbranch c over under\n\
+        block over\nsub v v m\nret v\n\
+        block under\nret v\n\
+        end\n"
     )?;
     put(out, lines.as_bytes())
 }
 
 /// The operation and the main function, which are those of each number.
-const WORK_AND_MAIN: &[u8] =
-    b"operation 1 work n:i64\nlocal i i64\nlocal one i64\nlocal x i64\nlocal c i64\nlocal f fn/1\nblock b0\nconst one 1\njump test\nblock test\nlt c i n\nbranch c body done\nblock body\nin x\ncall x h0 x\ncall x h1 x\ncall x h2 x\ncall x h3 x\ncall x h4 x\ncall x h5 x\ncall x h6 x\ncall x h7 x\ncall x h8 x\ncall x h9 x\ncall x h10 x\ncall x h11 x\ncall x h12 x\ncall x h13 x\ncall x h14 x\ncall x h15 x\nref f h0\nicall x f x\nout x\nadd i i one\njump test\nblock done\nret i\nend\nmain\nlocal n i64\nlocal s i64\nblock b0\nconst n 80\ncall s work n\nhalt\nend\n";
+const WORK_AND_MAIN: &[u8] = b"operation 1 work n:i64\n\
+    local i i64\nlocal one i64\nlocal x i64\nlocal c i64\nlocal f fn/1\n\
+    block b0\nconst one 1\njump test\n\
+    block test\nlt c i n\nbranch c body done\n\
+    block body\nin x\n\
+    call x h0 x\ncall x h1 x\ncall x h2 x\ncall x h3 x\n\
+    call x h4 x\ncall x h5 x\ncall x h6 x\ncall x h7 x\n\
+    call x h8 x\ncall x h9 x\ncall x h10 x\ncall x h11 x\n\
+    call x h12 x\ncall x h13 x\ncall x h14 x\ncall x h15 x\n\
+    ref f h0\nicall x f x\nout x\nadd i i one\njump test\n\
+    block done\nret i\n\
+    end\n\
+    main\n\
+    local n i64\nlocal s i64\n\
+    block b0\nconst n 80\ncall s work n\nhalt\n\
+    end\n";
 
 fn put_work_and_main(out: &mut Vec<u8>) -> Result<(), AllocError>
     ensures { OnOk result (out.new.items ≡ out.old.items ++ flat_map ended (work_lines ++ main_lines)) }
