@@ -130,31 +130,31 @@ module _ (p : Program) (inputs : List ℤ) (d : IsDrill p) (g : Frame) (globals 
       subst (λ (c : Bool). Arrives p inputs (at_test l g globals ins) (standing 16 1 1 (assigned l 4 (truth c)) (g ∷ []) globals ins) 1 0 0) is
       (runs_in p inputs 16 drill_work (work_is p d) 1 (at_test l g globals ins) 0 0 (refl, refl, tt) (record { edges_are = refl; puts_are = refl; within = refl }))
 
-  a_round : (l : ℕ → ℕ) (k : ℕ) (value : ℤ) (ins : List ℤ) → AtRound l k → k < 80 → RoundsRan p inputs (at_test l g globals (value ∷ ins)) (suc k) g globals ins 143 53 1
-  a_round l k value ins at less =
-      let w : ℕ → ℕ = assigned (assigned l 4 1) 3 (number value) in
-      let go = tested l (value ∷ ins) true (goes_on l k at less) in
-      let takes : Arrives p inputs (standing 16 1 1 (assigned l 4 1) (g ∷ []) globals (value ∷ ins)) (in_round 1 w g globals ins) 2 1 0
-      = runs_in p inputs 16 drill_work (work_is p d) 2 (standing 16 1 1 (assigned l 4 1) (g ∷ []) globals (value ∷ ins)) 1 0 (refl, refl, (refl, refl, tt)) (record { edges_are = refl; puts_are = refl; within = refl }) in
-      let sixteen = all_calls (in_round 1 w g globals ins) w ins (record { now = w; count = refl; round = refl; one = refl; arrives = arrives_at_once p inputs (in_round 1 w g globals ins) }) in
-      let v : ℕ → ℕ = sixteen.now in
-      let ref : Arrives p inputs (in_round 17 v g globals ins) (in_round 18 (assigned v 5 1) g globals ins) 1 0 0
+  -- behind the calls
+  round_ends : (v : ℕ → ℕ) (k : ℕ) (ins : List ℤ) → AtRound v k → k < 80 → RoundsRan p inputs (in_round 17 v g globals ins) (suc k) g globals ins 12 4 1
+  round_ends v k ins at less =
+      let refers : Arrives p inputs (in_round 17 v g globals ins) (in_round 18 (assigned v 5 1) g globals ins) 1 0 0
       = runs_in p inputs 16 drill_work (work_is p d) 1 (in_round 17 v g globals ins) 0 0 (refl, refl, tt) (record { edges_are = refl; puts_are = refl; within = refl }) in
       let icall = called 18 19 0 (assigned v 5 1) ins (icalls (line_place (frame_at 18 v)) 0) (ap (λ fs. slice_get fs 0) d.funcs) refl refl
       (step_is p 16 drill_work (in_round 18 (assigned v 5 1) g globals ins) (work_is p d) refl refl) in
       let u : ℕ → ℕ = assigned (assigned v 5 1) 3 icall.value in
-      let out : Arrives p inputs (in_round 19 u g globals ins) (at_test (assigned u 1 (wrap (u 1 + u 2))) g globals ins) 3 1 1
+      let puts : Arrives p inputs (in_round 19 u g globals ins) (at_test (assigned u 1 (wrap (v 1 + v 2))) g globals ins) 3 1 1
       = runs_in p inputs 16 drill_work (work_is p d) 3 (in_round 19 u g globals ins) 1 1 (refl, refl, (refl, refl, (refl, refl, tt))) (record { edges_are = refl; puts_are = refl; within = refl }) in
-      let all = arrives_on go (arrives_on takes (arrives_on sixteen.arrives (arrives_on ref (arrives_on icall.arrives out)))) in
       record {
-        later = assigned u 1 (wrap (u 1 + u 2));
-        at = record {
-          count = sixteen.count ∙ at.count;
-          round = ap (λ (x : ℕ). wrap (x + v 2)) (sixteen.round ∙ at.round) ∙ ap (λ (x : ℕ). wrap (k + x)) (sixteen.one ∙ at.one) ∙ small_mod k less;
-          one = sixteen.one ∙ at.one;
-        };
-        arrives = all;
+        later = assigned u 1 (wrap (v 1 + v 2));
+        at = record { count = at.count; round = ap (λ (x : ℕ). wrap (x + v 2)) at.round ∙ ap (λ (x : ℕ). wrap (k + x)) at.one ∙ small_mod k less; one = at.one };
+        arrives = arrives_on refers (arrives_on icall.arrives puts);
       }
+
+  a_round : (l : ℕ → ℕ) (k : ℕ) (value : ℤ) (ins : List ℤ) → AtRound l k → k < 80 → RoundsRan p inputs (at_test l g globals (value ∷ ins)) (suc k) g globals ins 143 53 1
+  a_round l k value ins at less =
+      let w : ℕ → ℕ = assigned (assigned l 4 1) 3 (number value) in
+      let goes = tested l (value ∷ ins) true (goes_on l k at less) in
+      let takes : Arrives p inputs (standing 16 1 1 (assigned l 4 1) (g ∷ []) globals (value ∷ ins)) (in_round 1 w g globals ins) 2 1 0
+      = runs_in p inputs 16 drill_work (work_is p d) 2 (standing 16 1 1 (assigned l 4 1) (g ∷ []) globals (value ∷ ins)) 1 0 (refl, refl, (refl, refl, tt)) (record { edges_are = refl; puts_are = refl; within = refl }) in
+      let sixteen = all_calls (in_round 1 w g globals ins) w ins (record { now = w; count = refl; round = refl; one = refl; arrives = arrives_at_once p inputs (in_round 1 w g globals ins) }) in
+      let ends = round_ends sixteen.now k ins (record { count = sixteen.count ∙ at.count; round = sixteen.round ∙ at.round; one = sixteen.one ∙ at.one }) less in
+      record { later = ends.later; at = ends.at; arrives = arrives_on goes (arrives_on takes (arrives_on sixteen.arrives ends.arrives)) }
 
   -- all that are left
   pub rounds : (left k : ℕ) → left + k ≡ 80 → (l : ℕ → ℕ) (ins : List ℤ) → length ins ≡ left → AtRound l k

@@ -25,17 +25,17 @@ DrillTextsAreShort = (n : ℕ) → length (drill_text n) ≤ 4096
 abbrev pub DrillsAreChecked : Type 0
 DrillsAreChecked = (n : ℕ) → IsChecked (drill_program n)
 
--- instructions and terminators
-abbrev pub lines_in_all : Program → ℕ
-lines_in_all p = sum_by (λ f. sum_by (λ b. length b.instrs + 1) f.blocks) p.funcs
+-- how many instructions and terminators a program has
+abbrev pub line_total : Program → ℕ
+line_total p = sum_by (λ func. sum_by (λ block. length block.instrs + 1) func.blocks) p.funcs
 
--- what bounds the words of a program's code
-abbrev pub words_at_most : Program → ℕ
-words_at_most p = 32 * lines_in_all p + 300 * length p.funcs
+-- the bound on the words of its code: 32 for each of them, and 300 for each function
+abbrev pub most_words : Program → ℕ
+most_words p = 32 * line_total p + 300 * length p.funcs
 
 pub record DrillsFit : Type 0 where
-  pub words : (n : ℕ) → words_at_most (drill_program n) ≡ 10456
-  pub fits : (n : ℕ) → words_at_most (drill_program n) ≤ 131072
+  pub words : (n : ℕ) → most_words (drill_program n) ≡ 10456
+  pub fits : (n : ℕ) → most_words (drill_program n) ≤ 131072
 
 -- ---- its run
 
