@@ -1,0 +1,8 @@
+mod Arriving
+mod Formed
+mod Helpers
+mod Made
+mod Rounds
+mod Running
+mod Worked
+mod Written

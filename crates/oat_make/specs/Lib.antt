@@ -1,0 +1,4 @@
+pub mod Drill
+pub mod Laws
+pub mod Text
+pub mod Worked
