@@ -16,3 +16,6 @@ mod moves;
 
 pub use fault::GenFault;
 pub use generation::generate;
+
+#[cfg(test)]
+mod tests;
