@@ -1,0 +1,3 @@
+mod Layout
+mod Fronts
+mod Rooms

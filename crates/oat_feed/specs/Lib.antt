@@ -1,0 +1,4 @@
+pub mod RecordBytes
+pub mod RecordPlaces
+pub mod Verdict
+pub mod Standing
