@@ -1,3 +1,7 @@
-mod Layout
+mod PartsAt
 mod Fronts
-mod Rooms
+mod RoomLeft
+mod PlacesAre
+mod Extending
+mod Replaying
+mod Settling

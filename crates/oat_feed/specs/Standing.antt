@@ -11,12 +11,12 @@ use Rattle.oat_feed.specs.declared.feed.Feed.{Feed}
 use Rattle.oat_feed.specs.RecordPlaces.{records_before}
 
 -- beside the record bytes of the front there is room for all other bytes of a blob, and for a chunk
-abbrev pub HasRoom : List ℕ → ℕ → Type 0
-HasRoom front capacity = (body : Body) (mac rest : List ℕ) → IsBlob (front ++ rest) body mac → records_before body (length front) + 4248 ≤ capacity
+abbrev pub KeepsRoom : List ℕ → ℕ → Type 0
+KeepsRoom front capacity = (body : Body) (mac rest : List ℕ) → IsBlob (front ++ rest) body mac → records_before body (length front) + 4248 ≤ capacity
 
 -- all bytes are in the front; or the next one is one that no blob has there
 abbrev pub KeepsFront : State → (came front : List ℕ) (capacity : ℕ) → Type 0
-KeepsFront Open came front capacity = (came ≡ front) × HasRoom front capacity
+KeepsFront Open came front capacity = (came ≡ front) × KeepsRoom front capacity
 KeepsFront Broken came front capacity = (length front < length came) × (front ≡ take (length front) came) × (BeginsBlob (take (suc (length front)) came) → ⊥)
 KeepsFront Spent came front capacity = ⊥
 

@@ -1,4 +1,6 @@
-ghost use Rattle.oat_map.specs.Rows.{IsOperation};
+ghost use Rattle.std.specs.Prelude.{IsSome};
+ghost use Rattle.std.proofs.Props.{props};
+ghost use Rattle.oat_map.specs.Rows.{start};
 
 use crate::intake::{Intake, State};
 use crate::judging::judge_bytes;
@@ -16,11 +18,12 @@ pub struct Feed<'a> {
     shaped: &'a Shaped,
     session: &'a Session,
     intake: Intake,
-    ghost operation: { IsOperation shaped.now.map session.now.op },
+    ghost begun: { IsSome (start shaped.now.map.rows session.now.op) } by { Prim.hlevel props },
 }
 
 impl<'a> Feed<'a> {
     ghost use Rattle.std.specs.Prelude.{ℕ, ◌≡◌, List, [], ◌++◌, IfOk, OnOk, OnErr, IsErr};
+    ghost use Rattle.oat_map.specs.Rows.{IsOperation};
     ghost use Rattle.oat_verify.specs.Verdict.{Subject, subject_of, CarriesSerial};
     ghost use Rattle.oat_feed.specs.RecordBytes.{HasRecordByte};
     ghost use Rattle.oat_feed.specs.Verdict.{IsFeedVerdict, AreRecordsOf};
@@ -58,10 +61,10 @@ impl<'a> Feed<'a> {
     ///
     /// The error is want of memory.
     pub fn settle(self, alloc: Global) -> Result<Settled, AllocError>
-        ensures verdict { (s : Subject) (came : List ℕ) → HasBeenFed self s came → IfOk result (λ settled. IsFeedVerdict s came settled.verdict) }
-        ensures kept { (s : Subject) (came : List ℕ) → HasBeenFed self s came → IfOk result (λ settled. AreRecordsOf came settled.kept) }
-        ensures serial { (s : Subject) (came : List ℕ) → HasBeenFed self s came → IfOk result (λ settled. CarriesSerial came settled.serial) }
-        ensures ended { IsSpentFeed self → IsErr result }
+        ensures verdict { (s : Subject) (came : List ℕ) → HasBeenFed self.entry s came → IfOk result (λ settled. IsFeedVerdict s came settled.verdict) }
+        ensures kept { (s : Subject) (came : List ℕ) → HasBeenFed self.entry s came → IfOk result (λ settled. AreRecordsOf came settled.kept) }
+        ensures serial { (s : Subject) (came : List ℕ) → HasBeenFed self.entry s came → IfOk result (λ settled. CarriesSerial came settled.serial) }
+        ensures ended { IsSpentFeed self.entry → IsErr result }
     {
         match self.intake.state {
             State::Open => {
@@ -86,8 +89,8 @@ impl<'a> Feed<'a> {
     ///
     /// The error is want of memory.
     pub fn finish(self, alloc: Global) -> Result<FeedVerdict, AllocError>
-        ensures verdict { (s : Subject) (came : List ℕ) → HasBeenFed self s came → IfOk result (IsFeedVerdict s came) }
-        ensures ended { IsSpentFeed self → IsErr result }
+        ensures verdict { (s : Subject) (came : List ℕ) → HasBeenFed self.entry s came → IfOk result (IsFeedVerdict s came) }
+        ensures ended { IsSpentFeed self.entry → IsErr result }
     {
         let settled = self.settle(alloc)?;
         Ok(settled.verdict)

@@ -47,7 +47,7 @@ fn begun(bytes: &[u8]) -> usize
 }
 
 impl Intake {
-    ghost use Rattle.std.specs.Prelude.{ℕ, ◌≤◌, List, [], ◌++◌, length, IfOk, OnOk, OnErr, IsErr};
+    ghost use Rattle.std.specs.Prelude.{ℕ, ◌≡◌, ◌≤◌, List, [], ◌++◌, length, IfOk, OnOk, OnErr, IsErr};
     ghost use Rattle.oat_feed.specs.RecordBytes.{HasRecordByte};
     ghost use Rattle.oat_feed.specs.Standing.{TakesIn, IsSpent};
 

@@ -1,6 +1,6 @@
-ghost use Rattle.std.specs.Prelude.{◌≡◌, ℕ, List, IfOk};
+ghost use Rattle.std.specs.Prelude.{◌≡◌, ℕ, List, IfOk, IsSome};
 ghost use Rattle.oat_map.specs.declared.edge.Edge.{Edge};
-ghost use Rattle.oat_map.specs.Rows.{IsOperation};
+ghost use Rattle.oat_map.specs.Rows.{start};
 ghost use Rattle.oat_map.specs.Walk.{returns_of};
 ghost use Rattle.oat_blob.specs.Body.{Body};
 ghost use Rattle.oat_chain.specs.Standing.{StandsFor};
@@ -47,7 +47,7 @@ fn replay(
     session: &Session,
     blob: &BlobRef<'_>,
 ) -> Result<FeedVerdict, AllocError>
-    requires { IsOperation shaped.now.map session.now.op }
+    requires { IsSome (start shaped.now.map.rows session.now.op) }
     ensures { IfOk result (Tells (Replays (subject_of shaped.now session.now) blob.now.body)) }
 {
     let body = blob.head();
@@ -72,7 +72,7 @@ fn judge(
     session: &Session,
     blob: &BlobRef<'_>,
 ) -> Result<FeedVerdict, AllocError>
-    requires { IsOperation shaped.now.map session.now.op }
+    requires { IsSome (start shaped.now.map.rows session.now.op) }
     ensures { IfOk result (Tells (Judges (subject_of shaped.now session.now) blob.now.body blob.now.mac)) }
 {
     match screen(shaped, session, blob) {
@@ -88,7 +88,7 @@ pub fn judge_bytes(
     session: &Session,
     bytes: &[u8],
 ) -> Result<Judged, AllocError>
-    requires { IsOperation shaped.now.map session.now.op }
+    requires { IsSome (start shaped.now.map.rows session.now.op) }
     ensures verdict { IfOk result (λ judged. IsFeedVerdict (subject_of shaped.now session.now) bytes.now judged.verdict) }
     ensures serial { IfOk result (λ judged. CarriesSerial bytes.now judged.serial) }
     ensures within { IfOk result (λ judged. AreWithin judged.places bytes.now) }

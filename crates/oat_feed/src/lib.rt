@@ -1,8 +1,8 @@
 //! The verdict on a blob that comes in pieces, whose memory grows by the record bytes that came.
 #![tactic(auto)]
 
-mod fields;
 mod feed;
+mod fields;
 mod intake;
 mod judging;
 mod kept;

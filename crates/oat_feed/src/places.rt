@@ -1,9 +1,12 @@
-ghost use Rattle.std.specs.Prelude.{◌≡◌, ◌<◌, ℕ, List, ◌++◌, length, MatchOption};
+ghost use Rattle.std.specs.Prelude.{◌≡◌, ◌<◌, ◌≤◌, ◌+◌, ℕ, Bool, Option, List, [], ◌∷◌, ◌++◌, length, MatchOption, IfSome};
+ghost use Rattle.oat_blob.specs.declared.body.Violation.{Violation};
 ghost use Rattle.oat_blob.specs.Body.{Body};
-ghost use Rattle.oat_blob.specs.Layout.{IsBlob};
-ghost use Rattle.oat_blob.specs.Parts.{head_part};
+ghost use Rattle.oat_blob.specs.Laws.{flag_place};
+ghost use Rattle.oat_blob.specs.Layout.{IsBlob, version_part, violation_part};
+ghost use Rattle.oat_feed.specs.RecordBytes.{bits_place};
+ghost use Rattle.oat_feed.specs.Counts.{IsCountAt};
 
-use crate::fields::{array_at, u32_at};
+use crate::fields::array_at;
 
 /// Where the records stand in bytes that begin a blob: a part whose count hasn't come is empty.
 #[derive(Clone, Copy, Debug, PartialEq, Eq)]
@@ -16,15 +19,42 @@ pub struct RecordPlaces {
 
 const VERSION_AT: usize = 4;
 
-/// The bytes of a blob's head, where the flag at its end has come.
-fn head_size(front: &[u8]) -> Option<usize>
-    ensures { (body : Body) (mac rest : List ℕ) → IsBlob (front.now ++ rest) body mac
-        → MatchOption result (length front.now < length (head_part body.head)) (λ size. size ≡ length (head_part body.head)) }
+/// The place of the flag, by the version.
+fn flag_at(version: u8) -> usize
+    ensures low { result ≤ 91 }
+    ensures place { (numbered : Bool) → version ∷ [] ≡ version_part numbered → result ≡ flag_place numbered }
 {
-    let [version] = array_at(front, VERSION_AT)?;
-    let flag_at = if version == 2 { 91 } else { 87 };
-    let [flag] = array_at(front, flag_at)?;
-    Some(if flag == 1 { flag_at + 21 } else { flag_at + 1 })
+    if version == 2 { 91 } else { 87 }
+}
+
+/// How many bytes the flag and what it announces have.
+fn flagged_size(flag: u8) -> usize
+    ensures few { result ≤ 21 }
+    ensures size { (violation : Option Violation) (rest : List ℕ) → flag ∷ rest ≡ violation_part violation → result ≡ length (violation_part violation) }
+{
+    if flag == 1 { 21 } else { 1 }
+}
+
+/// The bytes of a blob's head, where its flag has come.
+fn head_size(front: &[u8]) -> Option<usize>
+    ensures few { IfSome result (λ size. size ≤ 112) }
+    ensures size { (body : Body) (mac rest : List ℕ) → IsBlob (front.now ++ rest) body mac
+        → MatchOption result (length front.now < bits_place body) (λ size. size + 4 ≡ bits_place body) }
+{
+    let [version] = array_at::<1>(front, VERSION_AT)?;
+    let flag_at = flag_at(version);
+    let [flag] = array_at::<1>(front, flag_at)?;
+    Some(flag_at + flagged_size(flag))
+}
+
+/// The number of records that stands at a place; none where its bytes haven't come.
+fn count_at(front: &[u8], at: usize) -> u32
+    ensures { IsCountAt front.now at result }
+{
+    match array_at(front, at) {
+        Some(field) => u32::from_be_bytes(field),
+        None => 0,
+    }
 }
 
 impl RecordPlaces {
@@ -49,16 +79,14 @@ impl RecordPlaces {
         let Some(size) = head_size(front) else {
             return RecordPlaces::NONE;
         };
-        let Some(bit_count) = u32_at(front, size) else {
-            return RecordPlaces::NONE;
-        };
         let bits_at = size + 4;
+        let bit_count = count_at(front, size);
         let bits_end = bits_at + (bit_count as usize).div_ceil(8);
         RecordPlaces {
             bits_at,
             bit_count,
             targets_at: bits_end + 4,
-            target_count: u32_at(front, bits_end).unwrap_or(0),
+            target_count: count_at(front, bits_end),
         }
     }
 
@@ -68,6 +96,7 @@ impl RecordPlaces {
     {
         let bits = length.saturating_sub(self.bits_at);
         let targets = length.saturating_sub(self.targets_at);
-        bits.min((self.bit_count as usize).div_ceil(8)) + targets.min(self.target_count as usize * 8)
+        bits.min((self.bit_count as usize).div_ceil(8))
+            + targets.min(self.target_count as usize * 8)
     }
 }
