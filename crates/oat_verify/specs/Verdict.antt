@@ -96,6 +96,11 @@ pub record Accepts (s : Subject) (bytes : List ℕ) (path : List Edge) : Type 0 
   pub hash : body.head.hash ≡ chain (head_of s body.head.serial) (returns_of path)
   pub clean : body.head.violation ≡ None
 
+-- the verdict on a path where nothing, or this cause, stands against it
+abbrev pub verdict_by : List Edge → Option Cause → Verdict
+verdict_by path None = Accept path
+verdict_by path (Some cause) = Refuse cause
+
 -- ---- laws
 
 -- An acceptance is a verdict, and there is no other acceptance.

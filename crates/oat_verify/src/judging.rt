@@ -1,14 +1,18 @@
-ghost use Rattle.std.specs.Prelude.{◌≡◌, ◌↔◌, ◌++◌, ◌∷◌, [], ℕ, List, IsTrue, IfOk};
+ghost use Rattle.std.specs.Prelude.{◌≡◌, ◌↔◌, ◌++◌, ◌∷◌, [], ℕ, List, IsTrue, IfOk, MatchOption};
 ghost use Rattle.oat_hmac.specs.Hmac.{hmac};
 ghost use Rattle.oat_chain.specs.Chain.{chain};
 ghost use Rattle.oat_chain.specs.Standing.{StandsFor};
+ghost use Rattle.oat_map.specs.declared.edge.Edge.{Edge};
 ghost use Rattle.oat_map.specs.Walk.{returns_of};
+ghost use Rattle.oat_blob.specs.Body.{Body};
 ghost use Rattle.oat_blob.specs.Layout.{covered_of};
 ghost use Rattle.oat_map.specs.Rows.{IsOperation};
-ghost use Rattle.oat_verify.specs.Verdict.{subject_of, FitsSession, Judges, JudgesPath, Replays, IsVerdict, CarriesSerial};
+ghost use Rattle.oat_verify.specs.declared.verdict.Verdict.{Verdict};
+ghost use Rattle.oat_verify.specs.declared.verdict.Verdict.TheVariants.{Refuse};
+ghost use Rattle.oat_verify.specs.Verdict.{subject_of, FitsSession, Judges, JudgesPath, Replays, IsVerdict, CarriesSerial, verdict_by};
 
 use crate::verdict::{Cause, Settled, Verdict};
-use oat_blob::{BlobRef, decode};
+use oat_blob::{BlobRef, BodyHead, decode};
 use oat_case::Session;
 use oat_chain::{Chain, window_head};
 use oat_hmac::Mac;
@@ -37,7 +41,7 @@ fn fits_session(serial: Option<u32>, calls: Option<u32>) -> bool
 }
 
 /// Chains the return that an edge makes, if it makes one.
-fn absorb_return(chain: &mut Chain, edge: &Edge)
+pub fn absorb_return(chain: &mut Chain, edge: &Edge)
     ensures { (head returns : List ℕ) → StandsFor chain.old head returns
         → StandsFor chain.new head (returns ++ returns_of (edge.now ∷ [])) }
 {
@@ -57,16 +61,26 @@ fn hash_of(head: &[u8; 50], path: &[Edge]) -> [u8; 32]
     chain.digest()
 }
 
+/// What stands against a path that the replay has found: its hash, by the chain of its returns, or a violation.
+pub fn report(body: &BodyHead, hash: &[u8; 32]) -> Option<Cause>
+    ensures { (head : List ℕ) (blob : Body) (path : List Edge) → blob.head ≡ body.now → hash.now ≡ chain head (returns_of path)
+        → JudgesPath head blob path (verdict_by path result) }
+{
+    if body.hash != *hash {
+        return Some(Cause::Hash);
+    }
+    match body.violation {
+        Some(violation) => Some(Cause::Critical(violation)),
+        None => None,
+    }
+}
+
 /// What is looked at once the replay has found a path.
 fn judge_path(head: &[u8; 50], blob: &BlobRef<'_>, path: Path) -> Verdict
     ensures { JudgesPath head.now blob.now.body path result }
 {
-    let body = blob.head();
-    if body.hash != hash_of(head, path.as_slice()) {
-        return Verdict::Refuse(Cause::Hash);
-    }
-    match body.violation {
-        Some(violation) => Verdict::Refuse(Cause::Critical(violation)),
+    match report(&blob.head(), &hash_of(head, path.as_slice())) {
+        Some(cause) => Verdict::Refuse(cause),
         None => Verdict::Accept(path),
     }
 }
@@ -93,6 +107,32 @@ fn replay(
     }
 }
 
+/// The first thing that stands against a blob before its replay: its MAC, nonce, serial number, operation or image.
+pub fn screen(shaped: &Shaped, session: &Session, blob: &BlobRef<'_>) -> Option<Cause>
+    ensures { MatchOption result
+        ((verdict : Verdict) → Replays (subject_of shaped.now session.now) blob.now.body verdict
+            → Judges (subject_of shaped.now session.now) blob.now.body blob.now.mac verdict)
+        (λ cause. Judges (subject_of shaped.now session.now) blob.now.body blob.now.mac (Refuse cause)) }
+{
+    let head = blob.head();
+    if !has_right_mac(session, blob) {
+        return Some(Cause::Mac);
+    }
+    if head.nonce != session.nonce {
+        return Some(Cause::Nonce);
+    }
+    if !fits_session(head.serial, session.calls) {
+        return Some(Cause::Serial(head.serial));
+    }
+    if head.op != session.op {
+        return Some(Cause::Operation);
+    }
+    if head.digest != shaped.digest() {
+        return Some(Cause::Image);
+    }
+    None
+}
+
 /// The verdict on bytes that are a blob.
 fn judge(
     alloc: Global,
@@ -103,23 +143,10 @@ fn judge(
     requires { IsOperation shaped.now.map session.now.op }
     ensures { IfOk result (Judges (subject_of shaped.now session.now) blob.now.body blob.now.mac) }
 {
-    let head = blob.head();
-    if !has_right_mac(session, blob) {
-        return Ok(Verdict::Refuse(Cause::Mac));
+    match screen(shaped, session, blob) {
+        Some(cause) => Ok(Verdict::Refuse(cause)),
+        None => replay(alloc, shaped, session, blob),
     }
-    if head.nonce != session.nonce {
-        return Ok(Verdict::Refuse(Cause::Nonce));
-    }
-    if !fits_session(head.serial, session.calls) {
-        return Ok(Verdict::Refuse(Cause::Serial(head.serial)));
-    }
-    if head.op != session.op {
-        return Ok(Verdict::Refuse(Cause::Operation));
-    }
-    if head.digest != shaped.digest() {
-        return Ok(Verdict::Refuse(Cause::Image));
-    }
-    replay(alloc, shaped, session, blob)
 }
 
 /// The verdict on a blob's bytes, in a session for one of the image's operations, and the serial

@@ -1,0 +1,7 @@
+mod PartsAt
+mod Fronts
+mod RoomLeft
+mod PlacesAre
+mod Extending
+mod Replaying
+mod Settling

@@ -1,0 +1,5 @@
+pub mod RecordBytes
+pub mod Counts
+pub mod RecordPlaces
+pub mod Verdict
+pub mod Standing
