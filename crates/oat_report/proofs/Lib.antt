@@ -3,3 +3,5 @@ pub mod Splitting
 mod Listing
 pub mod Sites
 pub mod SameLines
+mod PlainTexts
+mod JsonTexts

@@ -4,3 +4,5 @@ pub mod SameLines
 pub mod VerdictLine
 pub mod WorkedLines
 pub mod SourceLine
+pub mod JsonLine
+pub mod JsonData

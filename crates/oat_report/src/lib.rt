@@ -1,6 +1,7 @@
 //! The texts of an owner's report.
 #![tactic(auto)]
 
+mod json_report;
 pub mod laws;
 mod line;
 mod place;
@@ -8,6 +9,7 @@ mod source;
 mod text;
 mod verdict;
 
+pub use json_report::{Report, json_line};
 pub use line::{call_of, path_line};
 pub use place::{block_at, function_at, last_below, number_in_place, place_at_or_below};
 pub use source::source_line;

@@ -84,7 +84,8 @@ fn put_serial(out: &mut Vec<u8>, serial: Option<u32>) -> Result<(), AllocError>
     }
 }
 
-fn put_cause(out: &mut Vec<u8>, cause: &Cause) -> Result<(), AllocError>
+/// Adds the text of a cause.
+pub fn put_cause(out: &mut Vec<u8>, cause: &Cause) -> Result<(), AllocError>
     ensures { OnOk result (out.new.items ≡ out.old.items ++ cause_text cause.now) }
 {
     match *cause {
