@@ -1,12 +1,12 @@
 -- What holds of the code of each program: what its expansion is, that an image is built of it, and how many words it needs.
-use Rattle.std.specs.Prelude.{◌≡◌, ◌≤◌, ◌+◌, ◌*◌, ℕ, ℤ, List, length, slice_get, Option, Some}
-use Rattle.std.specs.List.{sum_by}
+use Rattle.std.specs.Prelude.{◌≡◌, ◌≤◌, ◌+◌, ℕ, ℤ, List, length, slice_get, Option, Some}
 use Rattle.oat_asm.specs.Items.{words_needed, code_limit}
 use Rattle.oat_asm.specs.Expansion.{expansion}
 use Rattle.oat_ir.specs.declared.program.Program.{Program}
 use Rattle.oat_ir.specs.declared.func.Func.{Func}
 use Rattle.oat_ir.specs.declared.func.BlockIr.{BlockIr}
 use Rattle.oat_ir.specs.declared.instr.BinOp.{BinOp}
+use Rattle.oat_ir.specs.Size.{most_words}
 use Rattle.oat_check.specs.Lines.{CodeLine, line_in}
 use Rattle.oat_check.specs.Rules.{IsChecked}
 use Rattle.oat_parts.specs.Built.{CanBeExpanded}
@@ -83,13 +83,6 @@ FittingProgramsAreBuilt =
 
 -- ---- words
 
--- how many instructions and terminators a program has
-abbrev pub line_total : Program → ℕ
-line_total p = sum_by (λ func. sum_by (λ block. length block.instrs + 1) func.blocks) p.funcs
-
--- 32 words for each of them, and 300 for each function, whether they fit into an image or not
-abbrev pub most_words : Program → ℕ
-most_words p = 32 * line_total p + 300 * length p.funcs
-
+-- whether they fit into an image or not
 abbrev pub ProgramsHaveFewWords : Type 0
 ProgramsHaveFewWords = (p : Program) → IsChecked p → words_needed (expansion (program_items p)) ≤ most_words p

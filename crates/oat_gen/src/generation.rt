@@ -8,7 +8,7 @@ ghost use Rattle.oat_check.specs.Rules.{is_main, IsChecked};
 ghost use Rattle.oat_symbols.specs.Programs.{label_of_block, main_at};
 ghost use Rattle.oat_gen.specs.GlobalPlaces.{global_places};
 ghost use Rattle.oat_gen.specs.Code.{program_items};
-ghost use Rattle.oat_gen.specs.Laws.{most_words};
+ghost use Rattle.oat_ir.specs.Size.{most_words};
 ghost use Rattle.oat_gen.specs.Steps.{IsFuncAmong, function_items, others_items};
 
 use crate::blocks::push_function;

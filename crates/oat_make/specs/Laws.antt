@@ -1,9 +1,8 @@
 -- What holds of the drill of every number: its text is read and its program checked, its code is small, its operation completes, and its case leaves room for that.
 use Rattle.std.specs.Prelude.{◌≡◌, ◌≤◌, ◌+◌, ◌*◌, ℕ, true, [], length}
-use Rattle.std.specs.List.{sum_by}
-use Rattle.oat_ir.specs.declared.program.Program.{Program}
 use Rattle.oat_ir.specs.declared.source.SourceEnd.TheVariants.{Halted}
 use Rattle.oat_events.specs.Source.{has_completed}
+use Rattle.oat_ir.specs.Size.{most_words}
 use Rattle.oat_check.specs.Rules.{IsChecked, has_operation}
 use Rattle.oat_check.specs.Runs.{source_events}
 use Rattle.oat_check.specs.Shown.{source_end, source_outputs, source_path}
@@ -25,14 +24,7 @@ DrillTextsAreShort = (n : ℕ) → length (drill_text n) ≤ 4096
 abbrev pub DrillsAreChecked : Type 0
 DrillsAreChecked = (n : ℕ) → IsChecked (drill_program n)
 
--- how many instructions and terminators a program has
-abbrev pub line_total : Program → ℕ
-line_total p = sum_by (λ func. sum_by (λ block. length block.instrs + 1) func.blocks) p.funcs
-
--- the bound on the words of its code: 32 for each of them, and 300 for each function
-abbrev pub most_words : Program → ℕ
-most_words p = 32 * line_total p + 300 * length p.funcs
-
+-- its code fits, by the bound on words
 pub record DrillsFit : Type 0 where
   pub words : (n : ℕ) → most_words (drill_program n) ≡ 10456
   pub fits : (n : ℕ) → most_words (drill_program n) ≤ 131072
