@@ -1,2 +1,6 @@
 mod Worlds
 mod Operands
+mod Words
+mod Landing
+mod LocalLines
+mod GlobalLines
