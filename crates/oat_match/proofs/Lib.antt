@@ -4,3 +4,9 @@ mod Words
 mod Landing
 mod LocalLines
 mod GlobalLines
+mod DeepCalls
+mod Targets
+mod OperationPlaces
+mod Placing
+mod Calling
+mod Returning

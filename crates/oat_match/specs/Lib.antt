@@ -2,3 +2,4 @@ pub mod Code
 pub mod Compiled
 pub mod Placed
 pub mod Matching
+pub mod DeepCalls
