@@ -10,3 +10,5 @@ mod OperationPlaces
 mod Placing
 mod Calling
 mod Returning
+mod Stepping
+mod Starting
