@@ -12,3 +12,5 @@ mod Calling
 mod Returning
 mod Stepping
 mod Starting
+mod Taking
+pub mod Following

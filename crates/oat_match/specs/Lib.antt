@@ -3,3 +3,4 @@ pub mod Compiled
 pub mod Placed
 pub mod Matching
 pub mod DeepCalls
+pub mod Following
