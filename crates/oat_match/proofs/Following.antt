@@ -1,7 +1,7 @@
 -- Where each source step of a compiled program is matched, and its start, the image follows the source, and so runs as it.
-use Rattle.std.proofs.Common.{◌≡◌, ◌≤◌, ℕ, ℤ, List, [], ◌∷◌, Option, option_map, Some, None, FitsSigned, refl, sym, ap, subst, ◌∙◌}
+use Rattle.std.proofs.Common.{◌≡◌, ℤ, List, [], ◌∷◌, Option, option_map, Some, None, FitsSigned, refl, sym, subst}
 use Rattle.std.specs.Int.{w64}
-use Rattle.std.specs.List.{AllByRecursion}
+use Rattle.std.specs.Prelude.{All}
 use Rattle.oat_ir.specs.declared.program.Program.{Program}
 use Rattle.oat_events.specs.Cells.{Cells}
 use Rattle.oat_events.specs.Events.{SourceEvent, enters, leaves, loads, outputs, stores, takes}
@@ -36,7 +36,7 @@ end_alike p w s m None h = h.is_at.going
 end_alike p w s m (Some why) h = h
 
 -- The image follows its source step by step.
-pub follows_steps : StepsAreMatched → StartsAreMatched → StepsTakeEdges → (p : Program) → IsChecked p → (w : World) → IsCompiled p w → EdgesAreNamed p w → (inputs : List ℤ) → AllByRecursion (FitsSigned w64) inputs
+pub follows_steps : StepsAreMatched → StartsAreMatched → StepsTakeEdges → (p : Program) → IsChecked p → (w : World) → IsCompiled p w → EdgesAreNamed p w → (inputs : List ℤ) → All (FitsSigned w64) inputs
     → FollowsSteps (source_of p inputs) w.image (placement p w) inputs
 follows_steps steps starts edges p ok w c named inputs fit =
     let start : StartIsMatched p w inputs = starts p ok w c inputs fit in

@@ -13,4 +13,4 @@ mod Returning
 mod Stepping
 mod Starting
 mod Taking
-pub mod Following
+mod Following

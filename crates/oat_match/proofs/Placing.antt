@@ -1,5 +1,5 @@
 -- The code of each line and the start of each function, at their places.
-use Rattle.std.proofs.Common.{◌≡◌, ◌+◌, ◌*◌, ◌<◌, ◌≤◌, ℕ, zero, suc, List, [], ◌∷◌, ◌++◌, length, map, take, Option, Some, None, refl, sym, ap, subst, ◌∙◌, arith}
+use Rattle.std.proofs.Common.{◌≡◌, ◌+◌, ◌*◌, ◌<◌, ◌≤◌, ℕ, zero, suc, List, [], ◌∷◌, ◌++◌, length, map, Some, refl, sym, ap, subst, ◌∙◌, arith}
 use Rattle.std.specs.Prelude.{slice_get}
 use Rattle.std.proofs.lemmas.Option.{slice_get_within}
 use Rattle.oat_asm.specs.declared.item.Item.{Item}
@@ -22,15 +22,15 @@ use Rattle.oat_check.specs.Steps.{Frame, operation_number}
 use Rattle.oat_check.proofs.Checking.{func_formed}
 use Rattle.oat_symbols.specs.Programs.{label_of_block}
 use Rattle.oat_parts.proofs.Lists.{get_before, map_get, map_length}
-use Rattle.oat_frames.specs.Calls.{IsFunctionAt, prologue_end}
+use Rattle.oat_frames.specs.Calls.{IsFunctionAt}
 use Rattle.oat_frames.specs.Code.{CodeStands, argument_loads, behind_call, call_code, depth_tested, icall_code, prologue}
 use Rattle.oat_frames.specs.Frames.{World}
 use Rattle.oat_frames.specs.Lines.{IsLineAt, words_before_line}
 use Rattle.oat_frames.proofs.FrameLaws.{lines-stand}
-use Rattle.oat_globals.specs.Operations.{HasBegin, HasShortNumber, begin_code, role_words, start_code}
+use Rattle.oat_globals.specs.Operations.{HasBegin, HasShortNumber, start_code}
 use Rattle.oat_globals.proofs.GlobalLaws.{starts_stand}
 use Rattle.oat_match.specs.Code.{block_items, instruction_items, terminator_items}
-use Rattle.oat_match.specs.Compiled.{FunctionBegins, IsCompiled}
+use Rattle.oat_match.specs.Compiled.{IsCompiled}
 
 -- ---- lines of a block
 

@@ -1,9 +1,10 @@
 -- The start of a compiled program's run: its prologue leads to where the source starts, and its cells hold what the source's hold.
-use Rattle.std.proofs.Common.{◌≡◌, ◌+◌, ◌*◌, ◌<◌, ◌≤◌, ℕ, ℤ, Bool, cond, List, [], length, inl, Option, option_map, Some, None, FitsSigned, refl, sym, ap, subst, ◌∙◌, arith}
+use Rattle.std.proofs.Common.{◌≡◌, ◌+◌, ◌*◌, ◌≤◌, ℕ, ℤ, List, [], inl, Option, option_map, Some, None, FitsSigned, refl, sym, ap, subst, ◌∙◌, arith}
 use Rattle.std.specs.Prelude.{slice_get, unwrap_or}
 use Rattle.std.specs.Option.{option_and_then}
 use Rattle.std.specs.Int.{w64}
-use Rattle.std.specs.List.{AllByRecursion, sum_by}
+use Rattle.std.specs.List.{sum_by}
+use Rattle.std.proofs.lemmas.List.Elements.{recursion_from_All}
 use Rattle.std.proofs.Math.Path.{fun_ext}
 use Rattle.oat_a64.specs.Step.{code_base}
 use Rattle.oat_mem.specs.DataMemory.{global_address, word_in}
@@ -27,7 +28,7 @@ use Rattle.oat_check.proofs.Kept.{keeps}
 use Rattle.oat_frames.specs.Calls.{IsFunctionAt, prologue_end}
 use Rattle.oat_frames.specs.Code.{CodeStands, prologue}
 use Rattle.oat_frames.specs.Comes.{StepsTo}
-use Rattle.oat_frames.specs.Frames.{GlobalsAt, Represents, World, value_word}
+use Rattle.oat_frames.specs.Frames.{GlobalsAt, Represents, World}
 use Rattle.oat_frames.specs.Returns.{main_frame}
 use Rattle.oat_journal.specs.Run.{started}
 use Rattle.oat_frames.proofs.FrameLaws.{start-leads}
@@ -88,7 +89,7 @@ starts_are_matched p ok w c inputs fit =
       count = s.count;
       few = let l : s.count ≤ 257 = s.few in omega arith;
       runs = s.runs;
-      related = record { consistent = first; alike = record { inputs = s.inputs; fit = fit; is_at = s.is_at } };
+      related = record { consistent = first; alike = record { inputs = s.inputs; fit = recursion_from_All (FitsSigned w64) inputs fit; is_at = s.is_at } };
     }
 
 -- ---- cells

@@ -1,10 +1,8 @@
 -- Each source step of a compiled program is matched: one row for each line.
-use Rattle.std.proofs.Common.{◌≡◌, ◌+◌, ◌<◌, ◌≤◌, ℕ, Bool, true, false, cond, List, length, ◌&&◌, inl, inr, Option, Some, None, is_some, refl, sym, ap, subst, ◌∙◌, arith}
-use Rattle.std.specs.Prelude.{All, slice_get}
+use Rattle.std.proofs.Common.{◌≡◌, ◌<◌, ◌≤◌, ℕ, cond, length, ◌&&◌, inl, inr, Option, Some, None, is_some, sym, ap, subst, ◌∙◌, arith}
+use Rattle.std.specs.Prelude.{slice_get}
 use Rattle.std.proofs.lemmas.Bool.{cases_lt}
 use Rattle.oat_ir.specs.declared.program.Program.{Program}
-use Rattle.oat_ir.specs.declared.func.Func.{Func}
-use Rattle.oat_ir.specs.declared.func.BlockIr.{BlockIr}
 use Rattle.oat_ir.specs.declared.func.Ty.TheVariants.{Fn}
 use Rattle.oat_ir.specs.declared.instr.Instr.{Instr}
 use Rattle.oat_ir.specs.declared.instr.Instr.TheVariants.{Binary, Call, Const, Copy, ICall, Input, Load, LoadX, Output, RefTo, Store, StoreX}
@@ -14,7 +12,7 @@ use Rattle.oat_ir.specs.Indices.{IsInstr, IsTerm}
 use Rattle.oat_ir.specs.WellFormed.{IsBlockIr}
 use Rattle.oat_events.specs.Source.{Finish}
 use Rattle.oat_journal.specs.Run.{Running}
-use Rattle.oat_check.specs.Keeping.{IsConsistent, IsFrame}
+use Rattle.oat_check.specs.Keeping.{IsConsistent}
 use Rattle.oat_check.specs.Lines.{CodeLine, instruction, terminator}
 use Rattle.oat_check.specs.RuleLaws.{IsAllowed}
 use Rattle.oat_check.specs.RunLaws.{ElementsAreNumbered}
@@ -29,7 +27,7 @@ use Rattle.oat_locals.specs.Terminators.{BlockBegins}
 use Rattle.oat_symbols.specs.Programs.{label_of_block}
 use Rattle.oat_match.specs.Code.{instruction_items, terminator_items}
 use Rattle.oat_match.specs.Compiled.{IsCompiled}
-use Rattle.oat_match.specs.Matching.{GoesAlike, IsAlike, IsRelated, StepIsMatched, StepsAreMatched}
+use Rattle.oat_match.specs.Matching.{GoesAlike, IsAlike, StepIsMatched, StepsAreMatched}
 use Rattle.oat_match.proofs.Calling.{call_matched, icall_matched}
 use Rattle.oat_match.proofs.GlobalLines.{load_matched, loadx_matched, ref_matched, store_matched, storex_matched}
 use Rattle.oat_match.proofs.LocalLines.{binary_matched, branch_matched, const_matched, copy_matched, halt_matched, input_matched, jump_matched, output_matched}

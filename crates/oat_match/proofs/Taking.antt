@@ -1,5 +1,5 @@
 -- The edges that a source step takes are those of the program's lines.
-use Rattle.std.proofs.Common.{◌≡◌, ◌-◌, ◌<◌, ◌≤◌, ℕ, ℤ, Bool, true, false, cond, eqb, eqb-true, leb, ltb, ◌&&◌, ◌++◌, List, [], ◌∷◌, length, inl, inr, Option, Some, None, is_some, refl, sym, ap, subst, ◌∙◌, arith, if◌then◌else◌}
+use Rattle.std.proofs.Common.{◌≡◌, ◌-◌, ◌≤◌, ℕ, ℤ, Bool, true, false, cond, eqb, leb, ltb, ◌&&◌, ◌++◌, List, [], ◌∷◌, length, inl, inr, Option, Some, None, is_some, refl, sym, subst, ◌∙◌, arith}
 use Rattle.std.specs.Prelude.{slice_get}
 use Rattle.std.proofs.lemmas.Bool.{and_parts, cases_lt, eqb-false}
 use Rattle.std.proofs.lemmas.Option.{slice_get_within}
@@ -10,25 +10,25 @@ use Rattle.oat_ir.specs.declared.instr.Instr.{Instr}
 use Rattle.oat_ir.specs.declared.instr.Instr.TheVariants.{Binary, Call, Const, Copy, ICall, Input, Load, LoadX, Output, RefTo, Store, StoreX}
 use Rattle.oat_ir.specs.declared.instr.Term.{Term}
 use Rattle.oat_ir.specs.declared.instr.Term.TheVariants.{Branch, Halt, Jump, Ret}
-use Rattle.oat_events.specs.Events.{SourceEvent, enters, leaves, loads, stores, takes}
+use Rattle.oat_events.specs.Events.{enters, leaves, loads, stores, takes}
 use Rattle.oat_check.specs.Globals.{cell_number, length_at}
-use Rattle.oat_check.specs.Keeping.{AreCallers, IsCaller, IsConsistent, IsTarget}
+use Rattle.oat_check.specs.Keeping.{AreCallers, IsCaller, IsConsistent}
 use Rattle.oat_check.specs.Lines.{CodeLine, instruction, terminator}
 use Rattle.oat_check.specs.Operators.{result_of}
 use Rattle.oat_check.specs.RuleLaws.{IsAllowed}
 use Rattle.oat_check.specs.Rules.{IsChecked, hold_numbers, holds_number, local_ty, refers_with}
-use Rattle.oat_check.specs.Steps.{Frame, LineEdge, Next, SourceState, at_line, branches, calls, closes, computes, current_line, does, entered, gives, goes_to, icalls, in_array, jumps, line_place, operation_of, reads, returns, runs, shows, silent, source_step, takes_in, traps_by, writes}
+use Rattle.oat_check.specs.Steps.{Frame, LineEdge, Next, SourceState, at_line, branches, calls, closes, computes, current_line, does, entered, gives, goes_to, icalls, line_place, operation_of, reads, returns, runs, shows, silent, takes_in, traps_by, writes}
 use Rattle.oat_check.proofs.Checking.{has_ty, instr_allowed}
 use Rattle.oat_check.proofs.Frames.{There, instr_is, line_is, term_is, there}
 use Rattle.oat_match.specs.Following.{StepsTakeEdges, TakesEdgesOf}
-use Rattle.oat_match.specs.Placed.{IsEdgeOf}
+use Rattle.oat_match.specs.Placed.{IsLineEdge}
 
 module _ (p : Program) where
   entering : (o : Option ℕ) → TakesEdgesOf p (shows o enters)
   entering None = tt
   entering (Some op) = tt
 
-  leaving : (o : Option ℕ) (e : LineEdge) → IsEdgeOf p e → TakesEdgesOf p (shows o leaves ++ takes e ∷ [])
+  leaving : (o : Option ℕ) (e : LineEdge) → IsLineEdge p e → TakesEdgesOf p (shows o leaves ++ takes e ∷ [])
   leaving None e h = (h, tt)
   leaving (Some op) e h = (h, tt)
 
@@ -52,7 +52,7 @@ module _ (p : Program) where
   taking s x [] = tt
   taking s x (value ∷ rest) = tt
 
-  running : (s : SourceState) (edge : LineEdge) (g : ℕ) (args : List ℕ) → IsEdgeOf p edge → TakesEdgesOf p (runs p s edge g args).shown
+  running : (s : SourceState) (edge : LineEdge) (g : ℕ) (args : List ℕ) → IsLineEdge p edge → TakesEdgesOf p (runs p s edge g args).shown
   running s edge g args h = within (leb 256 (length s.callers)) (traps_by s Depth) (record { state = entered s g args; shown = takes edge ∷ shows (operation_of p g) enters }) tt (h, entering (operation_of p g))
 
   module _ (ok : IsChecked p) (s : SourceState) (g : IsConsistent p s) where
