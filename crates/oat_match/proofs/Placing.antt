@@ -1,7 +1,6 @@
 -- The code of each line and the start of each function, at their places.
-use Rattle.std.proofs.Common.{◌≡◌, ◌+◌, ◌*◌, ◌<◌, ◌≤◌, ℕ, zero, suc, List, [], ◌∷◌, ◌++◌, length, map, Some, refl, sym, ap, subst, ◌∙◌, arith}
+use Rattle.std.proofs.Common.{None, Bool, cond, eqb, ne_eqb, option_map, inl, inr, ◌≡◌, ◌+◌, ◌*◌, ◌<◌, ◌≤◌, ℕ, zero, suc, List, [], ◌∷◌, ◌++◌, length, map, Some, refl, sym, ap, subst, ◌∙◌, arith}
 use Rattle.std.specs.Prelude.{slice_get}
-use Rattle.std.proofs.lemmas.Option.{slice_get_within}
 use Rattle.oat_asm.specs.declared.item.Item.{Item}
 use Rattle.oat_asm.specs.declared.item.Item.TheVariants as item
 use Rattle.oat_asm.specs.declared.note.Note.TheVariants as note
@@ -15,22 +14,24 @@ use Rattle.oat_ir.specs.declared.func.Func.{Func}
 use Rattle.oat_ir.specs.declared.func.Role.{Role}
 use Rattle.oat_ir.specs.declared.func.Role.TheVariants.{Main, Operation, Plain}
 use Rattle.oat_ir.specs.declared.func.BlockIr.{BlockIr}
-use Rattle.oat_ir.specs.declared.instr.Instr.{Instr}
 use Rattle.oat_ir.specs.WellFormed.{IsRole}
 use Rattle.oat_check.specs.Rules.{IsChecked}
-use Rattle.oat_check.specs.Steps.{Frame, operation_number}
+use Rattle.oat_check.specs.Steps.{operation_number}
+use Rattle.oat_check.specs.Lines.{CodeLine, instruction, line_in, terminator}
 use Rattle.oat_check.proofs.Checking.{func_formed}
+use Rattle.oat_check.proofs.Frames.{There, instr_is, term_is, there}
+use Rattle.std.proofs.lemmas.Bool.{cases_lt, le-ltb}
 use Rattle.oat_symbols.specs.Programs.{label_of_block}
 use Rattle.oat_parts.proofs.Lists.{get_before, map_get, map_length}
 use Rattle.oat_frames.specs.Calls.{IsFunctionAt}
 use Rattle.oat_frames.specs.Code.{CodeStands, argument_loads, behind_call, call_code, depth_tested, icall_code, prologue}
 use Rattle.oat_frames.specs.Frames.{World}
-use Rattle.oat_frames.specs.Lines.{IsLineAt, words_before_line}
+use Rattle.oat_frames.specs.Lines.{words_before_line}
 use Rattle.oat_frames.proofs.FrameLaws.{lines-stand}
 use Rattle.oat_globals.specs.Operations.{HasBegin, HasShortNumber, start_code}
 use Rattle.oat_globals.proofs.GlobalLaws.{starts_stand}
-use Rattle.oat_match.specs.Code.{block_items, instruction_items, terminator_items}
-use Rattle.oat_match.specs.Compiled.{IsCompiled}
+use Rattle.oat_match.specs.Code.{block_items, instruction_items, line_items, terminator_items}
+use Rattle.oat_match.specs.Compiled.{IsCompiled, LinesArePlaced}
 
 -- ---- lines of a block
 
@@ -73,22 +74,39 @@ short func Main h number e = absurd (cc)
 pub short_number : (p : Program) → IsChecked p → (f : ℕ) (func : Func) → slice_get p.funcs f ≡ Some func → HasShortNumber (operation_number func.role)
 short_number p ok f func is = short func func.role (func_formed p ok f func is).role
 
+-- a line's code among those of its block
+code_in_block : (p : Program) (f : ℕ) (func : Func) (block : BlockIr) (n : ℕ) (line : CodeLine) → line_in block n ≡ Some line → slice_get (block_items p f func block) n ≡ Some (line_items p f func line)
+code_in_block p f func block n line is = elim (cases_lt n (length block.instrs)) [
+  | inl low ↦
+      let t : There block.instrs n = there block.instrs n low in
+      let long : length (map (instruction_items p) block.instrs) ≡ length block.instrs = map_length (instruction_items p) block.instrs in
+      let same : instruction t.item ≡ line = same_line _ _ (sym (instr_is block n t.item t.is) ∙ is) in
+      get_before (map (instruction_items p) block.instrs) (terminator_items p f func block.term ∷ []) n (omega arith) ∙ map_get (instruction_items p) block.instrs n t.item t.is ∙ ap (λ (l : CodeLine). Some (line_items p f func l)) same
+  | inr high ↦ elim (cases_lt (length block.instrs) n) [
+    | inl over ↦ absurd (no_line (sym (beyond over) ∙ is))
+    | inr more ↦
+        let at : n ≡ length block.instrs = omega arith in
+        let same : terminator block.term ≡ line = same_line _ _ (sym (term_is block n at) ∙ is) in
+        last_one (map (instruction_items p) block.instrs) (terminator_items p f func block.term) n (at ∙ sym (map_length (instruction_items p) block.instrs)) ∙ ap (λ (l : CodeLine). Some (line_items p f func l)) same
+  ]
+] where
+  same_line : (a b : CodeLine) → Some a ≡ Some b → a ≡ b
+  same_line a b h = cc
+
+  no_line : None ≡ Some line → ⊥
+  no_line h = absurd (cc)
+
+  beyond : length block.instrs < n → line_in block n ≡ None
+  beyond over =
+      ap (λ (t : Bool). cond t (option_map instruction (slice_get block.instrs n)) (cond (eqb n (length block.instrs)) (Some (terminator block.term)) None)) (le-ltb n (length block.instrs) (omega arith))
+      ∙ ap (λ (t : Bool). cond t (Some (terminator block.term)) None) (ne_eqb n (length block.instrs) (λ e. absurd (omega arith)))
+
+pub lines_are_placed : LinesArePlaced
+lines_are_placed p w c f func block line is there at =
+    lines-stand w f (label_of_block p f.func f.block) (block_items p f.func func block) (line_items p f.func func line) (c.blocks f.func f.block func block is there)
+    (code_in_block p f.func func block f.line line at) (c.data_of.slots f.func)
+
 module _ (p : Program) (ok : IsChecked p) (w : World) (c : IsCompiled p w) where
-  module _ (f : Frame) (func : Func) (block : BlockIr) (is : slice_get p.funcs f.func ≡ Some func) (there : slice_get func.blocks f.block ≡ Some block) where
-    pub instruction_line : (i : Instr) → slice_get block.instrs f.line ≡ Some i → IsLineAt w f (instruction_items p i)
-    instruction_line i at =
-        let instrs : List (List Item) = map (instruction_items p) block.instrs in
-        let inside : f.line < length block.instrs = slice_get_within block.instrs f.line i at in
-        let long : length instrs ≡ length block.instrs = map_length (instruction_items p) block.instrs in
-        lines-stand w f (label_of_block p f.func f.block) (block_items p f.func func block) (instruction_items p i) (c.blocks f.func f.block func block is there)
-        (get_before instrs (terminator_items p f.func func block.term ∷ []) f.line (omega arith) ∙ map_get (instruction_items p) block.instrs f.line i at) (c.data_of.slots f.func)
-
-    pub terminator_line : f.line ≡ length block.instrs → IsLineAt w f (terminator_items p f.func func block.term)
-    terminator_line at =
-        let instrs : List (List Item) = map (instruction_items p) block.instrs in
-        lines-stand w f (label_of_block p f.func f.block) (block_items p f.func func block) (terminator_items p f.func func block.term) (c.blocks f.func f.block func block is there)
-        (last_one instrs (terminator_items p f.func func block.term) f.line (at ∙ sym (map_length (instruction_items p) block.instrs))) (c.data_of.slots f.func)
-
   -- the first line of a block stands at its label
   pub block_begins : (f b : ℕ) (func : Func) (block : BlockIr) → slice_get p.funcs f ≡ Some func → slice_get func.blocks b ≡ Some block → w.place f b 0 ≡ w.label (label_of_block p f b)
   block_begins f b func block is there =
