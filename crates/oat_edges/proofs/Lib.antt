@@ -1,0 +1,3 @@
+mod LineCode
+mod Counting
+mod LineSites
