@@ -1,3 +1,5 @@
 mod LineCode
 mod Counting
 mod LineSites
+mod SiteNames
+mod Edges

@@ -26,7 +26,7 @@ use Rattle.oat_edges.specs.Edges.{LinesExpand}
 use Rattle.std.proofs.lemmas.Bool.{and_parts}
 use Rattle.oat_symbols.specs.Programs.{label_of_block}
 use Rattle.oat_globals.specs.Code.{define_at_code, define_code, load_code, loadx_code, store_code, storex_code, use_at_code, use_code}
-use Rattle.oat_match.specs.Code.{block_items, by_cell, first_word_of, instruction_items, terminator_items}
+use Rattle.oat_match.specs.Code.{by_cell, first_word_of, instruction_items, terminator_items}
 use Rattle.oat_gen.specs.GlobalPlaces.{GlobalsHaveTheirPlaces, global_places, place_in, placed}
 use Rattle.oat_gen.specs.Laws.{MarkedCodeExpands, OtherCodeStays}
 use Rattle.oat_gen.specs.Marked.{element_load, element_store, scalar_load, scalar_store}

@@ -1,8 +1,7 @@
 -- The generated code of an instruction has a site just where it calls.
-use Rattle.std.proofs.Common.{◌≡◌, ◌+◌, ◌&&◌, ℕ, Bool, true, false, cond, List, [], ◌∷◌, ◌++◌, length, Option, Some, None, refl, sym, ap, ◌∙◌}
+use Rattle.std.proofs.Common.{◌≡◌, ◌+◌, ◌&&◌, ℕ, true, false, cond, ◌∷◌, length, refl, ap, ◌∙◌}
 use Rattle.std.specs.Prelude.{slice_get, count_by}
 use Rattle.std.proofs.lemmas.Bool.{and_parts}
-use Rattle.oat_asm.specs.declared.item.Item.{Item}
 use Rattle.oat_asm.specs.declared.item.Item.TheVariants as item
 use Rattle.oat_asm.specs.declared.mark.Mark.TheVariants as mark
 use Rattle.oat_ir.specs.declared.program.Program.{Program}
@@ -14,15 +13,15 @@ use Rattle.oat_ir.specs.declared.instr.BinOp.TheVariants.{Add, And, Div, Divu, E
 use Rattle.oat_ir.specs.declared.instr.Instr.{Instr}
 use Rattle.oat_ir.specs.declared.instr.Instr.TheVariants.{Binary, Call, Const, Copy, ICall, Input, Load, LoadX, Output, RefTo, Store, StoreX}
 use Rattle.oat_check.specs.Lines.{instruction, is_calling}
-use Rattle.oat_check.specs.Rules.{are_alike, has_types, holds_number, is_array, local_ty, names_array, passes, scalar_ty}
+use Rattle.oat_check.specs.Rules.{are_alike, has_types, holds_number, is_array, local_ty, names_array, scalar_ty}
 use Rattle.oat_symbols.specs.Names.{is_site_item}
 use Rattle.oat_frames.specs.Code.{behind_call}
 use Rattle.oat_locals.specs.Code.{binary_code}
 use Rattle.oat_gen.specs.Code.{instruction_code}
-use Rattle.oat_gen.specs.GlobalPlaces.{GlobalsHaveTheirPlaces, global_places, place_in, placed}
+use Rattle.oat_gen.specs.GlobalPlaces.{GlobalsHaveTheirPlaces, global_places, placed}
 use Rattle.oat_gen.specs.Marked.{element_load, element_store, scalar_load, scalar_store}
 use Rattle.oat_edges.proofs.Counting.{null_tested, null_tested_sites, sites_add, tested, tested_sites}
-use Rattle.oat_edges.proofs.LineCode.{Found, found}
+use Rattle.oat_edges.proofs.LineCode.{found}
 
 binary_sites : (op : BinOp) (x y z : ℕ) → count_by is_site_item (binary_code op x y z) ≡ 0
 binary_sites Add x y z = refl

@@ -1,11 +1,34 @@
 //! Laws of a built image's edges, each the contract of a function that does nothing.
-ghost use Rattle.oat_match.specs.Compiled.{ProgramsHaveWorlds};
+ghost use Rattle.oat_edges.specs.Edges.{BuiltEdgesAreNamed, LinesExpand};
 
-use oat_match::laws::programs_have_worlds;
+use oat_gen::laws::{
+    functions_have_their_code, globals_have_their_places, marked_code_expands, other_code_stays,
+};
+use oat_match::laws::lines_are_placed;
+use oat_symbols::laws::{
+    call_sites_are_found, codes_are_of_the_program, places_are_named_by_source,
+    sites_are_named_by_source,
+};
 
-/// To be replaced.
-pub fn worlds()
-    ensures { ProgramsHaveWorlds }
+/// The generated code of a block, with its marks expanded, is the code of its lines.
+pub fn lines_expand()
+    ensures { LinesExpand }
 {
-    programs_have_worlds();
+    marked_code_expands();
+    other_code_stays();
+    globals_have_their_places();
+}
+
+/// In the image that is built of a program's code each edge has the name that it has in the source.
+pub fn built_edges_are_named()
+    ensures { BuiltEdgesAreNamed }
+{
+    lines_expand();
+    globals_have_their_places();
+    functions_have_their_code();
+    lines_are_placed();
+    codes_are_of_the_program();
+    places_are_named_by_source();
+    sites_are_named_by_source();
+    call_sites_are_found();
 }
