@@ -1,60 +1,28 @@
 -- Where a line's code stands among the generated code of its block: how many sites and how many words come before.
-use Rattle.std.proofs.Common.{◌≡◌, ◌+◌, ◌<◌, ◌≤◌, ◌⊎◌, inl, inr, ℕ, zero, suc, Bool, cond, eqb, ne_eqb, List, [], ◌∷◌, ◌++◌, length, map, take, option_map, Some, None, refl, sym, ap, ◌∙◌, arith, append_assoc}
-use Rattle.std.specs.Prelude.{slice_get, count_by, pos}
-use Rattle.std.proofs.lemmas.Bool.{cases_lt, le-ltb}
+use Rattle.std.proofs.Common.{◌≡◌, ◌+◌, ◌<◌, ◌≤◌, inl, inr, ℕ, zero, suc, cond, List, [], ◌∷◌, ◌++◌, length, map, take, Some, refl, sym, ap, ◌∙◌, arith, append_assoc}
+use Rattle.std.specs.Prelude.{slice_get, count_by}
 use Rattle.std.proofs.lemmas.Option.{slice_get_within}
 use Rattle.std.proofs.lemmas.List.Concat.{flat_map-append}
 use Rattle.std.proofs.lemmas.List.Sums.{sum_by-append, sum_by-cons}
-use Rattle.oat_a64.specs.declared.inst.Inst.TheVariants.{AddImm, BCond, Brk, Cbnz, Ldr, SubsImm}
+use Rattle.oat_a64.specs.declared.inst.Inst.TheVariants.{Ldr}
 use Rattle.oat_asm.specs.declared.item.Item.{Item}
 use Rattle.oat_asm.specs.declared.item.Item.TheVariants as item
-use Rattle.oat_asm.specs.declared.note.Note.TheVariants as note
 use Rattle.oat_asm.specs.Expansion.{expanded, expansion}
-use Rattle.oat_asm.specs.Items.{words_needed}
-use Rattle.oat_asm.proofs.StandingItems.{words_of_two}
 use Rattle.oat_parts.specs.Making.{words_become}
 use Rattle.oat_parts.proofs.Lists.{get_before, map_get, map_length}
 use Rattle.oat_parts.proofs.Making.{words_add}
 use Rattle.oat_ir.specs.declared.func.BlockIr.{BlockIr}
 use Rattle.oat_ir.specs.declared.instr.Instr.{Instr}
 use Rattle.oat_ir.specs.declared.instr.Term.{Term}
-use Rattle.oat_check.specs.Lines.{CodeLine, instruction, is_calling, line_in, terminator}
-use Rattle.oat_check.proofs.Frames.{There, instr_is, term_is, there}
+use Rattle.oat_check.specs.Lines.{CodeLine, instruction, is_calling, terminator}
 use Rattle.oat_symbols.specs.Names.{is_site_item}
 use Rattle.oat_frames.specs.Code.{argument_loads}
 use Rattle.oat_frames.specs.Lines.{lines_code}
 use Rattle.oat_gen.specs.Code.{code_lines}
+use Rattle.oat_match.proofs.CallCode.{before_call, before_icall, depth_test, null_test}
+use Rattle.oat_match.proofs.Finding.{LineCases, last_one}
 
 -- ---- a line of a block
-
--- an instruction, or the terminator behind all of them
-abbrev pub LineCases : BlockIr → ℕ → CodeLine → Type 0
-LineCases block n line = ((i : Instr) × (slice_get block.instrs n ≡ Some i) × (line ≡ instruction i)) ⊎ ((n ≡ length block.instrs) × (line ≡ terminator block.term))
-
-pub line_cases : (block : BlockIr) (n : ℕ) (line : CodeLine) → line_in block n ≡ Some line → LineCases block n line
-line_cases block n line is = elim (cases_lt n (length block.instrs)) [
-  | inl low ↦ let t : There block.instrs n = there block.instrs n low in inl (t.item, t.is, same_line _ _ (sym is ∙ instr_is block n t.item t.is))
-  | inr high ↦ elim (cases_lt (length block.instrs) n) [
-    | inl over ↦ absurd (no_line (sym (beyond over) ∙ is))
-    | inr more ↦ let at : n ≡ length block.instrs = omega arith in inr (at, same_line _ _ (sym is ∙ term_is block n at))
-  ]
-] where
-  same_line : (a b : CodeLine) → Some a ≡ Some b → a ≡ b
-  same_line a b h = cc
-
-  no_line : None ≡ Some line → ⊥
-  no_line h = absurd (cc)
-
-  beyond : length block.instrs < n → line_in block n ≡ None
-  beyond over =
-      ap (λ (t : Bool). cond t (option_map instruction (slice_get block.instrs n)) (cond (eqb n (length block.instrs)) (Some (terminator block.term)) None)) (le-ltb n (length block.instrs) (omega arith))
-      ∙ ap (λ (t : Bool). cond t (Some (terminator block.term)) None) (ne_eqb n (length block.instrs) (λ e. absurd (omega arith)))
-
-last_one : {X : Type 0} (xs : List X) (y : X) (n : ℕ) → n ≡ length xs → slice_get (xs ++ y ∷ []) n ≡ Some y
-last_one [] y zero h = refl
-last_one [] y (suc n) h = absurd (omega arith)
-last_one (x ∷ xs) y zero h = absurd (omega arith)
-last_one (x ∷ xs) y (suc n) h = last_one xs y n (omega arith)
 
 pub line_listed : (block : BlockIr) (n : ℕ) (line : CodeLine) → LineCases block n line → slice_get (code_lines block) n ≡ Some line
 line_listed block n line (inl i) =
@@ -112,52 +80,27 @@ sites_before code (i ∷ instrs) t each (suc n) l =
     ∙ ap (λ (k : ℕ). cond (is_calling i) 1 0 + k) (sites_before code instrs t (λ n j is. each (suc n) j is) n (omega arith))
     ∙ sym (sum_by-cons (λ (j : Instr). cond (is_calling j) 1 0) i (take n instrs))
 
--- ---- what stands before the mark of a call
-
--- the depth test, the count and the arguments
-abbrev pub tested : List ℕ → List Item
-tested args =
-    item.Inst (SubsImm 31 28 256) ∷ item.Note note.Check ∷ item.Inst (BCond 3 (pos 2)) ∷ item.Inst (Brk 4) ∷ item.Inst (AddImm 28 28 1) ∷ argument_loads 0 args
-
--- the null test before them
-abbrev pub null_tested : ℕ → List ℕ → List Item
-null_tested from args = item.Inst (Ldr 9 31 (from + 1)) ∷ item.Note note.Check ∷ item.Inst (Cbnz 9 (pos 2)) ∷ item.Inst (Brk 3) ∷ tested args
-
-abbrev front : List Item
-front = item.Inst (SubsImm 31 28 256) ∷ item.Note note.Check ∷ item.Inst (BCond 3 (pos 2)) ∷ item.Inst (Brk 4) ∷ item.Inst (AddImm 28 28 1) ∷ []
-
-abbrev null_front : ℕ → List Item
-null_front from = item.Inst (Ldr 9 31 (from + 1)) ∷ item.Note note.Check ∷ item.Inst (Cbnz 9 (pos 2)) ∷ item.Inst (Brk 3) ∷ []
-
-one_more : (n : ℕ) → 1 + n ≡ suc n
-one_more n = omega arith
-
-loads_words : (r : ℕ) (args : List ℕ) → words_needed (argument_loads r args) ≡ length args
-loads_words r [] = refl
-loads_words r (k ∷ ks) = words_of_two (item.Inst (Ldr r 31 (k + 1)) ∷ []) (argument_loads (r + 1) ks) ∙ ap (λ (n : ℕ). 1 + n) (loads_words (r + 1) ks) ∙ one_more (length ks)
+-- ---- before the mark of a call
 
 loads_become : (r : ℕ) (args : List ℕ) → words_become (argument_loads r args) ≡ length args
 loads_become r [] = refl
-loads_become r (k ∷ ks) = words_add (item.Inst (Ldr r 31 (k + 1)) ∷ []) (argument_loads (r + 1) ks) ∙ ap (λ (n : ℕ). 1 + n) (loads_become (r + 1) ks) ∙ one_more (length ks)
+loads_become r (k ∷ ks) =
+    words_add (item.Inst (Ldr r 31 (k + 1)) ∷ []) (argument_loads (r + 1) ks) ∙ ap (λ (n : ℕ). 1 + n) (loads_become (r + 1) ks) ∙ one_more (length ks) where
+      one_more : (n : ℕ) → 1 + n ≡ suc n
+      one_more n = omega arith
 
 loads_sites : (r : ℕ) (args : List ℕ) → count_by is_site_item (argument_loads r args) ≡ 0
 loads_sites r [] = refl
 loads_sites r (k ∷ ks) = sites_add (item.Inst (Ldr r 31 (k + 1)) ∷ []) (argument_loads (r + 1) ks) ∙ ap (λ (n : ℕ). 0 + n) (loads_sites (r + 1) ks)
 
-pub tested_words : (args : List ℕ) → words_needed (tested args) ≡ 4 + length args
-tested_words args = words_of_two front (argument_loads 0 args) ∙ ap (λ (n : ℕ). 4 + n) (loads_words 0 args)
+pub call_become : (args : List ℕ) → words_become (before_call args) ≡ 4 + length args
+call_become args = words_add depth_test (argument_loads 0 args) ∙ ap (λ (n : ℕ). 4 + n) (loads_become 0 args)
 
-pub tested_become : (args : List ℕ) → words_become (tested args) ≡ 4 + length args
-tested_become args = words_add front (argument_loads 0 args) ∙ ap (λ (n : ℕ). 4 + n) (loads_become 0 args)
+pub call_sites_none : (args : List ℕ) → count_by is_site_item (before_call args) ≡ 0
+call_sites_none args = sites_add depth_test (argument_loads 0 args) ∙ ap (λ (n : ℕ). 0 + n) (loads_sites 0 args)
 
-pub tested_sites : (args : List ℕ) → count_by is_site_item (tested args) ≡ 0
-tested_sites args = sites_add front (argument_loads 0 args) ∙ ap (λ (n : ℕ). 0 + n) (loads_sites 0 args)
+pub icall_become : (from : ℕ) (args : List ℕ) → words_become (before_icall from args) ≡ 3 + (4 + length args)
+icall_become from args = words_add (null_test from) (before_call args) ∙ ap (λ (n : ℕ). 3 + n) (call_become args)
 
-pub null_tested_words : (from : ℕ) (args : List ℕ) → words_needed (null_tested from args) ≡ 3 + (4 + length args)
-null_tested_words from args = words_of_two (null_front from) (tested args) ∙ ap (λ (n : ℕ). 3 + n) (tested_words args)
-
-pub null_tested_become : (from : ℕ) (args : List ℕ) → words_become (null_tested from args) ≡ 3 + (4 + length args)
-null_tested_become from args = words_add (null_front from) (tested args) ∙ ap (λ (n : ℕ). 3 + n) (tested_become args)
-
-pub null_tested_sites : (from : ℕ) (args : List ℕ) → count_by is_site_item (null_tested from args) ≡ 0
-null_tested_sites from args = sites_add (null_front from) (tested args) ∙ ap (λ (n : ℕ). 0 + n) (tested_sites args)
+pub icall_sites_none : (from : ℕ) (args : List ℕ) → count_by is_site_item (before_icall from args) ≡ 0
+icall_sites_none from args = sites_add (null_test from) (before_call args) ∙ ap (λ (n : ℕ). 0 + n) (call_sites_none args)

@@ -47,7 +47,9 @@ use Rattle.oat_gen.specs.Marked.{end_mark, marked_return}
 use Rattle.oat_match.specs.Compiled.{IsCompiled}
 use Rattle.oat_match.specs.Placed.{EdgesAreNamed, IsLineEdge, address_of_line, call_arguments, code_line_at, edge_in_image, frame_at}
 use Rattle.oat_edges.specs.Edges.{BuiltEdgesAreNamed}
-use Rattle.oat_edges.proofs.Counting.{line_cases, null_tested, null_tested_become, null_tested_sites, null_tested_words, tested, tested_become, tested_sites, tested_words}
+use Rattle.oat_match.proofs.CallCode.{before_call, before_icall, words_before_call, words_before_icall}
+use Rattle.oat_match.proofs.Finding.{line_cases}
+use Rattle.oat_edges.proofs.Counting.{call_become, call_sites_none, icall_become, icall_sites_none}
 use Rattle.oat_edges.proofs.SiteNames.{Located, NamingLaws, block_named, function_named, located, same_instr, same_term, site_named}
 
 module _ (laws : NamingLaws) (p : Program) (ok : IsChecked p) (valid : HasValidNames p) (w : World) (c : IsCompiled p w) (formed : IsWellFormedImage w.image)
@@ -90,11 +92,11 @@ module _ (laws : NamingLaws) (p : Program) (ok : IsChecked p) (valid : HasValidN
 
   call_named_site : (at : LinePlace) (x g : ℕ) (args : List ℕ) → Located p at (instruction (Call x g args)) → (a : ℕ) → a ≡ address_of_line w at + 4 * (4 + length args) → site w.image.map a ≡ source_site_name p (site_of_line p at)
   call_named_site at x g args l a is =
-      site_named laws p ok valid w c formed map_is label_is at (instruction (Call x g args)) l (tested args) (behind_call x) (mark.Call g) refl (tested_sites args) a (4 + length args) (tested_become args) is
+      site_named laws p ok valid w c formed map_is label_is at (instruction (Call x g args)) l (before_call args) (behind_call x) (mark.Call g) refl (call_sites_none args) a (4 + length args) (call_become args) is
 
   icall_named_site : (at : LinePlace) (x y : ℕ) (args : List ℕ) → Located p at (instruction (ICall x y args)) → (a : ℕ) → a ≡ address_of_line w at + 4 * (3 + (4 + length args)) → site w.image.map a ≡ source_site_name p (site_of_line p at)
   icall_named_site at x y args l a is =
-      site_named laws p ok valid w c formed map_is label_is at (instruction (ICall x y args)) l (null_tested y args) (behind_call x) (mark.ICall (length args)) refl (null_tested_sites y args) a (3 + (4 + length args)) (null_tested_become y args) is
+      site_named laws p ok valid w c formed map_is label_is at (instruction (ICall x y args)) l (before_icall y args) (behind_call x) (mark.ICall (length args)) refl (icall_sites_none y args) a (3 + (4 + length args)) (icall_become y args) is
 
   instr_here : (at : LinePlace) (i : Instr) (l : Located p at (instruction i)) → IsInstr p l.func i
   instr_here at i l =
@@ -131,10 +133,10 @@ module _ (laws : NamingLaws) (p : Program) (ok : IsChecked p) (valid : HasValidN
       let l : Located p back (instruction (Call x g args)) = located p back (instruction (Call x g args)) h in
       let line : IsLineAt w (frame_at back) (call_code args g x) = laws.placed p w c (frame_at back) l.func l.block (instruction (Call x g args)) l.is l.there l.here in
       let rest : List Item = item.Note (note.Call g) ∷ item.BranchTo Bl g ∷ behind_call x in
-      let stands = (stand_in_two w.image w.label (address_of_line w back) (tested args) rest line.code).1 in
-      let q : ℕ = address_of_line w back + 4 * words_needed (tested args) in
-      let words : words_needed (tested args) ≡ 4 + length args = tested_words args in
-      let all : words_needed (call_code args g x) ≡ words_needed (tested args) + 3 = words_of_two (tested args) rest in
+      let stands = (stand_in_two w.image w.label (address_of_line w back) (before_call args) rest line.code).1 in
+      let q : ℕ = address_of_line w back + 4 * words_needed (before_call args) in
+      let words : words_needed (before_call args) ≡ 4 + length args = words_before_call args in
+      let all : words_needed (call_code args g x) ≡ words_needed (before_call args) + 3 = words_of_two (before_call args) rest in
       let row : Row = rows.Call q (w.label g) in
       let low : q < 2 ^ 32 = c.world.low q _ stands.1.0.1 in
       let over : row_over w.image.map.rows q ≡ Some row = stands.0 q (omega arith) (omega arith) in
@@ -146,10 +148,10 @@ module _ (laws : NamingLaws) (p : Program) (ok : IsChecked p) (valid : HasValidN
       let l : Located p back (instruction (ICall x y args)) = located p back (instruction (ICall x y args)) h in
       let line : IsLineAt w (frame_at back) (icall_code args y x) = laws.placed p w c (frame_at back) l.func l.block (instruction (ICall x y args)) l.is l.there l.here in
       let rest : List Item = item.Note (note.ICall (length args)) ∷ item.Inst (Svc 4) ∷ item.Inst (Blr 9) ∷ behind_call x in
-      let stands = (stand_in_two w.image w.label (address_of_line w back) (null_tested y args) rest line.code).1 in
-      let q : ℕ = address_of_line w back + 4 * words_needed (null_tested y args) in
-      let words : words_needed (null_tested y args) ≡ 3 + (4 + length args) = null_tested_words y args in
-      let all : words_needed (icall_code args y x) ≡ words_needed (null_tested y args) + 4 = words_of_two (null_tested y args) rest in
+      let stands = (stand_in_two w.image w.label (address_of_line w back) (before_icall y args) rest line.code).1 in
+      let q : ℕ = address_of_line w back + 4 * words_needed (before_icall y args) in
+      let words : words_needed (before_icall y args) ≡ 3 + (4 + length args) = words_before_icall y args in
+      let all : words_needed (icall_code args y x) ≡ words_needed (before_icall y args) + 4 = words_of_two (before_icall y args) rest in
       let row : Row = rows.ICall q (length args) in
       let low : q < 2 ^ 32 = c.world.low q (Svc 4) stands.1.0 in
       let over : row_over w.image.map.rows q ≡ Some row = stands.0 q (omega arith) (omega arith) in

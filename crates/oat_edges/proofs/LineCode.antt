@@ -12,7 +12,7 @@ use Rattle.oat_ir.specs.declared.func.Ty.{Ty}
 use Rattle.oat_ir.specs.WellFormed.{IsGlobal}
 use Rattle.oat_check.specs.Globals.{cell_number, length_at, of_global, size_in_cells, size_in_words}
 use Rattle.oat_check.specs.Lines.{instruction, terminator}
-use Rattle.oat_check.specs.Rules.{IsChecked, are_alike, has_types, holds_number, is_array, local_ty, names_array, passes, scalar_ty}
+use Rattle.oat_check.specs.Rules.{IsChecked, are_alike, has_types, holds_number, is_array, local_ty, names_array, scalar_ty}
 use Rattle.oat_check.specs.Steps.{operation_number}
 use Rattle.oat_check.proofs.Checking.{OneTy, alike, each_at, instr_allowed}
 use Rattle.oat_ir.specs.declared.func.Func.{Func}
@@ -22,6 +22,7 @@ use Rattle.oat_ir.specs.declared.instr.Term.{Term}
 use Rattle.oat_ir.specs.declared.instr.Term.TheVariants.{Branch, Halt, Jump, Ret}
 use Rattle.oat_locals.specs.Code.{branch_code, jump_code}
 use Rattle.oat_gen.specs.Code.{instruction_code, line_code, terminator_code}
+use Rattle.oat_match.proofs.Finding.{found}
 use Rattle.oat_edges.specs.Edges.{LinesExpand}
 use Rattle.std.proofs.lemmas.Bool.{and_parts}
 use Rattle.oat_symbols.specs.Programs.{label_of_block}
@@ -130,15 +131,6 @@ module _ (known : CodeIsKnown) (p : Program) (g : ℕ) (item : GlobalItem) (is :
     by (FnScalar name params) ok h = absurd (cc)
 
 -- ---- lines
-
-pub record Found {X : Type 0} (test : X → Bool) (o : Option X) : Type 0 where
-  pub item : X
-  pub is : o ≡ Some item
-  pub passed : test item ≡ true
-
-pub found : {X : Type 0} (test : X → Bool) (o : Option X) → passes test o ≡ true → Found test o
-found test None h = absurd (cc)
-found test (Some x) h = record { item = x; is = refl; passed = h }
 
 module _ (known : CodeIsKnown) (p : Program) (ok : IsChecked p) where
   formed_global : (g : ℕ) (item : GlobalItem) → slice_get p.globals g ≡ Some item → IsGlobal item

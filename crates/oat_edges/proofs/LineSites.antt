@@ -20,8 +20,9 @@ use Rattle.oat_locals.specs.Code.{binary_code}
 use Rattle.oat_gen.specs.Code.{instruction_code}
 use Rattle.oat_gen.specs.GlobalPlaces.{GlobalsHaveTheirPlaces, global_places, placed}
 use Rattle.oat_gen.specs.Marked.{element_load, element_store, scalar_load, scalar_store}
-use Rattle.oat_edges.proofs.Counting.{null_tested, null_tested_sites, sites_add, tested, tested_sites}
-use Rattle.oat_edges.proofs.LineCode.{found}
+use Rattle.oat_match.proofs.CallCode.{before_call, before_icall}
+use Rattle.oat_match.proofs.Finding.{found}
+use Rattle.oat_edges.proofs.Counting.{call_sites_none, icall_sites_none, sites_add}
 
 binary_sites : (op : BinOp) (x y z : ℕ) → count_by is_site_item (binary_code op x y z) ≡ 0
 binary_sites Add x y z = refl
@@ -91,8 +92,8 @@ instruction_sites places p func (StoreX g i x) h =
     ap (λ place. count_by is_site_item (element_store place i x)) (places p g t.item t.is) ∙ storex_sites t.item _ _ i x
 instruction_sites places p func (RefTo x f) h = refl
 instruction_sites places p func (Call x f args) h =
-    sites_add (tested args) (item.Mark (mark.Call f) ∷ behind_call x) ∙ ap (λ (n : ℕ). n + 1) (tested_sites args)
+    sites_add (before_call args) (item.Mark (mark.Call f) ∷ behind_call x) ∙ ap (λ (n : ℕ). n + 1) (call_sites_none args)
 instruction_sites places p func (ICall x y args) h =
-    sites_add (null_tested y args) (item.Mark (mark.ICall (length args)) ∷ behind_call x) ∙ ap (λ (n : ℕ). n + 1) (null_tested_sites y args)
+    sites_add (before_icall y args) (item.Mark (mark.ICall (length args)) ∷ behind_call x) ∙ ap (λ (n : ℕ). n + 1) (icall_sites_none y args)
 instruction_sites places p func (Input x) h = refl
 instruction_sites places p func (Output x) h = refl

@@ -37,7 +37,8 @@ use Rattle.oat_match.specs.Code.{block_items, instruction_items, terminator_item
 use Rattle.oat_match.specs.Compiled.{IsCompiled, LinesArePlaced}
 use Rattle.oat_match.specs.Placed.{address_of_line, code_line_at}
 use Rattle.oat_edges.specs.Edges.{LinesExpand}
-use Rattle.oat_edges.proofs.Counting.{LineCases, LineSplit, expansion_of_lines, line_cases, line_inside, line_listed, map_of_front, map_of_map, sites_add, sites_before, split_lines}
+use Rattle.oat_match.proofs.Finding.{LineCases, line_cases}
+use Rattle.oat_edges.proofs.Counting.{LineSplit, expansion_of_lines, line_inside, line_listed, map_of_front, map_of_map, sites_add, sites_before, split_lines}
 use Rattle.oat_edges.proofs.LineSites.{instruction_sites}
 
 -- the laws that it rests on

@@ -38,9 +38,11 @@ use Rattle.oat_match.specs.Matching.{GoesAlike, StepIsMatched, words_held}
 use Rattle.oat_match.specs.Placed.{call_arguments, placement}
 use Rattle.oat_match.proofs.DeepCalls.{deep_indirect_calls_trap}
 use Rattle.oat_match.proofs.Landing.{ends, steps}
-use Rattle.oat_match.proofs.Operands.{Found, failed, found, local_inside, number_local}
+use Rattle.oat_match.proofs.Operands.{local_inside, number_local}
+use Rattle.oat_match.proofs.CallCode.{call_words, icall_words}
+use Rattle.oat_match.proofs.Finding.{Found, failed, found}
 use Rattle.oat_match.proofs.OperationPlaces.{operation_place}
-use Rattle.oat_match.proofs.Placing.{block_begins, call_words, function_at, has_begin, icall_words}
+use Rattle.oat_match.proofs.Placing.{block_begins, function_at, has_begin}
 use Rattle.oat_match.proofs.Targets.{IsNamed, argument_typed, named_function, number_at, number_taken, parameter_is}
 
 behind_words : (p q words n k : ℕ) → q ≡ p + 4 * words → words ≡ n + k → q ≡ p + 4 * n + 4 * k
@@ -99,7 +101,7 @@ module _ (p : Program) (ok : IsChecked p) (w : World) (c : IsCompiled p w) (s : 
     next =
         let n : w.place s.frame.func s.frame.block (s.frame.line + 1) ≡ line_address w s.frame + 4 * 7 + 4 * length args = behind_words (line_address w s.frame) _ _ 7 (length args) line.next (call_words args g x ∙ seven (length args)) in
         n where
-          seven : (n : ℕ) → 4 + (n + 3) ≡ 7 + n
+          seven : (n : ℕ) → 4 + n + 3 ≡ 7 + n
           seven n = omega arith
 
     argument_ty : (i : ℕ) → i < length args → w.ty s.frame.func (get_or args i 0) ≡ w.ty g i
@@ -145,7 +147,7 @@ module _ (p : Program) (ok : IsChecked p) (w : World) (c : IsCompiled p w) (s : 
 
     next : w.place s.frame.func s.frame.block (s.frame.line + 1) ≡ line_address w s.frame + 44 + 4 * length args
     next = behind_words (line_address w s.frame) _ _ 11 (length args) line.next (icall_words args y x ∙ eleven (length args)) where
-      eleven : (n : ℕ) → 3 + (4 + (n + 4)) ≡ 11 + n
+      eleven : (n : ℕ) → 3 + (4 + n) + 4 ≡ 11 + n
       eleven n = omega arith
 
     referenced : (callee : ℕ) → w.may_name callee (length args) ≡ true → IsReferencedAt w callee (length args)

@@ -1,4 +1,6 @@
 mod Worlds
+pub mod Finding
+pub mod CallCode
 mod Operands
 mod Words
 mod Landing

@@ -18,7 +18,7 @@ use Rattle.oat_check.specs.RuleLaws.{IsAllowed}
 use Rattle.oat_check.specs.Rules.{IsChecked, are_as, hold_numbers, holds_number, is_func, is_main, is_no_target, is_operation, is_operation_role, local_ty, parameters, refers_amiss, takes_numbers}
 use Rattle.oat_check.specs.Steps.{operation_number}
 use Rattle.oat_check.proofs.Checking.{has_ty, instr_allowed, list_any_at, same_ty}
-use Rattle.oat_match.proofs.Operands.{failed}
+use Rattle.oat_match.proofs.Finding.{failed}
 
 -- ---- one that passes
 
