@@ -46,7 +46,7 @@ use Rattle.oat_frames.specs.Frames.{frame_size}
 use Rattle.oat_gen.specs.Marked.{end_mark, marked_return}
 use Rattle.oat_match.specs.Compiled.{IsCompiled}
 use Rattle.oat_match.specs.Placed.{EdgesAreNamed, IsLineEdge, address_of_line, call_arguments, code_line_at, edge_in_image, frame_at}
-use Rattle.oat_edges.specs.Edges.{BuiltEdgesAreNamed}
+use Rattle.oat_edges.specs.Edges.{CompiledEdgesAreNamed}
 use Rattle.oat_match.proofs.CallCode.{before_call, before_icall, words_before_call, words_before_icall}
 use Rattle.oat_match.proofs.Finding.{line_cases}
 use Rattle.oat_edges.proofs.Counting.{call_become, call_sites_none, icall_become, icall_sites_none}
@@ -205,5 +205,5 @@ module _ (laws : NamingLaws) (p : Program) (ok : IsChecked p) (valid : HasValidN
     named (returns from back) h = return_named from back h
     named (finishes op) h = refl
 
-pub built_edges_are_named : NamingLaws → BuiltEdgesAreNamed
-built_edges_are_named laws p ok valid w c formed map_is label_is = edges_named laws p ok valid w c formed map_is label_is
+pub compiled_edges_are_named : NamingLaws → CompiledEdgesAreNamed
+compiled_edges_are_named laws p ok valid w c formed map_is label_is = edges_named laws p ok valid w c formed map_is label_is

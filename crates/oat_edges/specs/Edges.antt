@@ -21,8 +21,8 @@ LinesExpand =
     → expanded_lines (global_places p) (label_of_block p f 0) func block ≡ block_items p f func block
 
 -- by the map and the labels that are built of the program's items
-abbrev pub BuiltEdgesAreNamed : Type 0
-BuiltEdgesAreNamed =
+abbrev pub CompiledEdgesAreNamed : Type 0
+CompiledEdgesAreNamed =
     (p : Program) → IsChecked p → HasValidNames p → (w : World) → IsCompiled p w → IsWellFormedImage w.image
     → w.image.map ≡ built_map (symbols_of p) (program_items p) → ((l : ℕ) → w.label l ≡ built_address (program_items p) l)
     → EdgesAreNamed p w

@@ -1,5 +1,5 @@
 //! Laws of a built image's edges, each the contract of a function that does nothing.
-ghost use Rattle.oat_edges.specs.Edges.{BuiltEdgesAreNamed, LinesExpand};
+ghost use Rattle.oat_edges.specs.Edges.{CompiledEdgesAreNamed, LinesExpand};
 
 use oat_gen::laws::{
     functions_have_their_code, globals_have_their_places, marked_code_expands, other_code_stays,
@@ -20,8 +20,8 @@ pub fn lines_expand()
 }
 
 /// In the image that is built of a program's code each edge has the name that it has in the source.
-pub fn built_edges_are_named()
-    ensures { BuiltEdgesAreNamed }
+pub fn compiled_edges_are_named()
+    ensures { CompiledEdgesAreNamed }
 {
     lines_expand();
     globals_have_their_places();

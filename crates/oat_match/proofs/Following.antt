@@ -17,7 +17,7 @@ use Rattle.oat_follow.specs.Steps.{FollowsSteps, device_end}
 use Rattle.oat_follow.proofs.FollowLaws as follow
 use Rattle.oat_frames.specs.Frames.{World}
 use Rattle.oat_match.specs.Compiled.{IsCompiled}
-use Rattle.oat_match.specs.Following.{CompiledProgramsMean, CompiledProgramsRun, StepsTakeEdges, TakesEdgesOf}
+use Rattle.oat_match.specs.Following.{CompiledProgramsMean, CompiledProgramsRun, StepsTakeEdges, TakesEdgesOf, WindowsOpenAtBegins}
 use Rattle.oat_match.specs.Matching.{CellsStartAlike, IsAlike, IsRelated, StartIsMatched, StartsAreMatched, StepIsMatched, StepsAreMatched}
 use Rattle.oat_match.specs.Placed.{EdgesAreNamed, placement}
 
@@ -65,5 +65,6 @@ compiled_programs_run steps starts edges cells p ok w c named inputs fit =
     follow.runs_as (source_of p inputs) w.image (placement p w) inputs (subst (λ (words : Cells). SourceKeeps (source_of p inputs) words) (sym (cells p w c)) (keeps p ok inputs))
     (follows_steps steps starts edges p ok w c named inputs fit)
 
-pub compiled_programs_mean : CompiledProgramsRun → CompiledProgramsMean
-compiled_programs_mean run p ok w c named inputs fit o begun = follow.means (source_of p inputs) w.image (placement p w) o inputs begun (run p ok w c named inputs fit)
+pub compiled_programs_mean : CompiledProgramsRun → WindowsOpenAtBegins → CompiledProgramsMean
+compiled_programs_mean run open_ p ok w c named inputs fit o g is begins =
+    follow.means (source_of p inputs) w.image (placement p w) o inputs (open_ p ok w c g o.op o.begin_at is begins) (run p ok w c named inputs fit)

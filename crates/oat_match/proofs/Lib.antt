@@ -15,4 +15,5 @@ mod Returning
 mod Stepping
 mod Starting
 mod Taking
+mod Begins
 mod Following

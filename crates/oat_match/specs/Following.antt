@@ -1,5 +1,5 @@
 -- The image of a compiled program runs as its source: it ends as the source ends, in both directions and within the bound, and each window shows its call.
-use Rattle.std.specs.Prelude.{◌≡◌, ℤ, FitsSigned, All, List, [], ◌∷◌}
+use Rattle.std.specs.Prelude.{◌≡◌, ℕ, Some, ℤ, FitsSigned, All, List, [], ◌∷◌}
 use Rattle.std.specs.Int.{w64}
 use Rattle.oat_ir.specs.declared.program.Program.{Program}
 use Rattle.oat_events.specs.Events.{SourceEvent, takes}
@@ -7,7 +7,8 @@ use Rattle.oat_measure.specs.declared.opening.Opening.{Opening}
 use Rattle.oat_check.specs.Keeping.{IsConsistent}
 use Rattle.oat_check.specs.Rules.{IsChecked}
 use Rattle.oat_check.specs.Runs.{source_of}
-use Rattle.oat_check.specs.Steps.{LineEdge, SourceState, source_step}
+use Rattle.oat_check.specs.Steps.{LineEdge, SourceState, operation_of, source_step}
+use Rattle.oat_map.specs.Rows.{BeginsAt}
 use Rattle.oat_follow.specs.Following.{Means, RunsAs}
 use Rattle.oat_frames.specs.Frames.{World}
 use Rattle.oat_match.specs.Compiled.{IsCompiled}
@@ -23,6 +24,14 @@ TakesEdgesOf p (_ ∷ es) = TakesEdgesOf p es
 abbrev pub StepsTakeEdges : Type 0
 StepsTakeEdges = (p : Program) → IsChecked p → (s : SourceState) → IsConsistent p s → TakesEdgesOf p (source_step p s).shown
 
+-- ---- where windows open
+
+-- a window of an operation of the program opens where the operation begins
+abbrev pub WindowsOpenAtBegins : Type 0
+WindowsOpenAtBegins =
+    (p : Program) → IsChecked p → (w : World) → IsCompiled p w → (g op begin_at : ℕ) → operation_of p g ≡ Some op → BeginsAt w.image.map op begin_at
+    → (placement p w).begin op ≡ begin_at
+
 -- ---- whole runs
 
 -- the bare run, for every operation
@@ -31,8 +40,8 @@ CompiledProgramsRun =
     (p : Program) → IsChecked p → (w : World) → IsCompiled p w → EdgesAreNamed p w → (inputs : List ℤ) → All (FitsSigned w64) inputs
     → RunsAs (source_of p inputs) w.image (placement p w) inputs
 
--- and the measured run of a session whose windows open where its operation begins
+-- and the measured run of a session for an operation of the program, whose windows open at its Begin row
 abbrev pub CompiledProgramsMean : Type 0
 CompiledProgramsMean =
     (p : Program) → IsChecked p → (w : World) → IsCompiled p w → EdgesAreNamed p w → (inputs : List ℤ) → All (FitsSigned w64) inputs
-    → (o : Opening) → (placement p w).begin o.op ≡ o.begin_at → Means (source_of p inputs) w.image (placement p w) o inputs
+    → (o : Opening) (g : ℕ) → operation_of p g ≡ Some o.op → BeginsAt w.image.map o.op o.begin_at → Means (source_of p inputs) w.image (placement p w) o inputs

@@ -1,8 +1,8 @@
-use Rattle.oat_edges.proofs.Edges.{built_edges_are_named}
-use Rattle.oat_edges.proofs.laws.built_edges_are_named.Goals as goal
+use Rattle.oat_edges.proofs.Edges.{compiled_edges_are_named}
+use Rattle.oat_edges.proofs.laws.compiled_edges_are_named.Goals as goal
 
 pub returns : goal.returns
-returns c = built_edges_are_named (record {
+returns c = compiled_edges_are_named (record {
   sites = c.sites_are_named_by_source.ensures;
   places = c.places_are_named_by_source.ensures;
   calls = c.call_sites_are_found.ensures;
