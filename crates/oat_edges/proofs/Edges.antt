@@ -1,20 +1,16 @@
 -- Each edge of the program is named in the built map as in the source.
-use Rattle.std.proofs.Common.{◌≡◌, ◌+◌, ◌*◌, ◌%◌, ◌^◌, ◌<◌, ◌≤◌, ◌++◌, ℕ, Bool, true, false, List, [], ◌∷◌, length, Option, Some, None, refl, sym, ap, subst, ◌∙◌, arith}
+use Rattle.std.proofs.Common.{◌≡◌, ◌+◌, ◌*◌, ◌<◌, ◌++◌, ℕ, Bool, true, false, List, [], ◌∷◌, length, Option, Some, None, refl, sym, ap, subst, ◌∙◌, arith}
 use Rattle.std.specs.Prelude.{Contains, count_by}
 use Rattle.std.specs.Option.{option_and_then}
-use Rattle.oat_a64.specs.declared.inst.Inst.TheVariants.{AddImm, Blr, Ldr, Svc}
-use Rattle.oat_asm.specs.declared.branch_form.BranchForm.TheVariants.{Bl}
-use Rattle.oat_asm.specs.declared.item.Item.{Item}
+use Rattle.oat_a64.specs.declared.inst.Inst.TheVariants.{AddImm, Ldr}
 use Rattle.oat_asm.specs.declared.item.Item.TheVariants as item
 use Rattle.oat_asm.specs.declared.mark.Mark.TheVariants as mark
-use Rattle.oat_asm.specs.declared.note.Note.TheVariants as note
-use Rattle.oat_asm.proofs.StandingItems.{stand_in_two}
 use Rattle.oat_image.specs.Grammar.{IsWellFormedImage}
 use Rattle.oat_map.specs.declared.row.Row.{Row}
 use Rattle.oat_map.specs.declared.row.Row.TheVariants as rows
 use Rattle.oat_map.specs.EdgeName as name
 use Rattle.oat_map.specs.EdgeName.{call_site, name_of, place_name, site}
-use Rattle.oat_map.specs.Rows.{after, is_over, row_over}
+use Rattle.oat_map.specs.Rows.{is_over, row_over}
 use Rattle.oat_ir.specs.declared.program.Program.{Program}
 use Rattle.oat_ir.specs.declared.func.Func.{Func}
 use Rattle.oat_ir.specs.declared.instr.Instr.{Instr}
@@ -33,11 +29,8 @@ use Rattle.oat_parts.specs.Built.{built_address, built_map}
 use Rattle.oat_parts.specs.Making.{words_become}
 use Rattle.oat_symbols.specs.Names.{is_site_item}
 use Rattle.oat_symbols.specs.Programs.{HasValidNames, label_of_block, symbols_of}
-use Rattle.oat_frames.specs.Code.{behind_call, call_code, icall_code}
+use Rattle.oat_frames.specs.Code.{behind_call}
 use Rattle.oat_frames.specs.Frames.{World, return_address}
-use Rattle.oat_frames.specs.Lines.{IsLineAt}
-use Rattle.oat_asm.specs.Items.{words_needed}
-use Rattle.oat_asm.proofs.StandingItems.{words_of_two}
 use Rattle.oat_frames.proofs.FrameLaws.{found-contains}
 use Rattle.oat_globals.specs.Code.{slot_load}
 use Rattle.oat_globals.specs.Operations.{role_words}
@@ -47,10 +40,11 @@ use Rattle.oat_gen.specs.Marked.{end_mark, marked_return}
 use Rattle.oat_match.specs.Compiled.{IsCompiled}
 use Rattle.oat_match.specs.Placed.{EdgesAreNamed, IsLineEdge, address_of_line, call_arguments, code_line_at, edge_in_image, frame_at}
 use Rattle.oat_edges.specs.Edges.{CompiledEdgesAreNamed}
-use Rattle.oat_match.proofs.CallCode.{before_call, before_icall, words_before_call, words_before_icall}
-use Rattle.oat_match.proofs.Finding.{line_cases}
+use Rattle.oat_match.proofs.CallCode.{before_call, before_icall}
+use Rattle.oat_match.proofs.CallRows.{HasCallRow, call_row, icall_row}
+use Rattle.oat_match.proofs.Finding.{Located, line_cases, located}
 use Rattle.oat_edges.proofs.Counting.{call_become, call_sites_none, icall_become, icall_sites_none}
-use Rattle.oat_edges.proofs.SiteNames.{Located, NamingLaws, block_named, function_named, located, same_instr, same_term, site_named}
+use Rattle.oat_edges.proofs.SiteNames.{NamingLaws, block_named, function_named, same_instr, same_term, site_named}
 
 module _ (laws : NamingLaws) (p : Program) (ok : IsChecked p) (valid : HasValidNames p) (w : World) (c : IsCompiled p w) (formed : IsWellFormedImage w.image)
     (map_is : w.image.map ≡ built_map (symbols_of p) (program_items p)) (label_is : (l : ℕ) → w.label l ≡ built_address (program_items p) l) where
@@ -125,40 +119,17 @@ module _ (laws : NamingLaws) (p : Program) (ok : IsChecked p) (valid : HasValidN
   row_found : (q : ℕ) (row : Row) → row_over w.image.map.rows q ≡ Some row → Contains w.image.map.rows row
   row_found q row h = found-contains (is_over q) w.image.map.rows row h
 
-  behind_row : (q words back : ℕ) → q < 2 ^ 32 → words ≤ 2 → back ≡ q + 4 * words → back ≡ (q + 4 * words) % 2 ^ 64
-  behind_row q words back low few is = omega arith
-
   came_from : (back : LinePlace) (i : Instr) → is_calling i ≡ true → code_line_at p back ≡ Some (instruction i) → call_site w.image.map (return_address w (frame_at back)) ≡ source_site_name p (site_of_line p back)
   came_from back (Call x g args) calling h =
       let l : Located p back (instruction (Call x g args)) = located p back (instruction (Call x g args)) h in
-      let line : IsLineAt w (frame_at back) (call_code args g x) = laws.placed p w c (frame_at back) l.func l.block (instruction (Call x g args)) l.is l.there l.here in
-      let rest : List Item = item.Note (note.Call g) ∷ item.BranchTo Bl g ∷ behind_call x in
-      let stands = (stand_in_two w.image w.label (address_of_line w back) (before_call args) rest line.code).1 in
-      let q : ℕ = address_of_line w back + 4 * words_needed (before_call args) in
-      let words : words_needed (before_call args) ≡ 4 + length args = words_before_call args in
-      let all : words_needed (call_code args g x) ≡ words_needed (before_call args) + 3 = words_of_two (before_call args) rest in
-      let row : Row = rows.Call q (w.label g) in
-      let low : q < 2 ^ 32 = c.world.low q _ stands.1.0.1 in
-      let over : row_over w.image.map.rows q ≡ Some row = stands.0 q (omega arith) (omega arith) in
-      let next : w.place back.func back.block (back.line + 1) ≡ address_of_line w back + 4 * words_needed (call_code args g x) = line.next in
-      let after_is : return_address w (frame_at back) ≡ after row = behind_row q 1 (return_address w (frame_at back)) low (omega arith) (omega arith) in
-      ap (call_site w.image.map) after_is ∙ laws.calls w.image row formed c.shaped (row_found q row over) refl
-      ∙ call_named_site back x g args l q (ap (λ (n : ℕ). address_of_line w back + 4 * n) words)
+      let q : ℕ = address_of_line w back + 4 * (4 + length args) in
+      let row : HasCallRow w back (4 + length args) (λ q. rows.Call q (w.label g)) = call_row p w c back x g args l in
+      ap (call_site w.image.map) row.behind ∙ laws.calls w.image (rows.Call q (w.label g)) formed c.shaped (row_found q (rows.Call q (w.label g)) row.over) refl ∙ call_named_site back x g args l q refl
   came_from back (ICall x y args) calling h =
       let l : Located p back (instruction (ICall x y args)) = located p back (instruction (ICall x y args)) h in
-      let line : IsLineAt w (frame_at back) (icall_code args y x) = laws.placed p w c (frame_at back) l.func l.block (instruction (ICall x y args)) l.is l.there l.here in
-      let rest : List Item = item.Note (note.ICall (length args)) ∷ item.Inst (Svc 4) ∷ item.Inst (Blr 9) ∷ behind_call x in
-      let stands = (stand_in_two w.image w.label (address_of_line w back) (before_icall y args) rest line.code).1 in
-      let q : ℕ = address_of_line w back + 4 * words_needed (before_icall y args) in
-      let words : words_needed (before_icall y args) ≡ 3 + (4 + length args) = words_before_icall y args in
-      let all : words_needed (icall_code args y x) ≡ words_needed (before_icall y args) + 4 = words_of_two (before_icall y args) rest in
-      let row : Row = rows.ICall q (length args) in
-      let low : q < 2 ^ 32 = c.world.low q (Svc 4) stands.1.0 in
-      let over : row_over w.image.map.rows q ≡ Some row = stands.0 q (omega arith) (omega arith) in
-      let next : w.place back.func back.block (back.line + 1) ≡ address_of_line w back + 4 * words_needed (icall_code args y x) = line.next in
-      let after_is : return_address w (frame_at back) ≡ after row = behind_row q 2 (return_address w (frame_at back)) low (omega arith) (omega arith) in
-      ap (call_site w.image.map) after_is ∙ laws.calls w.image row formed c.shaped (row_found q row over) refl
-      ∙ icall_named_site back x y args l q (ap (λ (n : ℕ). address_of_line w back + 4 * n) words)
+      let q : ℕ = address_of_line w back + 4 * (3 + (4 + length args)) in
+      let row : HasCallRow w back (3 + (4 + length args)) (λ q. rows.ICall q (length args)) = icall_row p w c back x y args l in
+      ap (call_site w.image.map) row.behind ∙ laws.calls w.image (rows.ICall q (length args)) formed c.shaped (row_found q (rows.ICall q (length args)) row.over) refl ∙ icall_named_site back x y args l q refl
   came_from back (RefTo x f) calling h = absurd (cc)
   came_from back (Const x v) calling h = absurd (cc)
   came_from back (Copy x y) calling h = absurd (cc)

@@ -1,5 +1,5 @@
 -- The sites and places of the program's lines have in the built map the names that they have in the source.
-use Rattle.std.proofs.Common.{◌≡◌, ◌+◌, ◌*◌, ◌≤◌, ◌++◌, inl, inr, ℕ, List, [], ◌∷◌, length, map, take, Option, Some, None, refl, sym, ap, ◌∙◌, arith, append_assoc}
+use Rattle.std.proofs.Common.{◌≡◌, ◌+◌, ◌*◌, ◌≤◌, ◌++◌, inl, inr, ℕ, List, [], ◌∷◌, length, map, take, Option, Some, refl, sym, ap, ◌∙◌, arith, append_assoc}
 use Rattle.std.specs.Prelude.{count_by, slice_get}
 use Rattle.std.specs.Option.{option_and_then, option_map, unwrap_or}
 use Rattle.oat_asm.specs.declared.item.Item.{Item}
@@ -15,7 +15,7 @@ use Rattle.oat_ir.specs.declared.func.Func.{Func}
 use Rattle.oat_ir.specs.declared.func.BlockIr.{BlockIr}
 use Rattle.oat_ir.specs.declared.instr.Instr.{Instr}
 use Rattle.oat_ir.specs.declared.instr.Term.{Term}
-use Rattle.oat_check.specs.Lines.{CodeLine, instruction, is_calling, line_in, terminator}
+use Rattle.oat_check.specs.Lines.{CodeLine, instruction, is_calling, terminator}
 use Rattle.oat_check.specs.Naming.{instrs_of, site_of_line, source_block_name, source_func_name, source_site, source_site_name}
 use Rattle.oat_check.specs.Rules.{IsChecked}
 use Rattle.oat_check.specs.Steps.{LinePlace}
@@ -34,10 +34,10 @@ use Rattle.oat_gen.specs.Code.{block_code, code_lines, function_code, line_code,
 use Rattle.oat_gen.specs.GlobalPlaces.{GlobalsHaveTheirPlaces, global_places}
 use Rattle.oat_gen.specs.Laws.{FunctionsHaveTheirCode}
 use Rattle.oat_match.specs.Code.{block_items, instruction_items, terminator_items}
-use Rattle.oat_match.specs.Compiled.{IsCompiled, LinesArePlaced}
-use Rattle.oat_match.specs.Placed.{address_of_line, code_line_at}
+use Rattle.oat_match.specs.Compiled.{IsCompiled}
+use Rattle.oat_match.specs.Placed.{address_of_line}
 use Rattle.oat_edges.specs.Edges.{LinesExpand}
-use Rattle.oat_match.proofs.Finding.{LineCases, line_cases}
+use Rattle.oat_match.proofs.Finding.{LineCases, Located, line_cases}
 use Rattle.oat_edges.proofs.Counting.{LineSplit, expansion_of_lines, line_inside, line_listed, map_of_front, map_of_map, sites_add, sites_before, split_lines}
 use Rattle.oat_edges.proofs.LineSites.{instruction_sites}
 
@@ -50,25 +50,6 @@ pub record NamingLaws : Type 0 where
   pub functions : FunctionsHaveTheirCode
   pub globals : GlobalsHaveTheirPlaces
   pub expand : LinesExpand
-  pub placed : LinesArePlaced
-
--- where a line of the program is found
-pub record Located (p : Program) (at : LinePlace) (line : CodeLine) : Type 0 where
-  pub func : Func
-  pub block : BlockIr
-  pub is : slice_get p.funcs at.func ≡ Some func
-  pub there : slice_get func.blocks at.block ≡ Some block
-  pub here : line_in block at.line ≡ Some line
-
-pub located : (p : Program) (at : LinePlace) (line : CodeLine) → code_line_at p at ≡ Some line → Located p at line
-located p at line h = by (slice_get p.funcs at.func) refl h where
-  inner : (func : Func) → slice_get p.funcs at.func ≡ Some func → (o : Option BlockIr) → slice_get func.blocks at.block ≡ o → option_and_then (λ b. line_in b at.line) o ≡ Some line → Located p at line
-  inner func is None there k = absurd (cc)
-  inner func is (Some block) there k = record { func = func; block = block; is = is; there = there; here = k }
-
-  by : (o : Option Func) → slice_get p.funcs at.func ≡ o → option_and_then (λ func. option_and_then (λ b. line_in b at.line) (slice_get func.blocks at.block)) o ≡ Some line → Located p at line
-  by None is k = absurd (cc)
-  by (Some func) is k = inner func is (slice_get func.blocks at.block) refl k
 
 pub same_term : (block : BlockIr) (n : ℕ) (t : Term) → LineCases block n (terminator t) → t ≡ block.term
 same_term block n t (inl i) = let e : terminator t ≡ instruction i.0 = i.2 in absurd (cc)

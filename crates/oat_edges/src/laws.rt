@@ -4,7 +4,6 @@ ghost use Rattle.oat_edges.specs.Edges.{CompiledEdgesAreNamed, LinesExpand};
 use oat_gen::laws::{
     functions_have_their_code, globals_have_their_places, marked_code_expands, other_code_stays,
 };
-use oat_match::laws::lines_are_placed;
 use oat_symbols::laws::{
     call_sites_are_found, codes_are_of_the_program, places_are_named_by_source,
     sites_are_named_by_source,
@@ -26,7 +25,6 @@ pub fn compiled_edges_are_named()
     lines_expand();
     globals_have_their_places();
     functions_have_their_code();
-    lines_are_placed();
     codes_are_of_the_program();
     places_are_named_by_source();
     sites_are_named_by_source();

@@ -2,10 +2,15 @@
 use Rattle.std.proofs.Common.{◌≡◌, ◌<◌, ◌⊎◌, inl, inr, ℕ, zero, suc, Bool, true, false, cond, eqb, ne_eqb, List, [], ◌∷◌, ◌++◌, length, Option, option_map, Some, None, refl, sym, ap, ◌∙◌, arith}
 use Rattle.std.specs.Prelude.{slice_get}
 use Rattle.std.proofs.lemmas.Bool.{cases_lt, le-ltb}
+use Rattle.std.specs.Option.{option_and_then}
+use Rattle.oat_ir.specs.declared.program.Program.{Program}
+use Rattle.oat_ir.specs.declared.func.Func.{Func}
 use Rattle.oat_ir.specs.declared.func.BlockIr.{BlockIr}
 use Rattle.oat_ir.specs.declared.instr.Instr.{Instr}
 use Rattle.oat_check.specs.Lines.{CodeLine, instruction, line_in, terminator}
 use Rattle.oat_check.specs.Rules.{passes}
+use Rattle.oat_check.specs.Steps.{LinePlace}
+use Rattle.oat_match.specs.Placed.{code_line_at}
 use Rattle.oat_check.proofs.Frames.{There, instr_is, term_is, there}
 
 -- ---- by a test
@@ -54,3 +59,23 @@ line_cases block n line is = elim (cases_lt n (length block.instrs)) [
   beyond over =
       ap (λ (t : Bool). cond t (option_map instruction (slice_get block.instrs n)) (cond (eqb n (length block.instrs)) (Some (terminator block.term)) None)) (le-ltb n (length block.instrs) (omega arith))
       ∙ ap (λ (t : Bool). cond t (Some (terminator block.term)) None) (ne_eqb n (length block.instrs) (λ e. absurd (omega arith)))
+
+-- ---- a line of the program
+
+-- where a line of the program is found
+pub record Located (p : Program) (at : LinePlace) (line : CodeLine) : Type 0 where
+  pub func : Func
+  pub block : BlockIr
+  pub is : slice_get p.funcs at.func ≡ Some func
+  pub there : slice_get func.blocks at.block ≡ Some block
+  pub here : line_in block at.line ≡ Some line
+
+pub located : (p : Program) (at : LinePlace) (line : CodeLine) → code_line_at p at ≡ Some line → Located p at line
+located p at line h = by (slice_get p.funcs at.func) refl h where
+  inner : (func : Func) → slice_get p.funcs at.func ≡ Some func → (o : Option BlockIr) → slice_get func.blocks at.block ≡ o → option_and_then (λ b. line_in b at.line) o ≡ Some line → Located p at line
+  inner func is None there k = absurd (cc)
+  inner func is (Some block) there k = record { func = func; block = block; is = is; there = there; here = k }
+
+  by : (o : Option Func) → slice_get p.funcs at.func ≡ o → option_and_then (λ func. option_and_then (λ b. line_in b at.line) (slice_get func.blocks at.block)) o ≡ Some line → Located p at line
+  by None is k = absurd (cc)
+  by (Some func) is k = inner func is (slice_get func.blocks at.block) refl k

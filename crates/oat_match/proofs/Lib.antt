@@ -10,6 +10,7 @@ mod DeepCalls
 mod Targets
 mod OperationPlaces
 mod Placing
+pub mod CallRows
 mod Calling
 mod Returning
 mod Stepping

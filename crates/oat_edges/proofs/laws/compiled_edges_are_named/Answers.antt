@@ -10,5 +10,4 @@ returns c = compiled_edges_are_named (record {
   functions = c.functions_have_their_code.ensures;
   globals = c.globals_have_their_places.ensures;
   expand = c.lines_expand.ensures;
-  placed = c.lines_are_placed.ensures;
 })
