@@ -1,8 +1,7 @@
 -- The row of a call, and that the run goes on behind its group; for the crates above.
-use Rattle.std.proofs.Common.{◌≡◌, ◌+◌, ◌-◌, ◌*◌, ◌%◌, ◌^◌, ◌<◌, ◌≤◌, ℕ, List, [], ◌∷◌, length, Some, refl, sym, ap, subst, ◌∙◌, arith}
+use Rattle.std.proofs.Common.{◌≡◌, ◌+◌, ◌*◌, ◌%◌, ◌^◌, ◌<◌, ◌≤◌, ℕ, List, ◌∷◌, length, Some, subst, arith}
 use Rattle.oat_a64.specs.declared.inst.Inst.TheVariants.{Blr, Svc}
 use Rattle.oat_asm.specs.declared.branch_form.BranchForm.TheVariants.{Bl}
-use Rattle.oat_asm.specs.declared.item.Item.{Item}
 use Rattle.oat_asm.specs.declared.item.Item.TheVariants as item
 use Rattle.oat_asm.specs.declared.note.Note.TheVariants as note
 use Rattle.oat_asm.specs.Items.{words_needed}

@@ -18,3 +18,4 @@ mod Starting
 mod Taking
 mod Begins
 mod Following
+mod GoingBack

@@ -9,6 +9,10 @@ use Rattle.oat_check.specs.Rules.{IsChecked}
 use Rattle.oat_check.specs.Runs.{source_of}
 use Rattle.oat_check.specs.Steps.{LineEdge, SourceState, operation_of, source_step}
 use Rattle.oat_map.specs.Rows.{BeginsAt}
+use Rattle.oat_map.specs.Turns.{GoesBack, turn_of}
+use Rattle.oat_blob.specs.Body.{Body}
+use Rattle.oat_journal.specs.Measured.{HasBody, dev, window_of}
+use Rattle.oat_journal.specs.Window.{executed_path}
 use Rattle.oat_follow.specs.Following.{Means, RunsAs}
 use Rattle.oat_frames.specs.Frames.{World}
 use Rattle.oat_match.specs.Compiled.{IsCompiled}
@@ -45,3 +49,13 @@ abbrev pub CompiledProgramsMean : Type 0
 CompiledProgramsMean =
     (p : Program) → IsChecked p → (w : World) → IsCompiled p w → EdgesAreNamed p w → (inputs : List ℤ) → All (FitsSigned w64) inputs
     → (o : Opening) (g : ℕ) → operation_of p g ≡ Some o.op → BeginsAt w.image.map o.op o.begin_at → Means (source_of p inputs) w.image (placement p w) o inputs
+
+-- ---- honest paths
+
+-- the executed path of each window that was sealed goes back as it called
+abbrev pub CompiledWindowsGoBack : Type 0
+CompiledWindowsGoBack =
+    (p : Program) → IsChecked p → (w : World) → IsCompiled p w → EdgesAreNamed p w → (inputs : List ℤ) → All (FitsSigned w64) inputs
+    → (o : Opening) (g : ℕ) → operation_of p g ≡ Some o.op → BeginsAt w.image.map o.op o.begin_at
+    → (n s : ℕ) (body : Body) → HasBody o (dev w.image o inputs [] n) s body
+    → GoesBack turn_of [] (executed_path w.image.map o.op (window_of o s (dev w.image o inputs [] n)))

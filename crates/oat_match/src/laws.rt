@@ -1,7 +1,7 @@
 //! Laws of compiled programs, each the contract of a function that does nothing.
 ghost use Rattle.oat_match.specs.Compiled.{LinesArePlaced, ProgramsHaveWorlds};
 ghost use Rattle.oat_match.specs.DeepCalls.{DeepIndirectCallsTrap};
-ghost use Rattle.oat_match.specs.Following.{CompiledProgramsMean, CompiledProgramsRun, StepsTakeEdges, WindowsOpenAtBegins};
+ghost use Rattle.oat_match.specs.Following.{CompiledProgramsMean, CompiledProgramsRun, CompiledWindowsGoBack, StepsTakeEdges, WindowsOpenAtBegins};
 ghost use Rattle.oat_match.specs.Matching.{CellsStartAlike, StartsAreMatched, StepsAreMatched};
 
 use oat_check::laws::{cell_words_are_there, cells_are_words, elements_are_numbered};
@@ -70,4 +70,12 @@ pub fn compiled_programs_mean()
 {
     compiled_programs_run();
     windows_open_at_begins();
+}
+
+/// The executed path of each window that it seals goes back as it called.
+pub fn compiled_windows_go_back()
+    ensures { CompiledWindowsGoBack }
+{
+    compiled_programs_mean();
+    steps_take_edges();
 }
