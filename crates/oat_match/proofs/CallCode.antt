@@ -1,4 +1,4 @@
--- What stands before the branch of a call, and how many words it has; for the crates above.
+-- What stands before the branch of a call, and how many words it has.
 use Rattle.std.proofs.Common.{◌≡◌, ◌+◌, ℕ, suc, List, [], ◌∷◌, ◌++◌, length, refl, ap, ◌∙◌, arith}
 use Rattle.std.specs.Prelude.{pos}
 use Rattle.oat_a64.specs.declared.inst.Inst.TheVariants.{AddImm, BCond, Blr, Brk, Cbnz, Ldr, SubsImm, Svc}

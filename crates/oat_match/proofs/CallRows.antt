@@ -1,4 +1,4 @@
--- The row of a call, and that the run goes on behind its group; for the crates above.
+-- The row of a call, and that the run goes on behind its group.
 use Rattle.std.proofs.Common.{◌≡◌, ◌+◌, ◌*◌, ◌%◌, ◌^◌, ◌<◌, ◌≤◌, ℕ, List, ◌∷◌, length, Some, subst, arith}
 use Rattle.oat_a64.specs.declared.inst.Inst.TheVariants.{Blr, Svc}
 use Rattle.oat_asm.specs.declared.branch_form.BranchForm.TheVariants.{Bl}

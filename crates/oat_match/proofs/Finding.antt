@@ -1,4 +1,4 @@
--- What is found: an item that passes a test, and the line of a block that has a number; for the crates above.
+-- What is found: an item that passes a test, and the line of a block that has a number.
 use Rattle.std.proofs.Common.{◌≡◌, ◌<◌, ◌⊎◌, inl, inr, ℕ, zero, suc, Bool, true, false, cond, eqb, ne_eqb, List, [], ◌∷◌, ◌++◌, length, Option, option_map, Some, None, refl, sym, ap, ◌∙◌, arith}
 use Rattle.std.specs.Prelude.{slice_get}
 use Rattle.std.proofs.lemmas.Bool.{cases_lt, le-ltb}

@@ -1,6 +1,6 @@
 mod Worlds
-pub mod Finding
-pub mod CallCode
+mod Finding
+mod CallCode
 mod Operands
 mod Words
 mod Landing
@@ -10,7 +10,7 @@ mod DeepCalls
 mod Targets
 mod OperationPlaces
 mod Placing
-pub mod CallRows
+mod CallRows
 mod Calling
 mod Returning
 mod Stepping

@@ -1,5 +1,0 @@
-mod LineCode
-mod Counting
-mod LineSites
-mod SiteNames
-mod Edges
