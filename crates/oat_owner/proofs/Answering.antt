@@ -1,8 +1,8 @@
 -- Answer frames: what bytes tell, and where they stop to be one.
-use Rattle.std.proofs.Common.{◌≡◌, ◌≢◌, ℕ, zero, suc, ◌+◌, ◌-◌, ◌*◌, ◌<◌, ◌≤◌, ◌^◌, List, [], ◌∷◌, ◌++◌, Option, Some, None, length, take, drop, get_or, slice_get, replicate, refl, ap, sym, subst, ◌∙◌, arith, length-append, append_assoc, Fits, w8}
+use Rattle.std.proofs.Common.{◌≡◌, ◌≢◌, ℕ, zero, suc, ◌+◌, ◌-◌, ◌<◌, ◌≤◌, ◌^◌, List, [], ◌∷◌, ◌++◌, length, take, drop, get_or, slice_get, replicate, refl, ap, sym, subst, ◌∙◌, arith, length-append, append_assoc, Fits, w8}
 use Rattle.std.proofs.Math.Seq.{take-append-add}
-use Rattle.std.proofs.lemmas.List.{append-nil, take_more, length-replicate, length-take-le, length-drop, take-append-drop, take-append-le, take_all, drop_all, take_at, drop_at, append_cancel_left}
-use Rattle.std.proofs.lemmas.List.Elements.{All-append, All-from_get_or, All-get_or, All-nil, All-replicate, All-take, All-drop}
+use Rattle.std.proofs.lemmas.List.{append-nil, length-replicate, length-take-le, length-drop, take-append-drop, take_all, drop_all, take_at, drop_at}
+use Rattle.std.proofs.lemmas.List.Elements.{All-append, All-from_get_or, All-nil, All-replicate, All-take, All-drop}
 use Rattle.std.proofs.lemmas.Nat.{be_bytes_4, from_be_bytes-to_be_bytes_4}
 use Rattle.std.specs.Int.{w32, to_be_bytes, from_be_bytes}
 use Rattle.std.specs.List.{All}
@@ -80,11 +80,11 @@ begin_with_fields bytes long all =
     let all_one = All-drop IsByte 4 bytes all in
     let all_two = All-drop IsByte 16 one all_one in
     let made = made_of_fields (take 4 bytes) (take 16 one) (take 4 two) (drop 4 two)
-        (length-take-le 4 bytes (omega arith)) (length-take-le 16 one (omega arith)) (length-take-le 4 two (omega arith))
-        (All-take IsByte 4 bytes all) (All-take IsByte 16 one all_one) (All-take IsByte 4 two all_two) in
+    (length-take-le 4 bytes (omega arith)) (length-take-le 16 one (omega arith)) (length-take-le 4 two (omega arith))
+    (All-take IsByte 4 bytes all) (All-take IsByte 16 one all_one) (All-take IsByte 4 two all_two) in
     let whole : take 4 bytes ++ (take 16 one ++ (take 4 two ++ drop 4 two)) ≡ bytes =
-        ap (λ (xs : List ℕ). take 4 bytes ++ (take 16 one ++ xs)) (take-append-drop 4 two)
-        ∙ ap (λ (xs : List ℕ). take 4 bytes ++ xs) (take-append-drop 16 one) ∙ take-append-drop 4 bytes in
+    ap (λ (xs : List ℕ). take 4 bytes ++ (take 16 one ++ xs)) (take-append-drop 4 two)
+    ∙ ap (λ (xs : List ℕ). take 4 bytes ++ xs) (take-append-drop 16 one) ∙ take-append-drop 4 bytes in
     rw whole at made
 
 -- ---- frames
@@ -95,7 +95,7 @@ head device nonce stated = answer_front ++ fields_part device nonce stated
 head_length : (device : ℕ) (nonce : List ℕ) (stated : ℕ) → length nonce ≡ 16 → length (head device nonce stated) ≡ 29
 head_length device nonce stated sixteen = let sum = length-append nonce (to_be_bytes w32 stated) in omega (arith, sum)
 
-delivery_same : (d e : Delivery) → d.device ≡ e.device → d.nonce ≡ e.nonce → d.blob ≡ e.blob → d ≡ e
+pub delivery_same : (d e : Delivery) → d.device ≡ e.device → d.nonce ≡ e.nonce → d.blob ≡ e.blob → d ≡ e
 delivery_same d e devices nonces blobs = λ i. record { device = devices i; nonce = nonces i; blob = blobs i }
 
 pub begun : (front rest : List ℕ) (d : Delivery) → IsAnswerFrame (front ++ rest) d → BeginsAnswer front
@@ -119,8 +119,7 @@ module _ (device : ℕ) (nonce : List ℕ) (stated : ℕ) (fits : device < 2 ^ 3
       let devices : to_be_bytes w32 device ≡ to_be_bytes w32 d.device = ap (take 4) fields in
       let behind : nonce ++ to_be_bytes w32 stated ≡ d.nonce ++ to_be_bytes w32 (length d.blob) = ap (drop 4) fields in
       let nonces : nonce ≡ d.nonce = sym (take_at nonce _ 16 sixteen.counted) ∙ ap (take 16) behind ∙ take_at d.nonce _ 16 is.nonce.counted in
-      let lengths : to_be_bytes w32 stated ≡ to_be_bytes w32 (length d.blob) = sym (drop_at nonce _ 16 sixteen.counted) ∙ ap (drop 16) behind ∙ drop_at d.nonce _ 16 is.nonce.counted in
-      (
+      let lengths : to_be_bytes w32 stated ≡ to_be_bytes w32 (length d.blob) = sym (drop_at nonce _ 16 sixteen.counted) ∙ ap (drop 16) behind ∙ drop_at d.nonce _ 16 is.nonce.counted in (
         sym (sym (from_be_bytes-to_be_bytes_4 device fits) ∙ ap (from_be_bytes w32) devices ∙ from_be_bytes-to_be_bytes_4 d.device is.device),
         sym nonces,
         sym (sym (from_be_bytes-to_be_bytes_4 stated fit) ∙ ap (from_be_bytes w32) lengths ∙ from_be_bytes-to_be_bytes_4 (length d.blob) is.few),
@@ -163,7 +162,7 @@ module _ (device : ℕ) (nonce : List ℕ) (stated : ℕ) (fits : device < 2 ^ 3
       let size = head_length device nonce stated sixteen.counted in
       let sum = length-append front rest in
       let cut : (n : ℕ) → take (29 + n) (front ++ rest) ≡ front ++ take n rest = λ n.
-          subst (λ (m : ℕ). take (m + n) (front ++ rest) ≡ front ++ take n rest) size (take-append-add front rest n) in
+      subst (λ (m : ℕ). take (m + n) (front ++ rest) ≡ front ++ take n rest) size (take-append-add front rest n) in
       record {
         within = omega (arith, size, sum);
         begins = subst BeginsAnswer (sym (ap (λ (n : ℕ). take n (front ++ rest)) at ∙ cut stated)) (begun (front ++ take stated rest) [] (brings (take stated rest))
@@ -187,14 +186,14 @@ fields_read bytes a r b s c t device stated four sixteen last all is_a is_r is_b
     let all_r : All IsByte r = rw is_r (All-drop IsByte 4 bytes all) in
     let all_s : All IsByte s = rw is_s (All-drop IsByte 16 r all_r) in
     let made = made_of_fields a b c t
-        (ap length is_a ∙ length-take-le 4 bytes four) (ap length is_b ∙ length-take-le 16 r sixteen) (ap length is_c ∙ length-take-le 4 s last)
-        (rw is_a (All-take IsByte 4 bytes all)) (rw is_b (All-take IsByte 16 r all_r)) (rw is_c (All-take IsByte 4 s all_s)) in
+    (ap length is_a ∙ length-take-le 4 bytes four) (ap length is_b ∙ length-take-le 16 r sixteen) (ap length is_c ∙ length-take-le 4 s last)
+    (rw is_a (All-take IsByte 4 bytes all)) (rw is_b (All-take IsByte 16 r all_r)) (rw is_c (All-take IsByte 4 s all_s)) in
     let whole : a ++ (b ++ (c ++ t)) ≡ bytes =
-        ap (λ (xs : List ℕ). a ++ (b ++ xs)) (ap (λ (xs : List ℕ). xs ++ t) is_c ∙ ap (λ (xs : List ℕ). take 4 s ++ xs) is_t ∙ take-append-drop 4 s)
-        ∙ ap (λ (xs : List ℕ). a ++ xs) (ap (λ (xs : List ℕ). xs ++ s) is_b ∙ ap (λ (xs : List ℕ). take 16 r ++ xs) is_s ∙ take-append-drop 16 r)
-        ∙ ap (λ (xs : List ℕ). xs ++ r) is_a ∙ ap (λ (xs : List ℕ). take 4 bytes ++ xs) is_r ∙ take-append-drop 4 bytes in
+    ap (λ (xs : List ℕ). a ++ (b ++ xs)) (ap (λ (xs : List ℕ). xs ++ t) is_c ∙ ap (λ (xs : List ℕ). take 4 s ++ xs) is_t ∙ take-append-drop 4 s)
+    ∙ ap (λ (xs : List ℕ). a ++ xs) (ap (λ (xs : List ℕ). xs ++ s) is_b ∙ ap (λ (xs : List ℕ). take 16 r ++ xs) is_s ∙ take-append-drop 16 r)
+    ∙ ap (λ (xs : List ℕ). xs ++ r) is_a ∙ ap (λ (xs : List ℕ). take 4 bytes ++ xs) is_r ∙ take-append-drop 4 bytes in
     subst (λ (m : ℕ). AreFields bytes m b stated t) (sym is_device) (subst (λ (m : ℕ). AreFields bytes (from_be_bytes w32 a) b m t) (sym is_stated)
-        (subst (λ (xs : List ℕ). AreFields xs (from_be_bytes w32 a) b (from_be_bytes w32 c) t) whole made))
+    (subst (λ (xs : List ℕ). AreFields xs (from_be_bytes w32 a) b (from_be_bytes w32 c) t) whole made))
 
 -- fewer bytes than the front and the fields have
 pub wanting_fields : (bytes behind : List ℕ) → bytes ≡ answer_front ++ behind → length behind < 24 → All IsByte bytes → IsFrameOffset bytes (length bytes)
@@ -209,16 +208,16 @@ wanting_fields bytes behind parted short all =
     let bytes_before = length-append answer_front behind in
     let blob : List ℕ = replicate (from_be_bytes w32 (take 4 (drop 16 (drop 4 whole)))) 0 in
     let none_left : drop 4 (drop 16 (drop 4 whole)) ≡ [] = drop_all 4 (drop 16 (drop 4 whole))
-        (let one = length-drop 4 whole in let two = length-drop 16 (drop 4 whole) in omega (arith, many, sum, one, two)) in
+    (let one = length-drop 4 whole in let two = length-drop 16 (drop 4 whole) in omega (arith, many, sum, one, two)) in
     let device = from_be_bytes w32 (take 4 whole) in
     let nonce = take 16 (drop 4 whole) in
     let stated = from_be_bytes w32 (take 4 (drop 16 (drop 4 whole))) in
     let spelled : whole ≡ fields_part device nonce stated = fields.spelled ∙ ap (λ (xs : List ℕ). fields_part device nonce stated ++ xs) none_left ∙ append-nil (fields_part device nonce stated) in
     let filled : IsAnswerFrame ((answer_front ++ whole) ++ blob) (record { device = device; nonce = nonce; blob = blob }) =
-        subst (λ (xs : List ℕ). IsAnswerFrame ((answer_front ++ xs) ++ blob) (record { device = device; nonce = nonce; blob = blob })) (sym spelled)
-        (framed device nonce stated fields.device_fits fields.nonce_fits fields.stated_fits blob (length-replicate {A = ℕ} stated 0) (All-replicate IsByte stated 0 (omega arith))) in
+    subst (λ (xs : List ℕ). IsAnswerFrame ((answer_front ++ xs) ++ blob) (record { device = device; nonce = nonce; blob = blob })) (sym spelled)
+    (framed device nonce stated fields.device_fits fields.nonce_fits fields.stated_fits blob (length-replicate {A = ℕ} stated 0) (All-replicate IsByte stated 0 (omega arith))) in
     let shown : (answer_front ++ whole) ++ blob ≡ bytes ++ (zeros ++ blob) =
-        append_assoc (answer_front ++ behind) zeros blob ∙ ap (λ (xs : List ℕ). xs ++ (zeros ++ blob)) (sym parted) in
+    append_assoc (answer_front ++ behind) zeros blob ∙ ap (λ (xs : List ℕ). xs ++ (zeros ++ blob)) (sym parted) in
     record {
       within = omega arith;
       begins = subst BeginsAnswer (sym (take_all (length bytes) bytes (omega arith)))
@@ -259,7 +258,7 @@ pub leaves_front : (bytes : List ℕ) (offset : ℕ) → offset < 5 → take off
 leaves_front bytes offset few same within stops =
     let whole = answer_frame plain in
     let fronts : take offset bytes ≡ take offset whole =
-        same ∙ ap (take offset) (sym plain_front) ∙ taken_twice offset 5 whole (omega arith) in
+    same ∙ ap (take offset) (sym plain_front) ∙ taken_twice offset 5 whole (omega arith) in
     record {
       within = within;
       begins = begun (take offset bytes) (drop offset whole) plain
