@@ -163,12 +163,13 @@ impl Owner {
             return Err(IssueFault::Full);
         }
         let frame = challenge_frame(alloc, device, op, &nonce)?;
-        self.challenges.push(Challenge {
+        let challenge = Challenge {
             device,
             op,
             nonce,
             spent: false,
-        })?;
+        };
+        self.challenges.push(challenge)?;
         Ok(Issued {
             number: number as u32,
             frame,
