@@ -1,6 +1,7 @@
 ghost use Rattle.std.specs.Prelude.{◌≤◌, length};
 
 use super::*;
+use oat_case::Bytes;
 use oat_image::read_image;
 use oat_image::worked::ONE_JUMP;
 use oat_list::Listed;
@@ -42,57 +43,76 @@ fn cause(reply: Answer) -> Option<AnswerCause> {
     }
 }
 
+fn ask(
+    owner: &mut Owner,
+    alloc: Global,
+    device: u32,
+    op: u16,
+    nonce: [u8; 16],
+) -> Result<u32, IssueFault> {
+    let issued = owner.issue(alloc, device, op, nonce)?;
+    Ok(issued.number)
+}
+
 #[test]
-fn worked_challenge_is_accepted_once(rt: HostRuntime) -> Result<(), Fail> {
+fn challenges_are_issued_by_number(rt: HostRuntime) -> Result<(), Fail> {
     let text = ONE_JUMP.as_bytes();
     assert!(rt; text.len() <= 16_777_216);
     let mut owner = owner(rt.alloc(), text)?;
-    let issued = owner.issue(rt.alloc(), 1, 1, NONCE)?;
-    assert_eq!(rt; issued.number, 0);
+    let table: [(u32, u16, [u8; 16], Result<u32, IssueFault>); 5] = [
+        (1, 1, NONCE, Ok(0)),
+        (7, 1, NONCE, Err(IssueFault::UsedNonce(0))),
+        (1, 9, [0; 16], Err(IssueFault::NoOperation)),
+        (2, 1, [0; 16], Err(IssueFault::UnknownDevice)),
+        (7, 1, [0; 16], Ok(1)),
+    ];
+    for (device, op, nonce, reply) in table {
+        assert_eq!(rt; ask(&mut owner, rt.alloc(), device, op, nonce), reply);
+    }
+    let frame = challenge_frame(rt.alloc(), 1, 1, &NONCE)?;
     assert_eq!(rt;
-        hex::encode(rt.alloc(), issued.frame.into_vec())?.as_str(),
+        hex::encode(rt.alloc(), frame.into_vec())?.as_str(),
         "4f41544301000000010001000102030405060708090a0b0c0d0e0f"
     );
-    assert_eq!(rt;
-        owner.issue(rt.alloc(), 7, 1, NONCE).err(),
-        Some(IssueFault::UsedNonce(0))
-    );
-    assert_eq!(rt;
-        owner.issue(rt.alloc(), 1, 9, [0; 16]).err(),
-        Some(IssueFault::NoOperation)
-    );
-    assert_eq!(rt;
-        owner.issue(rt.alloc(), 2, 1, [0; 16]).err(),
-        Some(IssueFault::UnknownDevice)
-    );
-    let blob = hex::decode(rt.alloc(), BLOB)?;
-    assert!(rt; blob.len() == 128);
-    let frame = answer_frame(rt.alloc(), 1, &NONCE, &blob)?;
-    let other = answer_frame(rt.alloc(), 7, &NONCE, &blob)?;
-    assert_eq!(rt;
-        cause(owner.answer(rt.alloc(), other.as_slice())?),
-        Some(AnswerCause::NoChallenge)
-    );
-    let mut forged = Vec::from_slice(rt.alloc(), frame.as_slice())?;
-    assert!(rt; forged.len() == 157);
-    forged[156] ^= 1;
-    assert_eq!(rt;
-        cause(owner.answer(rt.alloc(), &forged)?),
-        Some(AnswerCause::Verdict {
-            number: 0,
-            cause: Cause::Mac
-        })
-    );
-    assert!(rt;
-        matches!(
-            &owner.answer(rt.alloc(), frame.as_slice())?,
-            Answer::Accepted { number: 0, .. }
-        )
-    );
-    assert_eq!(rt;
-        cause(owner.answer(rt.alloc(), frame.as_slice())?),
-        Some(AnswerCause::Spent(0))
-    );
+    Ok(())
+}
+
+fn frame_of(alloc: Global, device: u32, forged: u8) -> Result<Bytes, Fail> {
+    let mut blob = hex::decode(alloc, BLOB)?;
+    if let Some(last) = blob.last_mut() {
+        *last ^= forged;
+    }
+    if blob.len() > 1024 {
+        return Ok(Listed::from_vec(blob));
+    }
+    Ok(answer_frame(alloc, device, &NONCE, &blob)?)
+}
+
+#[test]
+fn worked_answer_is_accepted_once(rt: HostRuntime) -> Result<(), Fail> {
+    let text = ONE_JUMP.as_bytes();
+    assert!(rt; text.len() <= 16_777_216);
+    let mut owner = owner(rt.alloc(), text)?;
+    owner.issue(rt.alloc(), 1, 1, NONCE)?;
+    let forged = AnswerCause::Verdict {
+        number: 0,
+        cause: Cause::Mac,
+    };
+    let table: [(u32, u8, Option<AnswerCause>); 5] = [
+        (2, 0, Some(AnswerCause::UnknownDevice)),
+        (7, 0, Some(AnswerCause::NoChallenge)),
+        (1, 1, Some(forged)),
+        (1, 0, None),
+        (1, 0, Some(AnswerCause::Spent(0))),
+    ];
+    for (device, forged, reply) in table {
+        let frame = frame_of(rt.alloc(), device, forged)?;
+        assert_eq!(rt;
+            cause(owner.answer(rt.alloc(), frame.as_slice())?),
+            reply,
+            "from {device}"
+        );
+    }
     Ok(())
 }
 
@@ -122,37 +142,35 @@ fn frames_are_read_to_their_first_wrong_byte(rt: HostRuntime) -> Result<(), Fail
 }
 
 #[test]
-fn calls_are_replied_and_ids_are_distinct(rt: HostRuntime) -> Result<(), Fail> {
+fn calls_are_replied(rt: HostRuntime) -> Result<(), Fail> {
     let text = ONE_JUMP.as_bytes();
     assert!(rt; text.len() <= 16_777_216);
     let mut owner = owner(rt.alloc(), text)?;
-    let call = OwnerCall::Issue {
-        device: 7,
-        op: 1,
-        nonce: NONCE,
-    };
-    assert!(rt; matches!(&owner.call(rt.alloc(), &call)?, OwnerReply::Issue(Ok(_))));
-    let frame = OwnerCall::Answer(Listed::from_vec(Vec::new(rt.alloc())));
+    let call = OwnerCall::Answer(Listed::from_vec(Vec::new(rt.alloc())));
     assert!(rt;
         matches!(
-            &owner.call(rt.alloc(), &frame)?,
+            &owner.call(rt.alloc(), &call)?,
             OwnerReply::Answer(Answer::Refused(AnswerCause::Frame(0)))
         )
     );
-    let mut known = Vec::new(rt.alloc());
-    for id in [3, 4, 3, 4] {
-        known.push(device(rt.alloc(), text, id)?)?;
-    }
-    match Owner::new(rt.alloc(), known) {
-        Ok(_) => assert!(rt; false),
-        Err(refusal) => {
-            assert_eq!(rt; refusal.fault, OwnerFault::Twice(3));
-            assert_eq!(rt; refusal.known.len(), 4);
-        }
-    }
     laws::calls_give_replies();
     laws::one_reply();
     laws::accepted_once();
     laws::accepted_by_verdict();
+    Ok(())
+}
+
+#[test]
+fn devices_have_ids_of_their_own(rt: HostRuntime) -> Result<(), Fail> {
+    let text = ONE_JUMP.as_bytes();
+    assert!(rt; text.len() <= 16_777_216);
+    let mut known = Vec::new(rt.alloc());
+    for id in [3, 4, 3, 4] {
+        known.push(device(rt.alloc(), text, id)?)?;
+    }
+    let fault = Owner::new(rt.alloc(), known)
+        .err()
+        .map(|refusal| refusal.fault);
+    assert_eq!(rt; fault, Some(OwnerFault::Twice(3)));
     Ok(())
 }

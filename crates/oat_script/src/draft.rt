@@ -21,7 +21,12 @@ pub struct Draft {
 fn is_new(devices: &[ScriptDevice], id: u32) -> bool
     ensures { result ≡ is_new devices.now id }
 {
-    !devices.iter().any(|device| device.id == id)
+    for device in devices {
+        if device.id == id {
+            return false;
+        }
+    }
+    true
 }
 
 impl Draft {
