@@ -1,0 +1,6 @@
+mod Answering
+mod Searching
+mod Tabling
+mod Keeping
+mod Exchanging
+mod Deciding

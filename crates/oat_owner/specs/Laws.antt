@@ -1,0 +1,49 @@
+-- What an owner's replies are good for, in any order and number of calls.
+use Rattle.std.specs.Prelude.{◌≡◌, ℕ, List, [], slice_get, take, Some}
+use Rattle.oat_map.specs.declared.edge.Edge.{Edge}
+use Rattle.oat_verify.specs.declared.verdict.Verdict.TheVariants.{Accept}
+use Rattle.oat_verify.specs.Verdict.{subject_of, IsVerdict}
+use Rattle.oat_owner.specs.declared.device.Known.{Known}
+use Rattle.oat_owner.specs.declared.challenge.Challenge.{Challenge}
+use Rattle.oat_owner.specs.declared.owner.Answer.TheVariants.{Accepted}
+use Rattle.oat_owner.specs.declared.call.OwnerCall.{OwnerCall}
+use Rattle.oat_owner.specs.declared.call.OwnerCall.TheVariants as calls
+use Rattle.oat_owner.specs.declared.call.OwnerReply.{OwnerReply}
+use Rattle.oat_owner.specs.declared.call.OwnerReply.TheVariants as replies
+use Rattle.oat_owner.specs.Frames.{IsAnswerFrame}
+use Rattle.oat_owner.specs.Ledger.{Ledger, device_of}
+use Rattle.oat_owner.specs.Replies.{session_of}
+use Rattle.oat_owner.specs.Exchanges.{Exchange, IsReply, CallByCall, issued_by, owner_behind, AreReplies}
+
+-- What the clauses say call by call, of an owner that has issued nothing, is what the definition says of the whole list.
+abbrev pub CallsGiveReplies : Type 0
+CallsGiveReplies = (known : List Known) (exchanges : List Exchange) (l : Ledger) → CallByCall (owner_behind known []) exchanges l
+    → AreReplies known exchanges × (l ≡ owner_behind known exchanges)
+
+-- The calls and replies before it leave one reply.
+abbrev pub OneReply : Type 0
+OneReply = (l : Ledger) (call : OwnerCall) (one two : OwnerReply) → IsReply l call one → IsReply l call two → one ≡ two
+
+-- No number is accepted twice.
+abbrev pub AcceptedOnce : Type 0
+AcceptedOnce = (known : List Known) (exchanges : List Exchange) → AreReplies known exchanges
+    → (i j number : ℕ) (frame other : List ℕ) (path way : List Edge)
+    → slice_get exchanges i ≡ Some (record { call = calls.Answer frame; reply = replies.Answer (Accepted number path) })
+    → slice_get exchanges j ≡ Some (record { call = calls.Answer other; reply = replies.Answer (Accepted number way) }) → i ≡ j
+
+-- An acceptance is the verdict's for the challenge's own device, operation and nonce: an earlier call issued the challenge, and the frame
+-- brings its device, its nonce and a blob that the verdict accepts with this path.
+pub record IsAcceptance (known : List Known) (earlier : List Exchange) (frame : List ℕ) (number : ℕ) (path : List Edge) : Type 0 where
+  pub challenge : Challenge
+  pub is_issued : slice_get (issued_by earlier) number ≡ Some challenge
+  pub device : Known
+  pub is_known : device_of known challenge.device ≡ Some device
+  pub blob : List ℕ
+  pub is_brought : IsAnswerFrame frame (record { device = challenge.device; nonce = challenge.nonce; blob = blob })
+  pub verdict : IsVerdict (subject_of device.shaped (session_of device challenge)) blob (Accept path)
+
+abbrev pub AcceptedByVerdict : Type 0
+AcceptedByVerdict = (known : List Known) (exchanges : List Exchange) → AreReplies known exchanges
+    → (i number : ℕ) (frame : List ℕ) (path : List Edge)
+    → slice_get exchanges i ≡ Some (record { call = calls.Answer frame; reply = replies.Answer (Accepted number path) })
+    → IsAcceptance known (take i exchanges) frame number path

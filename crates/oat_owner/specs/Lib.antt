@@ -1,0 +1,9 @@
+pub mod Frames
+pub mod Fields
+pub mod Ledger
+pub mod Tables
+pub mod Refusal
+pub mod Kept
+pub mod Replies
+pub mod Exchanges
+pub mod Laws
