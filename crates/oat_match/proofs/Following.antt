@@ -1,7 +1,7 @@
 -- Where each source step of a compiled program is matched, and its start, the image follows the source, and so runs as it.
 use Rattle.std.proofs.Common.{◌≡◌, ℤ, List, [], ◌∷◌, Option, option_map, Some, None, FitsSigned, refl, sym, subst}
 use Rattle.std.specs.Int.{w64}
-use Rattle.std.specs.Prelude.{All}
+use Rattle.std.specs.List.{AllByRecursion}
 use Rattle.oat_ir.specs.declared.program.Program.{Program}
 use Rattle.oat_events.specs.Cells.{Cells}
 use Rattle.oat_events.specs.Events.{SourceEvent, enters, leaves, loads, outputs, stores, takes}
@@ -17,7 +17,7 @@ use Rattle.oat_follow.specs.Steps.{FollowsSteps, device_end}
 use Rattle.oat_follow.proofs.FollowLaws as follow
 use Rattle.oat_frames.specs.Frames.{World}
 use Rattle.oat_match.specs.Compiled.{IsCompiled}
-use Rattle.oat_match.specs.Following.{CompiledProgramsMean, CompiledProgramsRun, StepsTakeEdges, TakesEdgesOf, WindowsOpenAtBegins}
+use Rattle.oat_match.specs.Following.{CompiledProgramsMean, CompiledProgramsRun, StepsTakeEdges, TakesEdgesOf}
 use Rattle.oat_match.specs.Matching.{CellsStartAlike, IsAlike, IsRelated, StartIsMatched, StartsAreMatched, StepIsMatched, StepsAreMatched}
 use Rattle.oat_match.specs.Placed.{EdgesAreNamed, placement}
 
@@ -36,7 +36,7 @@ end_alike p w s m None h = h.is_at.going
 end_alike p w s m (Some why) h = h
 
 -- The image follows its source step by step.
-pub follows_steps : StepsAreMatched → StartsAreMatched → StepsTakeEdges → (p : Program) → IsChecked p → (w : World) → IsCompiled p w → EdgesAreNamed p w → (inputs : List ℤ) → All (FitsSigned w64) inputs
+pub follows_steps : StepsAreMatched → StartsAreMatched → StepsTakeEdges → (p : Program) → IsChecked p → (w : World) → IsCompiled p w → EdgesAreNamed p w → (inputs : List ℤ) → AllByRecursion (FitsSigned w64) inputs
     → FollowsSteps (source_of p inputs) w.image (placement p w) inputs
 follows_steps steps starts edges p ok w c named inputs fit =
     let start : StartIsMatched p w inputs = starts p ok w c inputs fit in
@@ -65,6 +65,5 @@ compiled_programs_run steps starts edges cells p ok w c named inputs fit =
     follow.runs_as (source_of p inputs) w.image (placement p w) inputs (subst (λ (words : Cells). SourceKeeps (source_of p inputs) words) (sym (cells p w c)) (keeps p ok inputs))
     (follows_steps steps starts edges p ok w c named inputs fit)
 
-pub compiled_programs_mean : CompiledProgramsRun → WindowsOpenAtBegins → CompiledProgramsMean
-compiled_programs_mean run open_ p ok w c named inputs fit o g is begins =
-    follow.means (source_of p inputs) w.image (placement p w) o inputs (open_ p ok w c g o.op o.begin_at is begins) (run p ok w c named inputs fit)
+pub compiled_programs_mean : CompiledProgramsRun → CompiledProgramsMean
+compiled_programs_mean run p ok w c named inputs fit o begun = follow.means (source_of p inputs) w.image (placement p w) o inputs begun (run p ok w c named inputs fit)

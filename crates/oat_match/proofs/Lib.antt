@@ -16,6 +16,5 @@ mod Returning
 mod Stepping
 mod Starting
 mod Taking
-mod Begins
 mod Following
 mod GoingBack

@@ -1,10 +1,8 @@
 -- The start of a compiled program's run: its prologue leads to where the source starts, and its cells hold what the source's hold.
-use Rattle.std.proofs.Common.{◌≡◌, ◌+◌, ◌*◌, ◌≤◌, ℕ, ℤ, List, [], inl, Option, option_map, Some, None, FitsSigned, refl, sym, ap, subst, ◌∙◌, arith}
+use Rattle.std.proofs.Common.{◌≡◌, ◌+◌, ◌*◌, ◌≤◌, ℕ, ℤ, List, [], inl, Option, option_map, Some, None, refl, sym, ap, subst, ◌∙◌, arith}
 use Rattle.std.specs.Prelude.{slice_get, unwrap_or}
 use Rattle.std.specs.Option.{option_and_then}
-use Rattle.std.specs.Int.{w64}
 use Rattle.std.specs.List.{sum_by}
-use Rattle.std.proofs.lemmas.List.Elements.{recursion_from_All}
 use Rattle.std.proofs.Math.Path.{fun_ext}
 use Rattle.oat_a64.specs.Step.{code_base}
 use Rattle.oat_mem.specs.DataMemory.{global_address, word_in}
@@ -89,7 +87,7 @@ starts_are_matched p ok w c inputs fit =
       count = s.count;
       few = let l : s.count ≤ 257 = s.few in omega arith;
       runs = s.runs;
-      related = record { consistent = first; alike = record { inputs = s.inputs; fit = recursion_from_All (FitsSigned w64) inputs fit; is_at = s.is_at } };
+      related = record { consistent = first; alike = record { inputs = s.inputs; fit = fit; is_at = s.is_at } };
     }
 
 -- ---- cells

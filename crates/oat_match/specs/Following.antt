@@ -1,14 +1,14 @@
 -- The image of a compiled program runs as its source: it ends as the source ends, in both directions and within the bound, and each window shows its call.
-use Rattle.std.specs.Prelude.{◌≡◌, ℕ, Some, ℤ, FitsSigned, All, List, [], ◌∷◌}
+use Rattle.std.specs.Prelude.{◌≡◌, ℕ, ℤ, FitsSigned, List, [], ◌∷◌}
 use Rattle.std.specs.Int.{w64}
+use Rattle.std.specs.List.{AllByRecursion}
 use Rattle.oat_ir.specs.declared.program.Program.{Program}
 use Rattle.oat_events.specs.Events.{SourceEvent, takes}
 use Rattle.oat_measure.specs.declared.opening.Opening.{Opening}
 use Rattle.oat_check.specs.Keeping.{IsConsistent}
 use Rattle.oat_check.specs.Rules.{IsChecked}
 use Rattle.oat_check.specs.Runs.{source_of}
-use Rattle.oat_check.specs.Steps.{LineEdge, SourceState, operation_of, source_step}
-use Rattle.oat_map.specs.Rows.{BeginsAt}
+use Rattle.oat_check.specs.Steps.{LineEdge, SourceState, source_step}
 use Rattle.oat_map.specs.Turns.{GoesBack, turn_of}
 use Rattle.oat_blob.specs.Body.{Body}
 use Rattle.oat_journal.specs.Measured.{HasBody, dev, window_of}
@@ -16,46 +16,37 @@ use Rattle.oat_journal.specs.Window.{executed_path}
 use Rattle.oat_follow.specs.Following.{Means, RunsAs}
 use Rattle.oat_frames.specs.Frames.{World}
 use Rattle.oat_match.specs.Compiled.{IsCompiled}
-use Rattle.oat_match.specs.Placed.{EdgesAreNamed, IsLineEdge, placement}
+use Rattle.oat_match.specs.Placed.{EdgesAreNamed, IsEdgeOf, placement}
 
 -- ---- the edges that a step takes are the program's
 
 abbrev pub TakesEdgesOf : Program → List (SourceEvent LineEdge) → Type 0
 TakesEdgesOf p [] = Unit {0}
-TakesEdgesOf p (takes edge ∷ es) = IsLineEdge p edge × TakesEdgesOf p es
+TakesEdgesOf p (takes edge ∷ es) = IsEdgeOf p edge × TakesEdgesOf p es
 TakesEdgesOf p (_ ∷ es) = TakesEdgesOf p es
 
 abbrev pub StepsTakeEdges : Type 0
 StepsTakeEdges = (p : Program) → IsChecked p → (s : SourceState) → IsConsistent p s → TakesEdgesOf p (source_step p s).shown
-
--- ---- where windows open
-
--- a window of an operation of the program opens where the operation begins
-abbrev pub WindowsOpenAtBegins : Type 0
-WindowsOpenAtBegins =
-    (p : Program) → IsChecked p → (w : World) → IsCompiled p w → (g op begin_at : ℕ) → operation_of p g ≡ Some op → BeginsAt w.image.map op begin_at
-    → (placement p w).begin op ≡ begin_at
 
 -- ---- whole runs
 
 -- the bare run, for every operation
 abbrev pub CompiledProgramsRun : Type 0
 CompiledProgramsRun =
-    (p : Program) → IsChecked p → (w : World) → IsCompiled p w → EdgesAreNamed p w → (inputs : List ℤ) → All (FitsSigned w64) inputs
+    (p : Program) → IsChecked p → (w : World) → IsCompiled p w → EdgesAreNamed p w → (inputs : List ℤ) → AllByRecursion (FitsSigned w64) inputs
     → RunsAs (source_of p inputs) w.image (placement p w) inputs
 
--- and the measured run of a session for an operation of the program, whose windows open at its Begin row
+-- and the measured run of a session whose windows open where its operation begins
 abbrev pub CompiledProgramsMean : Type 0
 CompiledProgramsMean =
-    (p : Program) → IsChecked p → (w : World) → IsCompiled p w → EdgesAreNamed p w → (inputs : List ℤ) → All (FitsSigned w64) inputs
-    → (o : Opening) (g : ℕ) → operation_of p g ≡ Some o.op → BeginsAt w.image.map o.op o.begin_at → Means (source_of p inputs) w.image (placement p w) o inputs
+    (p : Program) → IsChecked p → (w : World) → IsCompiled p w → EdgesAreNamed p w → (inputs : List ℤ) → AllByRecursion (FitsSigned w64) inputs
+    → (o : Opening) → (placement p w).begin o.op ≡ o.begin_at → Means (source_of p inputs) w.image (placement p w) o inputs
 
 -- ---- honest paths
 
 -- the executed path of each window that was sealed goes back as it called
 abbrev pub CompiledWindowsGoBack : Type 0
 CompiledWindowsGoBack =
-    (p : Program) → IsChecked p → (w : World) → IsCompiled p w → EdgesAreNamed p w → (inputs : List ℤ) → All (FitsSigned w64) inputs
-    → (o : Opening) (g : ℕ) → operation_of p g ≡ Some o.op → BeginsAt w.image.map o.op o.begin_at
-    → (n s : ℕ) (body : Body) → HasBody o (dev w.image o inputs [] n) s body
+    (p : Program) → IsChecked p → (w : World) → IsCompiled p w → EdgesAreNamed p w → (inputs : List ℤ) → AllByRecursion (FitsSigned w64) inputs
+    → (o : Opening) → (placement p w).begin o.op ≡ o.begin_at → (n s : ℕ) (body : Body) → HasBody o (dev w.image o inputs [] n) s body
     → GoesBack turn_of [] (executed_path w.image.map o.op (window_of o s (dev w.image o inputs [] n)))

@@ -1,5 +1,5 @@
 -- A compiled program's run and its source: how a moment of the one stands to a state of the other, and that each source step is matched by some instructions.
-use Rattle.std.specs.Prelude.{◌≡◌, ◌≤◌, ℕ, ℤ, FitsSigned, All, List, [], map, Option, Some, None, unwrap_or}
+use Rattle.std.specs.Prelude.{◌≡◌, ◌≤◌, ℕ, ℤ, FitsSigned, List, [], map, Option, Some, None, unwrap_or}
 use Rattle.std.specs.Int.{w64}
 use Rattle.std.specs.List.{AllByRecursion}
 use Rattle.oat_ir.specs.declared.program.Program.{Program}
@@ -69,7 +69,7 @@ pub record StartIsMatched (p : Program) (w : World) (inputs : List ℤ) : Type 0
 
 abbrev pub StartsAreMatched : Type 0
 StartsAreMatched =
-    (p : Program) → IsChecked p → (w : World) → IsCompiled p w → (inputs : List ℤ) → All (FitsSigned w64) inputs → StartIsMatched p w inputs
+    (p : Program) → IsChecked p → (w : World) → IsCompiled p w → (inputs : List ℤ) → AllByRecursion (FitsSigned w64) inputs → StartIsMatched p w inputs
 
 -- the cells of the image hold at the start what the source's hold
 abbrev pub CellsStartAlike : Type 0

@@ -1,11 +1,10 @@
 //! Laws of compiled programs, each the contract of a function that does nothing.
 ghost use Rattle.oat_match.specs.Compiled.{LinesArePlaced, ProgramsHaveWorlds};
 ghost use Rattle.oat_match.specs.DeepCalls.{DeepIndirectCallsTrap};
-ghost use Rattle.oat_match.specs.Following.{CompiledProgramsMean, CompiledProgramsRun, CompiledWindowsGoBack, StepsTakeEdges, WindowsOpenAtBegins};
+ghost use Rattle.oat_match.specs.Following.{CompiledProgramsMean, CompiledProgramsRun, CompiledWindowsGoBack, StepsTakeEdges};
 ghost use Rattle.oat_match.specs.Matching.{CellsStartAlike, StartsAreMatched, StepsAreMatched};
 
 use oat_check::laws::{cell_words_are_there, cells_are_words, elements_are_numbered};
-use oat_shape::laws::operations_open_once;
 
 /// A checked program has its world.
 pub fn programs_have_worlds()
@@ -57,19 +56,11 @@ pub fn compiled_programs_run()
     cells_start_alike();
 }
 
-/// Windows of an operation of the program open where the operation begins.
-pub fn windows_open_at_begins()
-    ensures { WindowsOpenAtBegins }
-{
-    operations_open_once();
-}
-
-/// And a measured run means it, in each session whose windows open at the Begin row of its operation.
+/// And a measured run means it, in each session whose windows open where their operation begins.
 pub fn compiled_programs_mean()
     ensures { CompiledProgramsMean }
 {
     compiled_programs_run();
-    windows_open_at_begins();
 }
 
 /// The executed path of each window that it seals goes back as it called.
