@@ -4,7 +4,7 @@ ghost use Rattle.std.specs.Ordering.{nat_cmp};
 ghost use Rattle.std.specs.BTreeMap.{get};
 ghost use Rattle.oat_a64.specs.Step.{code_base};
 ghost use Rattle.oat_asm.specs.Layout.{layout};
-ghost use Rattle.oat_asm.specs.StandingLaws.{label_address, LabelsStandOnce};
+ghost use Rattle.oat_asm.specs.StandingLaws.{label_address, CanBeAssembled, LabelsStandOnce};
 
 use oat_a64::CODE_BASE;
 use oat_asm::{Assembled, Items, LabelAt};
@@ -33,6 +33,7 @@ impl Model for LabelAddresses {
 impl LabelAddresses {
     /// Those of the labels among the items.
     pub(crate) fn new(alloc: Global, items: &Items, assembled: &Assembled) -> Result<LabelAddresses, AllocError>
+        requires whole { CanBeAssembled items.now }
         requires laid { assembled.now ≡ layout items.now code_base }
         requires once { LabelsStandOnce items.now }
         ensures { IfOk result (λ addresses. (label : ℕ) → addresses label ≡ label_address items.now label) }

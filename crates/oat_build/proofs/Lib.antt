@@ -1,0 +1,2 @@
+mod StartWords
+mod Addresses
