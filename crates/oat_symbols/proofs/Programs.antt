@@ -1,6 +1,6 @@
 -- The symbol table of a checked program is one.
-use Rattle.std.proofs.Common.{◌≡◌, ℕ, zero, suc, ◌+◌, ◌<◌, ◌≤◌, List, [], ◌∷◌, ◌++◌, length, map, take, drop, refl, sym, ap, ◌∙◌, subst, Bool, true, false, arith, inl, inr}
-use Rattle.std.specs.Prelude.{Contains}
+use Rattle.std.proofs.Common.{◌≡◌, ℕ, zero, suc, ◌+◌, ◌<◌, ◌≤◌, List, [], ◌∷◌, ◌++◌, length, map, take, drop, refl, sym, ap, ◌∙◌, subst, Bool, true, false, Option, Some, arith, inl, inr}
+use Rattle.std.specs.Prelude.{Contains, slice_get}
 use Rattle.std.specs.List.{AllByRecursion, flat_map, sum_by, list_any, position_or_len}
 use Rattle.std.specs.Option.{option_to_list}
 use Rattle.std.proofs.lemmas.Bool.{true≢false}
@@ -25,7 +25,7 @@ use Rattle.oat_parts.proofs.Lists.{first_in, later_in, cons_cases, get_in, in_ge
 use Rattle.oat_symbols.proofs.Distinct.{distinct_texts, ids, distinct_ids}
 use Rattle.oat_symbols.proofs.Labels.{functions_labelled, blocks_labelled, labels_distinct}
 use Rattle.oat_symbols.proofs.Globals.{words_between, words_set, cells_between, all_by, rises_map, rising}
-use Rattle.oat_symbols.specs.Programs.{block_names, symbols_from, all_symbols, label_of_block, with_first, main_at, words_from, symbols_of, HasValidNames, ProgramsHaveSymbols, ProgramsHaveTheirLabels}
+use Rattle.oat_symbols.specs.Programs.{block_names, symbol_for, symbols_from, all_symbols, label_of_block, with_first, main_at, words_from, symbols_of, HasValidNames, ProgramsHaveSymbols, ProgramsHaveTheirLabels}
 
 -- ---- the functions
 
@@ -188,6 +188,18 @@ first_has m xs x less has =
     ] in
     subst (λ ys. Contains (ys ++ (front ++ back)) x) (sym s.2) moved
 
+-- the symbol of a function has the number of its operation
+with_number : (program : Program) (f n : ℕ) (funcs : List Func) (k : ℕ) (func : Func) → slice_get funcs k ≡ Some func
+    → (e : FunctionSymbol) × Contains (symbols_from program f n funcs) e × (e.operation ≡ operation_number func.role)
+with_number program f n [] k func at = absurd cc
+with_number program f n (g ∷ gs) zero func at =
+    let same : g ≡ func = cc in
+    (symbol_for program f n g, first_in (symbol_for program f n g) (symbols_from program (f + 1) (n + length (block_names g)) gs), ap (λ (h : Func). operation_number h.role) same)
+with_number program f n (g ∷ gs) (suc k) func at =
+    let rest = symbols_from program (f + 1) (n + length (block_names g)) gs in
+    let r = with_number program (f + 1) (n + length (block_names g)) gs k func at in
+    (r.0, later_in (symbol_for program f n g) rest r.0 r.1, r.2)
+
 -- the number of each function and block is a label of the table
 pub programs_have_their_labels : ProgramsHaveTheirLabels
 programs_have_their_labels program ok =
@@ -205,4 +217,10 @@ programs_have_their_labels program ok =
           let r = of_flat_map own_labels es (label_of_block program f b) (blocks_labelled program 0 n program.funcs f b (label_of_block program f b) func at less refl) in
           let there = in_get (with_first m es) r.1 (has_first r.1 (get_in es r.0 r.1 r.2)) in
           in_flat_map own_labels (with_first m es) there.0 r.1 (label_of_block program f b) there.1 r.3;
+      operations = λ f op func at is.
+          let r = with_number program 0 n program.funcs f func at in
+          let there = in_get (with_first m es) r.0 (has_first r.0 r.1) in
+          let number : r.0.operation ≡ Some op = r.2 ∙ is in
+          let own : Contains (option_to_list r.0.operation) op = subst (λ (o : Option ℕ). Contains (option_to_list o) op) (sym number) (first_in op []) in
+          in_flat_map (λ (e : FunctionSymbol). option_to_list e.operation) (with_first m es) there.0 r.0 op there.1 own;
     }

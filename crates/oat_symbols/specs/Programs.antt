@@ -14,7 +14,7 @@ use Rattle.oat_check.specs.Globals.{size_in_words, start_of, cell_words, cell_nu
 use Rattle.oat_check.specs.Keeping.{is_referenced}
 use Rattle.oat_check.specs.Rules.{is_main, IsChecked}
 use Rattle.oat_check.specs.Steps.{operation_number}
-use Rattle.oat_parts.specs.Symbols.{FunctionSymbol, SymbolTable, IsSymbolTable, IsFunctionLabel, IsBlockLabel}
+use Rattle.oat_parts.specs.Symbols.{FunctionSymbol, SymbolTable, IsSymbolTable, IsFunctionLabel, IsBlockLabel, operations_in}
 
 -- ---- functions and labels
 
@@ -76,11 +76,13 @@ pub record HasValidNames (program : Program) : Type 0 where
 abbrev pub ProgramsHaveSymbols : Type 0
 ProgramsHaveSymbols = (program : Program) → IsChecked program → HasValidNames program → IsSymbolTable (symbols_of program)
 
--- each function and block has its label in the table
+-- each function and block has its label in the table, and each operation its number
 pub record HasItsLabels (program : Program) : Type 0 where
   pub functions : (f : ℕ) → f < length program.funcs → IsFunctionLabel (symbols_of program) f
   pub blocks : (f b : ℕ) (func : Func) → slice_get program.funcs f ≡ Some func → b < length func.blocks
       → IsBlockLabel (symbols_of program) (label_of_block program f b)
+  pub operations : (f op : ℕ) (func : Func) → slice_get program.funcs f ≡ Some func → operation_number func.role ≡ Some op
+      → Contains (operations_in (symbols_of program).functions) op
 
 abbrev pub ProgramsHaveTheirLabels : Type 0
 ProgramsHaveTheirLabels = (program : Program) → IsChecked program → HasItsLabels program

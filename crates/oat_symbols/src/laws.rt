@@ -12,7 +12,7 @@ pub fn programs_have_symbols()
     ensures { ProgramsHaveSymbols }
 {}
 
-/// The numbers of the program's functions and blocks are labels of it.
+/// The numbers of the program's functions and blocks are labels of it, and those of its operations are there.
 pub fn programs_have_their_labels()
     ensures { ProgramsHaveTheirLabels }
 {}

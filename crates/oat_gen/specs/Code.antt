@@ -1,0 +1,77 @@
+-- The code of a program, line by line, with a mark for each row: by where the globals lie and by the label of the function's first block, behind which the others are numbered. Function f has label f. `main` is laid out first, and all other functions in their order.
+use Rattle.std.specs.Prelude.{◌+◌, ℕ, List, [], ◌∷◌, ◌++◌, length, map}
+use Rattle.oat_asm.specs.declared.item.Item.{Item}
+use Rattle.oat_asm.specs.Expansion.{expansion}
+use Rattle.oat_ir.specs.declared.program.Program.{Program}
+use Rattle.oat_ir.specs.declared.func.Func.{Func}
+use Rattle.oat_ir.specs.declared.func.BlockIr.{BlockIr}
+use Rattle.oat_ir.specs.declared.instr.Instr.{Instr}
+use Rattle.oat_ir.specs.declared.instr.Instr.TheVariants.{Const, Copy, Binary, Load, Store, LoadX, StoreX, RefTo, Call, ICall, Input, Output}
+use Rattle.oat_ir.specs.declared.instr.Term.{Term}
+use Rattle.oat_ir.specs.declared.instr.Term.TheVariants.{Jump, Branch, Ret, Halt}
+use Rattle.oat_check.specs.Lines.{CodeLine, instruction, terminator}
+use Rattle.oat_check.specs.Steps.{operation_number}
+use Rattle.oat_parts.specs.Making.{FunctionCode}
+use Rattle.oat_symbols.specs.Programs.{label_of_block}
+use Rattle.oat_symbols.specs.Codes.{codes_of, items_for}
+use Rattle.oat_frames.specs.Frames.{Home, slot}
+use Rattle.oat_frames.specs.Lines.{lines_code}
+use Rattle.oat_locals.specs.Code.{binary_code, const_code, copy_code, input_code, output_code, halt_code}
+use Rattle.oat_globals.specs.Code.{ref_code}
+use Rattle.oat_gen.specs.declared.globals.GlobalPlace.{GlobalPlace}
+use Rattle.oat_gen.specs.GlobalPlaces.{global_places, place_in}
+use Rattle.oat_gen.specs.Marked.{marked_start, marked_return, marked_call, marked_icall, marked_jump, marked_branch, scalar_load, scalar_store, element_load, element_store}
+
+-- where a local of a function is held: slot 0 of a frame has the return address
+abbrev pub home_of : Func → ℕ → Home
+home_of func x = slot (x + 1)
+
+-- ---- lines
+
+abbrev pub instruction_code : List GlobalPlace → Instr → List Item
+instruction_code places (Const x value) = const_code x value
+instruction_code places (Copy x y) = copy_code x y
+instruction_code places (Binary op x y z) = binary_code op x y z
+instruction_code places (Load x g) = scalar_load (place_in places g) x
+instruction_code places (Store g x) = scalar_store (place_in places g) x
+instruction_code places (LoadX x g i) = element_load (place_in places g) x i
+instruction_code places (StoreX g i x) = element_store (place_in places g) i x
+instruction_code places (RefTo x callee) = ref_code x callee
+instruction_code places (Call x callee args) = marked_call args callee x
+instruction_code places (ICall x y args) = marked_icall args y x
+instruction_code places (Input x) = input_code x
+instruction_code places (Output x) = output_code x
+
+abbrev pub terminator_code : (first : ℕ) → Func → Term → List Item
+terminator_code first func (Jump to) = marked_jump (first + to)
+terminator_code first func (Branch x taken other) = marked_branch x (first + taken) (first + other)
+terminator_code first func (Ret x) = marked_return (length func.locals) x (operation_number func.role)
+terminator_code first func Halt = halt_code
+
+abbrev pub line_code : List GlobalPlace → (first : ℕ) → Func → CodeLine → List Item
+line_code places first func (instruction i) = instruction_code places i
+line_code places first func (terminator t) = terminator_code first func t
+
+-- ---- blocks
+
+abbrev pub code_lines : BlockIr → List CodeLine
+code_lines block = map instruction block.instrs ++ terminator block.term ∷ []
+
+abbrev pub block_code : List GlobalPlace → (first : ℕ) → Func → BlockIr → List Item
+block_code places first func block = lines_code (map (line_code places first func) (code_lines block))
+
+-- the code of each line, with its rows and their groups
+abbrev pub expanded_lines : List GlobalPlace → (first : ℕ) → Func → BlockIr → List (List Item)
+expanded_lines places first func block = map (λ line. expansion (line_code places first func line)) (code_lines block)
+
+-- ---- functions, and the program
+
+abbrev pub function_code : Program → ℕ → Func → FunctionCode
+function_code p f func = record {
+  prologue = marked_start func.params (length func.locals) (operation_number func.role);
+  blocks = map (block_code (global_places p) (label_of_block p f 0) func) func.blocks;
+}
+
+-- the items of the whole program
+abbrev pub program_items : Program → List Item
+program_items p = items_for p (codes_of (function_code p) p)

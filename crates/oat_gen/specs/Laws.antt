@@ -1,0 +1,96 @@
+-- What holds of the code of each program: what its expansion is, that an image is built of it, and how many words it needs.
+use Rattle.std.specs.Prelude.{◌≡◌, ◌≤◌, ◌+◌, ◌*◌, ℕ, ℤ, List, length, slice_get, Option, Some}
+use Rattle.std.specs.List.{sum_by}
+use Rattle.oat_asm.specs.declared.item.Item.{Item}
+use Rattle.oat_asm.specs.Items.{words_needed, code_limit}
+use Rattle.oat_asm.specs.Expansion.{expansion}
+use Rattle.oat_ir.specs.declared.program.Program.{Program}
+use Rattle.oat_ir.specs.declared.func.Func.{Func}
+use Rattle.oat_ir.specs.declared.func.BlockIr.{BlockIr}
+use Rattle.oat_ir.specs.declared.instr.BinOp.{BinOp}
+use Rattle.oat_check.specs.Lines.{CodeLine, line_in}
+use Rattle.oat_check.specs.Rules.{IsChecked}
+use Rattle.oat_parts.specs.Built.{CanBeExpanded}
+use Rattle.oat_symbols.specs.Programs.{symbols_of, HasValidNames}
+use Rattle.oat_symbols.specs.Codes.{IsCodeOf, IsBuiltWhole}
+use Rattle.oat_frames.specs.Code.{call_code, icall_code}
+use Rattle.oat_frames.specs.Lines.{lines_code}
+use Rattle.oat_locals.specs.Code.{binary_code, const_code, copy_code, input_code, output_code, jump_code, branch_code, halt_code}
+use Rattle.oat_globals.specs.Code.{load_code, store_code, ref_code, loadx_code, storex_code, use_code, define_code, use_at_code, define_at_code}
+use Rattle.oat_globals.specs.Operations.{start_code, leave_code}
+use Rattle.oat_gen.specs.declared.globals.GlobalPlace.{GlobalPlace}
+use Rattle.oat_gen.specs.declared.globals.GlobalPlace.TheVariants.{Critical}
+use Rattle.oat_gen.specs.Marked.{marked_start, marked_return, marked_call, marked_icall, marked_jump, marked_branch, scalar_load, scalar_store, element_load, element_store}
+use Rattle.oat_gen.specs.Code.{line_code, code_lines, block_code, function_code, program_items, expanded_lines}
+
+-- ---- the expansion, line by line
+
+-- code with a mark becomes the code of its line
+pub record MarkedCodeExpands : Type 0 where
+  pub start : (params locals : ℕ) (op : Option ℕ) → expansion (marked_start params locals op) ≡ start_code params locals op
+  pub leave : (locals from : ℕ) (op : Option ℕ) → expansion (marked_return locals from op) ≡ leave_code locals from op
+  pub call : (args : List ℕ) (callee result : ℕ) → expansion (marked_call args callee result) ≡ call_code args callee result
+  pub icall : (args : List ℕ) (from result : ℕ) → expansion (marked_icall args from result) ≡ icall_code args from result
+  pub jump : (to : ℕ) → expansion (marked_jump to) ≡ jump_code to
+  pub branch : (x first second : ℕ) → expansion (marked_branch x first second) ≡ branch_code x first second
+  pub load : (word cell len x : ℕ) → expansion (scalar_load (Critical word cell len) x) ≡ use_code x word cell
+  pub store : (word cell len x : ℕ) → expansion (scalar_store (Critical word cell len) x) ≡ define_code word cell x
+  pub loadx : (word cell len x i : ℕ) → expansion (element_load (Critical word cell len) x i) ≡ use_at_code x word cell len i
+  pub storex : (word cell len i x : ℕ) → expansion (element_store (Critical word cell len) i x) ≡ define_at_code word cell len i x
+
+-- code without a mark stays as it is
+pub record OtherCodeStays : Type 0 where
+  pub binary : (op : BinOp) (x y z : ℕ) → expansion (binary_code op x y z) ≡ binary_code op x y z
+  pub const : (x : ℕ) (value : ℤ) → expansion (const_code x value) ≡ const_code x value
+  pub copy : (x y : ℕ) → expansion (copy_code x y) ≡ copy_code x y
+  pub input : (x : ℕ) → expansion (input_code x) ≡ input_code x
+  pub output : (x : ℕ) → expansion (output_code x) ≡ output_code x
+  pub halt : expansion halt_code ≡ halt_code
+  pub load : (x word : ℕ) → expansion (load_code x word) ≡ load_code x word
+  pub store : (word x : ℕ) → expansion (store_code word x) ≡ store_code word x
+  pub ref : (x callee : ℕ) → expansion (ref_code x callee) ≡ ref_code x callee
+  pub loadx : (x word len i : ℕ) → expansion (loadx_code x word len i) ≡ loadx_code x word len i
+  pub storex : (word len i x : ℕ) → expansion (storex_code word len i x) ≡ storex_code word len i x
+
+-- ---- blocks
+
+-- a block becomes its lines, one behind the other
+abbrev pub BlocksExpandByLine : Type 0
+BlocksExpandByLine =
+    (places : List GlobalPlace) (first : ℕ) (func : Func) (block : BlockIr) → expansion (block_code places first func block) ≡ lines_code (expanded_lines places first func block)
+
+-- each line of a block has its code there, and there are no others
+pub record LinesHaveTheirCode (places : List GlobalPlace) (first : ℕ) (func : Func) (block : BlockIr) : Type 0 where
+  pub count : length (expanded_lines places first func block) ≡ length block.instrs + 1
+  pub each : (n : ℕ) (line : CodeLine) → line_in block n ≡ Some line → slice_get (expanded_lines places first func block) n ≡ Some (expansion (line_code places first func line))
+
+abbrev pub BlocksHaveTheirLines : Type 0
+BlocksHaveTheirLines = (places : List GlobalPlace) (first : ℕ) (func : Func) (block : BlockIr) → LinesHaveTheirCode places first func block
+
+-- ---- programs
+
+-- the code of a function of a checked program is a prologue that begins its operation, and a stretch for each block
+abbrev pub FunctionsHaveTheirCode : Type 0
+FunctionsHaveTheirCode =
+    (p : Program) (f : ℕ) (func : Func) → IsChecked p → slice_get p.funcs f ≡ Some func → IsCodeOf (symbols_of p) func (function_code p f func)
+
+abbrev pub ProgramItemsCanBeExpanded : Type 0
+ProgramItemsCanBeExpanded = (p : Program) → IsChecked p → HasValidNames p → CanBeExpanded (program_items p)
+
+-- where the code fits, the image of a checked program has the shape, and its items stand in it
+abbrev pub FittingProgramsAreBuilt : Type 0
+FittingProgramsAreBuilt =
+    (p : Program) → IsChecked p → HasValidNames p → words_needed (expansion (program_items p)) ≤ code_limit → IsBuiltWhole p (program_items p)
+
+-- ---- words
+
+-- how many instructions and terminators a program has
+abbrev pub line_total : Program → ℕ
+line_total p = sum_by (λ func. sum_by (λ block. length block.instrs + 1) func.blocks) p.funcs
+
+-- 32 words for each of them, and 300 for each function, whether they fit into an image or not
+abbrev pub most_words : Program → ℕ
+most_words p = 32 * line_total p + 300 * length p.funcs
+
+abbrev pub ProgramsHaveFewWords : Type 0
+ProgramsHaveFewWords = (p : Program) → IsChecked p → words_needed (expansion (program_items p)) ≤ most_words p

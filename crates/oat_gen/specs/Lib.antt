@@ -1,0 +1,5 @@
+pub mod GlobalPlaces
+pub mod Marked
+pub mod Code
+pub mod Laws
+pub mod Worked
