@@ -1,2 +1,4 @@
 pub mod Code
 pub mod Compiled
+pub mod Placed
+pub mod Matching
