@@ -1,2 +1,5 @@
 mod StartWords
-mod Addresses
+mod Labels
+mod LineCode
+mod DataLists
+mod SymbolLists

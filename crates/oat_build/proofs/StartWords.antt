@@ -59,22 +59,22 @@ start_small (FnScalar name params) = omega arith
 start_small (Array name len) = omega arith
 start_small (CriticalArray name len) = omega arith
 
-both_zero : (b : Bool) → cond b 0 0 ≡ 0
+both_zero : (b : Bool) → ◌≡◌ {A = ℕ} (cond b 0 0) 0
 both_zero true = refl
 both_zero false = refl
+
+first_placed : (memory : ℕ → ℕ) (first : ℕ) (item : GlobalItem) → IsZeroFrom memory first → Placed memory first (start_of item) (laid memory (word_at_start first (start_of item)))
+first_placed memory first item zeros = placed memory first (start_of item) (start_small item) (zeros first (omega arith)) (nat_eq (start_of item) 0) refl
+
+scalar_behind : (memory new : ℕ → ℕ) (first start n : ℕ) → IsZeroFrom memory first → Placed memory first start new → word_of new (first + n) ≡ cond (nat_lt n 1) start 0
+scalar_behind memory new first start zero zeros one = let none : first + 0 ≡ first = omega arith in ap (word_of new) none ∙ one.here
+scalar_behind memory new first start (suc n) zeros one =
+    one.others (first + suc n) (inr (omega arith)) ∙ zeros (first + suc n) (omega arith) ∙ sym (ap (λ (b : Bool). cond b start 0) (le-ltb (suc n) 1 (omega arith)))
 
 -- word n behind the first of a global's: the global's start, if it is one of its words, and else 0
 behind : (memory : ℕ → ℕ) (first : ℕ) (item : GlobalItem) (n : ℕ) → IsZeroFrom memory first
     → word_of (laid memory (word_at_start first (start_of item))) (first + n) ≡ cond (nat_lt n (size_in_words item)) (start_of item) 0
-behind memory first (Scalar name start critical) n zeros = by n where
-  new = laid memory (word_at_start first (number start))
-
-  one : Placed memory first (number start) new
-  one = first_placed memory first (Scalar name start critical) zeros
-
-  by : (n : ℕ) → word_of new (first + n) ≡ cond (nat_lt n 1) (number start) 0
-  by zero = let none : first + 0 ≡ first = omega arith in ap (word_of new) none ∙ one.here
-  by (suc n) = one.others (first + suc n) (inr (omega arith)) ∙ zeros (first + suc n) (omega arith)
+behind memory first (Scalar name start critical) n zeros = scalar_behind memory (laid memory (word_at_start first (number start))) first (number start) n zeros (first_placed memory first (Scalar name start critical) zeros)
 behind memory first (FnScalar name params) n zeros = zeros (first + n) (omega arith) ∙ sym (both_zero (nat_lt n 1))
 behind memory first (Array name len) n zeros = zeros (first + n) (omega arith) ∙ sym (both_zero (nat_lt n len))
 behind memory first (CriticalArray name len) n zeros = zeros (first + n) (omega arith) ∙ sym (both_zero (nat_lt n len))

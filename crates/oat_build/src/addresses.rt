@@ -1,33 +1,22 @@
 //! The addresses of labels.
-ghost use Rattle.std.specs.Prelude.{◌≡◌, ℕ, IfOk, OnOk, nat_eq, get_or, if◌then◌else◌, Some, length, ◌+◌, ◌*◌};
+ghost use Rattle.std.specs.Prelude.{◌≡◌, ℕ, IfOk, OnOk, nat_eq, if◌then◌else◌, Some};
 ghost use Rattle.std.specs.Ordering.{nat_cmp};
 ghost use Rattle.std.specs.BTreeMap.{get};
 ghost use Rattle.oat_a64.specs.Step.{code_base};
 ghost use Rattle.oat_asm.specs.Layout.{layout};
 ghost use Rattle.oat_asm.specs.StandingLaws.{label_address, CanBeAssembled, LabelsStandOnce};
+ghost use Rattle.oat_build.specs.Addresses.{address_in};
 
 use oat_a64::CODE_BASE;
 use oat_asm::{Assembled, Items, LabelAt};
 use std::alloc::{AllocError, Global};
 use std::collections::BTreeMap;
-use std::marker::Model;
 
-/// Where labels stand.
-///
-/// Contracts see it as the address of each label; a label that stands nowhere has that behind all code.
+/// Where labels stand. A label that stands nowhere has the address behind all code.
+#[derive(Drop)]
 pub(crate) struct LabelAddresses {
     known: BTreeMap<u32, u64>,
     end: u64,
-}
-
-impl Model for LabelAddresses {
-    ghost use Rattle.std.specs.Prelude.{ℕ, unwrap_or};
-    ghost use Rattle.std.specs.Ordering.{nat_cmp};
-    ghost use Rattle.std.specs.BTreeMap.{get};
-
-    ghost Value = { ℕ → ℕ };
-
-    ghost view = { λ addresses. λ label. unwrap_or (get nat_cmp addresses.known label) addresses.end };
 }
 
 impl LabelAddresses {
@@ -36,7 +25,7 @@ impl LabelAddresses {
         requires whole { CanBeAssembled items.now }
         requires laid { assembled.now ≡ layout items.now code_base }
         requires once { LabelsStandOnce items.now }
-        ensures { IfOk result (λ addresses. (label : ℕ) → addresses label ≡ label_address items.now label) }
+        ensures { IfOk result (λ addresses. (label : ℕ) → address_in addresses label ≡ label_address items.now label) }
     {
         let mut known = BTreeMap::new(alloc);
         for entry in assembled.labels.as_slice() {
@@ -47,7 +36,7 @@ impl LabelAddresses {
     }
 
     pub(crate) fn of(&self, label: u32) -> u64
-        ensures { result ≡ self.now label }
+        ensures { result ≡ address_in self.now label }
     {
         self.known.get(&label).copied().unwrap_or(self.end)
     }

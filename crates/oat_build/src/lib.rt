@@ -3,3 +3,6 @@
 
 mod addresses;
 mod data;
+mod references;
+mod rows;
+mod symbols;

@@ -1,6 +1,7 @@
 //! The rows of notes.
 ghost use Rattle.std.specs.Prelude.{◌≡◌, ◌++◌, [], ◌∷◌, IfOk, OnOk, map};
 ghost use Rattle.oat_asm.specs.NoteRows.{row_of};
+ghost use Rattle.oat_build.specs.Addresses.{address_in};
 
 use crate::addresses::LabelAddresses;
 use oat_asm::{Note, NoteAt};
@@ -13,7 +14,7 @@ pub(crate) fn rows(
     notes: &[NoteAt],
     addresses: &LabelAddresses,
 ) -> Result<Vec<Row>, AllocError>
-    ensures { IfOk result (λ rows. rows.items ≡ map (λ entry. row_of addresses.now entry.at entry.note) notes.now) }
+    ensures { IfOk result (λ rows. rows.items ≡ map (λ entry. row_of (address_in addresses.now) entry.at entry.note) notes.now) }
 {
     let mut rows = Vec::new(alloc);
     for entry in notes {
@@ -24,7 +25,7 @@ pub(crate) fn rows(
 }
 
 fn row_of(addresses: &LabelAddresses, at: u64, note: Note) -> Row
-    ensures { result ≡ row_of addresses.now at note }
+    ensures { result ≡ row_of (address_in addresses.now) at note }
 {
     match note {
         Note::Jump { to } => Row::Jump {

@@ -3,3 +3,5 @@
 
 mod globals;
 pub mod laws;
+
+pub use globals::GlobalPlace;

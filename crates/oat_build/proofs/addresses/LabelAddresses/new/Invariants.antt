@@ -1,7 +1,7 @@
 use Rattle.std.proofs.Common.{◌≡◌, ℕ, drop, None}
 use Rattle.std.specs.Ordering.{nat_cmp}
 use Rattle.std.specs.BTreeMap.{get}
-use Rattle.oat_build.proofs.Addresses.{last_known}
+use Rattle.oat_build.proofs.Labels.{last_known}
 use Rattle.oat_build.proofs.addresses.LabelAddresses.new.Given as goal
 
 -- the entries that are left lead to what all of them do

@@ -35,12 +35,13 @@ pub found : (label : ℕ) (entries : List LabelAt) (known : Option ℕ) (at : �
 found label [] known at is = inl is
 found label (x ∷ xs) known at is = found_by label x xs known at (nat_eq x.label label) refl (found label xs (cond (nat_eq x.label label) (Some x.at) known) at is)
 
+kept_by : (label : ℕ) (x : LabelAt) (xs : List LabelAt) (at : ℕ) (b : Bool) → last_known label xs (cond b (Some x.at) (Some at)) ≡ None → ((a : ℕ) → last_known label xs (Some a) ≡ None → ⊥) → ⊥
+kept_by label x xs at true is rest = rest x.at is
+kept_by label x xs at false is rest = rest at is
+
 kept : (label : ℕ) (entries : List LabelAt) (at : ℕ) → last_known label entries (Some at) ≡ None → ⊥
 kept label [] at is = cc
-kept label (x ∷ xs) at is = by (nat_eq x.label label) is where
-  by : (b : Bool) → last_known label xs (cond b (Some x.at) (Some at)) ≡ None → ⊥
-  by true is = kept label xs x.at is
-  by false is = kept label xs at is
+kept label (x ∷ xs) at is = kept_by label x xs at (nat_eq x.label label) is (λ a i. kept label xs a i)
 
 none_by : (label : ℕ) (x : LabelAt) (xs : List LabelAt) (b : Bool) → nat_eq x.label label ≡ b → last_known label xs (cond b (Some x.at) None) ≡ None
     → (last_known label xs None ≡ None → (at : ℕ) → Contains xs (record { label = label; at = at }) → ⊥) → (at : ℕ) → Contains (x ∷ xs) (record { label = label; at = at }) → ⊥
