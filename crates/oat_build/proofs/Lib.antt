@@ -3,3 +3,4 @@ mod Labels
 mod LineCode
 mod DataLists
 mod SymbolLists
+mod Mains

@@ -1,10 +1,10 @@
 //! The functions and blocks of a program, each at the address of its label.
-ghost use Rattle.std.specs.Prelude.{◌≡◌, ◌++◌, [], ◌∷◌, ◌<◌, ◌≤◌, ◌+◌, ◌-◌, ◌^◌, ℕ, false, IfOk, OnOk, get_or, length, map, take, drop};
-ghost use Rattle.std.specs.List.{flat_map, position_or_len};
+ghost use Rattle.std.specs.Prelude.{◌≡◌, ◌++◌, [], ◌∷◌, ◌<◌, ◌≤◌, ◌+◌, ◌-◌, ◌^◌, ℕ, false, IfOk, OnOk, get_or, length, map, position, take, drop};
+ghost use Rattle.std.specs.List.{flat_map};
 ghost use Rattle.oat_check.specs.Keeping.{is_referenced};
 ghost use Rattle.oat_check.specs.Rules.{IsChecked, is_main};
 ghost use Rattle.oat_parts.specs.Symbols.{blocks_from, blocks_of, function_at, functions_of};
-ghost use Rattle.oat_symbols.specs.Programs.{block_names, main_at, symbol_for, symbols_from, symbols_of};
+ghost use Rattle.oat_symbols.specs.Programs.{block_names, symbol_for, symbols_from, symbols_of};
 ghost use Rattle.oat_build.specs.Addresses.{address_in};
 ghost use Rattle.oat_build.specs.Listing.{CanList};
 
@@ -38,7 +38,7 @@ pub(crate) fn list_symbols(
         addresses,
         references: references.as_slice(),
     };
-    let main = main_index(funcs);
+    let main = main_index(funcs).unwrap();
     let first = funcs.len() as u32;
     let first_of_main = first + blocks_in(&funcs[..main]);
     let behind_main = first_of_main + funcs[main].blocks.len() as u32;
@@ -58,13 +58,10 @@ fn is_main(func: &Func) -> bool
     matches!(func.role, Role::Main)
 }
 
-fn main_index(funcs: &[Func]) -> usize
-    ensures { result ≡ position_or_len is_main funcs.now }
+fn main_index(funcs: &[Func]) -> Option<usize>
+    ensures { result ≡ position is_main funcs.now }
 {
-    funcs
-        .iter()
-        .position(|func| is_main(func))
-        .unwrap_or(funcs.len())
+    funcs.iter().position(|func| is_main(func))
 }
 
 /// How many blocks the functions have.

@@ -1,13 +1,11 @@
-use Rattle.std.proofs.Common.{rules, ◌≡◌, ◌++◌, [], ◌∷◌, ◌<◌, ◌≤◌, ◌+◌, ◌-◌, ◌^◌, ℕ, false, IfOk, OnOk, get_or, length, map, take, drop, ◌*◌, ◌/◌, ◌%◌, Bool, true, nat_eq, nat_lt, List, slice_set, bit_and, bit_or, Fits, w8, w32, w64, Bor, MutBor}
-use Rattle.std.specs.List.{flat_map, position_or_len}
-use Rattle.oat_check.specs.Keeping.{is_referenced}
-use Rattle.oat_check.specs.Rules.{IsChecked, is_main}
-use Rattle.oat_parts.specs.Symbols.{blocks_from, blocks_of, function_at, functions_of}
-use Rattle.oat_symbols.specs.Programs.{block_names, main_at, symbol_for, symbols_from, symbols_of}
+use Rattle.std.proofs.Common.{arith}
 use Rattle.oat_build.specs.Addresses.{address_in}
-use Rattle.oat_build.specs.Listing.{CanList}
+use Rattle.oat_build.proofs.SymbolLists.{blocks_step}
 use Rattle.oat_build.proofs.symbols.list_blocks.Goals as goal
 
--- src/symbols.rt:99:5
 pub loop-block-preserved : goal.loop-block-preserved
-loop-block-preserved c = ?
+loop-block-preserved c = record {
+  listed = blocks_step (address_in c.args.addresses.now) c.args.first c.loop-block.block-index c.loop-block.label c.args.blocks.now c.block-item.result (record { start = c.of.result; label = c.copy_of.result })
+      c.args.listed.now.items c.loop-block.listed.items c.push.new.self.items c.loop-block-test.true c.block-item.is c.of.ensures c.copy_of.ensures c.loop-block.invariant.label c.loop-block.invariant.listed c.in_ok-push.ensures.items;
+  label = omega arith;
+}

@@ -1,73 +1,123 @@
-use Rattle.std.proofs.Common.{rules, ◌≡◌, ◌++◌, [], ◌∷◌, ◌<◌, ◌≤◌, ◌+◌, ◌-◌, ◌^◌, ℕ, false, IfOk, OnOk, get_or, length, map, take, drop, ◌*◌, ◌/◌, ◌%◌, Bool, true, nat_eq, nat_lt, List, slice_set, bit_and, bit_or, Fits, w8, w32, w64, Bor, MutBor}
-use Rattle.std.specs.List.{flat_map, position_or_len}
-use Rattle.oat_check.specs.Keeping.{is_referenced}
-use Rattle.oat_check.specs.Rules.{IsChecked, is_main}
-use Rattle.oat_parts.specs.Symbols.{blocks_from, blocks_of, function_at, functions_of}
-use Rattle.oat_symbols.specs.Programs.{block_names, main_at, symbol_for, symbols_from, symbols_of}
+use Rattle.std.proofs.Common.{Bool, ◌≡◌, ◌+◌, ◌<◌, ◌≤◌, ℕ, List, length, get_or, false, ap, subst, sym, ◌∙◌, arith}
+use Rattle.std.specs.Prelude.{is_some}
+use Rattle.oat_ir.specs.declared.func.Func.{Func}
+use Rattle.oat_parts.specs.Symbols.{functions_of, blocks_of}
 use Rattle.oat_build.specs.Addresses.{address_in}
-use Rattle.oat_build.specs.Listing.{CanList}
+use Rattle.oat_build.proofs.Mains.{found_main, labels_fit, main_there}
+use Rattle.oat_build.proofs.SymbolLists.{count_least, functions_join, all_blocks_join, listed_whole}
 use Rattle.oat_build.proofs.symbols.list_symbols.Goals as goal
 
--- src/symbols.rt:42:17
+pub unwrap-main-requires : goal.unwrap-main-requires
+unwrap-main-requires c = ap is_some (main_there c.args.program.now c.requires c.as_slice-funcs.result.now c.main_index.result c.as_slice-funcs.ensures c.main_index.ensures)
+
 pub overflow_cast-first : goal.overflow_cast-first
-overflow_cast-first c = ?
+overflow_cast-first c =
+    let f = found_main c.args.program.now c.requires c.as_slice-funcs.result.now c.main_index.result c.unwrap-main.result c.as_slice-funcs.ensures c.main_index.ensures c.unwrap-main.ensures in
+    let few = f.few in
+    omega arith
 
--- src/symbols.rt:43:33
 pub blocks_in-requires : goal.blocks_in-requires
-blocks_in-requires c = ?
+blocks_in-requires c =
+    let f = found_main c.args.program.now c.requires c.as_slice-funcs.result.now c.main_index.result c.unwrap-main.result c.as_slice-funcs.ensures c.main_index.ensures c.unwrap-main.ensures in
+    let least = count_least c.as_slice-funcs.result.now c.unwrap-main.result in
+    let few = f.few in
+    omega arith
 
--- src/symbols.rt:43:25
 pub overflow_add-first_of_main : goal.overflow_add-first_of_main
-overflow_add-first_of_main c = ?
+overflow_add-first_of_main c =
+    let f = found_main c.args.program.now c.requires c.as_slice-funcs.result.now c.main_index.result c.unwrap-main.result c.as_slice-funcs.ensures c.main_index.ensures c.unwrap-main.ensures in
+    let least = count_least c.as_slice-funcs.result.now c.unwrap-main.result in
+    let few = f.few in
+    let counted = c.blocks_in.ensures in
+    omega arith
 
--- src/symbols.rt:44:39
 pub bounds-funcs-main : goal.bounds-funcs-main
-bounds-funcs-main c = ?
+bounds-funcs-main c =
+    let f = found_main c.args.program.now c.requires c.as_slice-funcs.result.now c.main_index.result c.unwrap-main.result c.as_slice-funcs.ensures c.main_index.ensures c.unwrap-main.ensures in
+    f.within
 
--- src/symbols.rt:44:39
 pub overflow_cast-behind_main : goal.overflow_cast-behind_main
-overflow_cast-behind_main c = ?
+overflow_cast-behind_main c =
+    let f = found_main c.args.program.now c.requires c.as_slice-funcs.result.now c.main_index.result c.unwrap-main.result c.as_slice-funcs.ensures c.main_index.ensures c.unwrap-main.ensures in
+    let l = labels_fit c.args.program.now c.as_slice-funcs.result.now c.unwrap-main.result c.blocks_in.result c.len.result c.index-funcs-main.result f c.blocks_in.ensures c.index-funcs-main.is (c.len.ensures ∙ ap (λ (g : Func). length g.blocks) (sym c.index-funcs-main.is)) in
+    let fits = l.fits in
+    omega arith
 
--- src/symbols.rt:44:23
 pub overflow_add-behind_main : goal.overflow_add-behind_main
-overflow_add-behind_main c = ?
+overflow_add-behind_main c =
+    let f = found_main c.args.program.now c.requires c.as_slice-funcs.result.now c.main_index.result c.unwrap-main.result c.as_slice-funcs.ensures c.main_index.ensures c.unwrap-main.ensures in
+    let l = labels_fit c.args.program.now c.as_slice-funcs.result.now c.unwrap-main.result c.blocks_in.result c.len.result c.index-funcs-main.result f c.blocks_in.ensures c.index-funcs-main.is (c.len.ensures ∙ ap (λ (g : Func). length g.blocks) (sym c.index-funcs-main.is)) in
+    let fits = l.fits in
+    omega arith
 
--- src/symbols.rt:49:5
 pub list-requires-clause-lister : goal.list-requires-clause-lister
-list-requires-clause-lister c = ?
+list-requires-clause-lister c =
+    let f = found_main c.args.program.now c.requires c.as_slice-funcs.result.now c.main_index.result c.unwrap-main.result c.as_slice-funcs.ensures c.main_index.ensures c.unwrap-main.ensures in
+    let flags = c.as_slice.ensures.value in
+    let few = f.few_of in
+    record {
+      few = omega arith;
+      flags = ap length flags ∙ c.in_ok-references.ensures.len;
+      referenced = λ g less. ap (λ (xs : List Bool). get_or xs g false) flags ∙ c.in_ok-references.ensures.flags g less;
+    }
 
--- src/symbols.rt:49:5
-pub list-requires-clause-to : goal.list-requires-clause-to
-list-requires-clause-to c = ?
-
--- src/symbols.rt:49:5
 pub list-requires-clause-labels : goal.list-requires-clause-labels
-list-requires-clause-labels c = ?
+list-requires-clause-labels c =
+    let f = found_main c.args.program.now c.requires c.as_slice-funcs.result.now c.main_index.result c.unwrap-main.result c.as_slice-funcs.ensures c.main_index.ensures c.unwrap-main.ensures in
+    let l = labels_fit c.args.program.now c.as_slice-funcs.result.now c.unwrap-main.result c.blocks_in.result c.len.result c.index-funcs-main.result f c.blocks_in.ensures c.index-funcs-main.is (c.len.ensures ∙ ap (λ (g : Func). length g.blocks) (sym c.index-funcs-main.is)) in
+    l.main
 
--- src/symbols.rt:50:5
 pub list-requires-2-clause-lister : goal.list-requires-2-clause-lister
-list-requires-2-clause-lister c = ?
+list-requires-2-clause-lister c =
+    let f = found_main c.args.program.now c.requires c.as_slice-funcs.result.now c.main_index.result c.unwrap-main.result c.as_slice-funcs.ensures c.main_index.ensures c.unwrap-main.ensures in
+    let flags = c.as_slice.ensures.value in
+    let few = f.few_of in
+    record {
+      few = omega arith;
+      flags = ap length flags ∙ c.in_ok-references.ensures.len;
+      referenced = λ g less. ap (λ (xs : List Bool). get_or xs g false) flags ∙ c.in_ok-references.ensures.flags g less;
+    }
 
--- src/symbols.rt:50:5
 pub list-requires-2-clause-labels : goal.list-requires-2-clause-labels
-list-requires-2-clause-labels c = ?
+list-requires-2-clause-labels c =
+    let f = found_main c.args.program.now c.requires c.as_slice-funcs.result.now c.main_index.result c.unwrap-main.result c.as_slice-funcs.ensures c.main_index.ensures c.unwrap-main.ensures in
+    let l = labels_fit c.args.program.now c.as_slice-funcs.result.now c.unwrap-main.result c.blocks_in.result c.len.result c.index-funcs-main.result f c.blocks_in.ensures c.index-funcs-main.is (c.len.ensures ∙ ap (λ (g : Func). length g.blocks) (sym c.index-funcs-main.is)) in
+    l.front
 
--- src/symbols.rt:51:5
 pub list-requires-3-clause-lister : goal.list-requires-3-clause-lister
-list-requires-3-clause-lister c = ?
+list-requires-3-clause-lister c =
+    let f = found_main c.args.program.now c.requires c.as_slice-funcs.result.now c.main_index.result c.unwrap-main.result c.as_slice-funcs.ensures c.main_index.ensures c.unwrap-main.ensures in
+    let flags = c.as_slice.ensures.value in
+    let few = f.few_of in
+    record {
+      few = omega arith;
+      flags = ap length flags ∙ c.in_ok-references.ensures.len;
+      referenced = λ g less. ap (λ (xs : List Bool). get_or xs g false) flags ∙ c.in_ok-references.ensures.flags g less;
+    }
 
--- src/symbols.rt:51:5
-pub list-requires-3-clause-from : goal.list-requires-3-clause-from
-list-requires-3-clause-from c = ?
-
--- src/symbols.rt:51:5
 pub list-requires-3-clause-labels : goal.list-requires-3-clause-labels
-list-requires-3-clause-labels c = ?
+list-requires-3-clause-labels c =
+    let f = found_main c.args.program.now c.requires c.as_slice-funcs.result.now c.main_index.result c.unwrap-main.result c.as_slice-funcs.ensures c.main_index.ensures c.unwrap-main.ensures in
+    let l = labels_fit c.args.program.now c.as_slice-funcs.result.now c.unwrap-main.result c.blocks_in.result c.len.result c.index-funcs-main.result f c.blocks_in.ensures c.index-funcs-main.is (c.len.ensures ∙ ap (λ (g : Func). length g.blocks) (sym c.index-funcs-main.is)) in
+    l.back
 
--- src/symbols.rt:25:1
 pub returns-clause-functions : goal.returns-clause-functions
-returns-clause-functions c = ?
+returns-clause-functions c =
+    let f = found_main c.args.program.now c.requires c.as_slice-funcs.result.now c.main_index.result c.unwrap-main.result c.as_slice-funcs.ensures c.main_index.ensures c.unwrap-main.ensures in
+    let l = labels_fit c.args.program.now c.as_slice-funcs.result.now c.unwrap-main.result c.blocks_in.result c.len.result c.index-funcs-main.result f c.blocks_in.ensures c.index-funcs-main.is (c.len.ensures ∙ ap (λ (g : Func). length g.blocks) (sym c.index-funcs-main.is)) in
+    let address = address_in c.args.addresses.now in
+    listed_whole (functions_of address) (functions_join address) c.args.program.now c.unwrap-main.result (length c.as_slice-funcs.result.now) (length c.as_slice-funcs.result.now + c.blocks_in.result) (length c.as_slice-funcs.result.now + c.blocks_in.result + c.len.result)
+    c.new.result.items c.list.new.symbols.functions.items c.list-2.new.symbols.functions.items c.list-3.new.symbols.functions.items
+    f.is (subst (λ (n : ℕ). c.unwrap-main.result < n) f.many f.within) f.many (ap (λ (n : ℕ). length c.as_slice-funcs.result.now + n) l.to_main) l.behind_main c.new.ensures.items
+    c.in_ok-list.ensures.functions c.in_ok-list-2.ensures.functions c.in_ok-list-3.ensures.functions
 
--- src/symbols.rt:25:1
 pub returns-clause-blocks : goal.returns-clause-blocks
-returns-clause-blocks c = ?
+returns-clause-blocks c =
+    let f = found_main c.args.program.now c.requires c.as_slice-funcs.result.now c.main_index.result c.unwrap-main.result c.as_slice-funcs.ensures c.main_index.ensures c.unwrap-main.ensures in
+    let l = labels_fit c.args.program.now c.as_slice-funcs.result.now c.unwrap-main.result c.blocks_in.result c.len.result c.index-funcs-main.result f c.blocks_in.ensures c.index-funcs-main.is (c.len.ensures ∙ ap (λ (g : Func). length g.blocks) (sym c.index-funcs-main.is)) in
+    let address = address_in c.args.addresses.now in
+    listed_whole (blocks_of address) (all_blocks_join address) c.args.program.now c.unwrap-main.result (length c.as_slice-funcs.result.now) (length c.as_slice-funcs.result.now + c.blocks_in.result) (length c.as_slice-funcs.result.now + c.blocks_in.result + c.len.result)
+    c.new-2.result.items c.list.new.symbols.blocks.items c.list-2.new.symbols.blocks.items c.list-3.new.symbols.blocks.items
+    f.is (subst (λ (n : ℕ). c.unwrap-main.result < n) f.many f.within) f.many (ap (λ (n : ℕ). length c.as_slice-funcs.result.now + n) l.to_main) l.behind_main c.new-2.ensures.items
+    c.in_ok-list.ensures.blocks c.in_ok-list-2.ensures.blocks c.in_ok-list-3.ensures.blocks
+
