@@ -4,3 +4,4 @@ mod LineCode
 mod DataLists
 mod SymbolLists
 mod Mains
+mod Imaging

@@ -4,5 +4,7 @@
 mod addresses;
 mod data;
 mod references;
+mod image;
+mod names;
 mod rows;
 mod symbols;
