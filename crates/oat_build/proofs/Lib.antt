@@ -5,3 +5,5 @@ mod DataLists
 mod SymbolLists
 mod Mains
 mod Imaging
+mod MainFirst
+mod Compiling
