@@ -1,7 +1,6 @@
 -- What holds of the code of each program: what its expansion is, that an image is built of it, and how many words it needs.
 use Rattle.std.specs.Prelude.{◌≡◌, ◌≤◌, ◌+◌, ◌*◌, ℕ, ℤ, List, length, slice_get, Option, Some}
 use Rattle.std.specs.List.{sum_by}
-use Rattle.oat_asm.specs.declared.item.Item.{Item}
 use Rattle.oat_asm.specs.Items.{words_needed, code_limit}
 use Rattle.oat_asm.specs.Expansion.{expansion}
 use Rattle.oat_ir.specs.declared.program.Program.{Program}
@@ -21,7 +20,7 @@ use Rattle.oat_globals.specs.Operations.{start_code, leave_code}
 use Rattle.oat_gen.specs.declared.globals.GlobalPlace.{GlobalPlace}
 use Rattle.oat_gen.specs.declared.globals.GlobalPlace.TheVariants.{Critical}
 use Rattle.oat_gen.specs.Marked.{marked_start, marked_return, marked_call, marked_icall, marked_jump, marked_branch, scalar_load, scalar_store, element_load, element_store}
-use Rattle.oat_gen.specs.Code.{line_code, code_lines, block_code, function_code, program_items, expanded_lines}
+use Rattle.oat_gen.specs.Code.{line_code, block_code, function_code, program_items, expanded_lines}
 
 -- ---- the expansion, line by line
 

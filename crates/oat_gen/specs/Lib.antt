@@ -1,5 +1,6 @@
 pub mod GlobalPlaces
 pub mod Marked
 pub mod Code
+pub mod Steps
 pub mod Laws
 pub mod Worked

@@ -1,5 +1,5 @@
 -- Code whose rows are still to be written: a mark stands where the note of its row and the row's group will stand. All else is the code of calls, of lines on locals, and of lines on global data.
-use Rattle.std.specs.Prelude.{◌+◌, ℕ, pos, List, [], ◌∷◌, ◌++◌, length, Option, Some, None}
+use Rattle.std.specs.Prelude.{ℕ, pos, List, [], ◌∷◌, ◌++◌, length, Option, Some, None}
 use Rattle.oat_a64.specs.declared.inst.Inst.TheVariants.{AddImm, Ldr, Cbnz, Brk}
 use Rattle.oat_asm.specs.declared.item.Item.{Item}
 use Rattle.oat_asm.specs.declared.item.Item.TheVariants as item

@@ -17,7 +17,7 @@ use Rattle.oat_check.specs.RunLaws.{CellsHaveWords}
 use Rattle.oat_parts.proofs.Lists.{get_in}
 use Rattle.oat_symbols.specs.Programs.{HasItsCells, ProgramsHaveTheirCells}
 
-numbered : (size : GlobalItem → ℕ) (items : List GlobalItem) (g i : ℕ) (item : GlobalItem) → slice_get items g ≡ Some item → i < size item
+pub numbered : (size : GlobalItem → ℕ) (items : List GlobalItem) (g i : ℕ) (item : GlobalItem) → slice_get items g ≡ Some item → i < size item
     → element_number size items g i ≡ Some (sum_by size (take g items) + i)
 numbered size items g i item is less =
     ap (λ (o : Option GlobalItem). cond (ltb i (of_global size o)) (Some (sum_by size (take g items) + i)) None) is

@@ -1,8 +1,8 @@
 mod Distinct
 mod Globals
-mod Elements
+pub mod Elements
 mod Labels
-mod Programs
+pub mod Programs
 mod Places
 mod Codes
 mod Finding

@@ -1,0 +1,151 @@
+-- The expansion of each line, and of a block line by line.
+use Rattle.std.proofs.Common.{◌≡◌, ℕ, zero, suc, pos, nat_lt, if◌then◌else◌, ◌+◌, ◌<◌, Bool, true, false, cond, eqb, ltb, List, [], ◌∷◌, ◌++◌, length, map, refl, sym, ap, ◌∙◌, Option, Some, None, arith, length-append}
+use Rattle.std.specs.Prelude.{slice_get}
+use Rattle.std.specs.Option.{option_map}
+use Rattle.std.proofs.lemmas.Bool.{eqb-true, ltb-true}
+use Rattle.std.proofs.lemmas.List.{length-map}
+use Rattle.std.proofs.lemmas.List.Concat.{flat_map-append}
+use Rattle.oat_a64.specs.declared.inst.Inst.TheVariants.{AddImm, SubImm, SubsImm, Ldr, Str, BCond, Cbnz, Brk}
+use Rattle.oat_asm.specs.declared.item.Item.{Item}
+use Rattle.oat_asm.specs.declared.item.Item.TheVariants as item
+use Rattle.oat_asm.specs.declared.mark.Mark.TheVariants as mark
+use Rattle.oat_asm.specs.declared.note.Note.TheVariants as note
+use Rattle.oat_asm.specs.Expansion.{expanded, expansion}
+use Rattle.oat_ir.specs.declared.func.BlockIr.{BlockIr}
+use Rattle.oat_ir.specs.declared.instr.Instr.{Instr}
+use Rattle.oat_ir.specs.declared.instr.BinOp.{BinOp}
+use Rattle.oat_ir.specs.declared.instr.BinOp.TheVariants.{Add, Sub, Mul, And, Or, Xor, Shl, Shr, Sar, Eq, Ne, Lt, Le, Ltu, Leu, Div, Rem, Divu, Remu}
+use Rattle.oat_check.specs.Lines.{CodeLine, instruction, terminator, line_in}
+use Rattle.oat_parts.proofs.Lists.{get_before, map_get}
+use Rattle.oat_frames.specs.Code.{argument_loads, local_stores, depth_tested, behind_call, prologue}
+use Rattle.oat_frames.specs.Frames.{frame_size}
+use Rattle.oat_frames.specs.Lines.{lines_code}
+use Rattle.oat_locals.specs.Code.{binary_code}
+use Rattle.oat_globals.specs.Code.{slot_load}
+use Rattle.oat_globals.specs.Operations.{begin_code, start_code, leave_code}
+use Rattle.oat_gen.specs.Marked.{begin_mark, marked_start, marked_return}
+use Rattle.oat_gen.specs.Code.{line_code, code_lines}
+use Rattle.oat_gen.specs.Laws.{MarkedCodeExpands, OtherCodeStays, BlocksExpandByLine, BlocksHaveTheirLines}
+
+-- ---- lines
+
+stores_stay : (params from n : ℕ) (is : List Item) → expansion (local_stores params from n ++ is) ≡ local_stores params from n ++ expansion is
+stores_stay params from zero is = refl
+stores_stay params from (suc n) is = ap (λ (js : List Item). item.Inst (Str (if nat_lt from params then from else 31) 31 (from + 1)) ∷ js) (stores_stay params (from + 1) n is)
+
+loads_stay : (r : ℕ) (args : List ℕ) (is : List Item) → expansion (argument_loads r args ++ is) ≡ argument_loads r args ++ expansion is
+loads_stay r [] is = refl
+loads_stay r (k ∷ ks) is = ap (λ (js : List Item). item.Inst (Ldr r 31 (k + 1)) ∷ js) (loads_stay (r + 1) ks is)
+
+begins : (op : Option ℕ) → expansion (begin_mark op) ≡ begin_code op
+begins None = refl
+begins (Some op) = refl
+
+starts : (params locals : ℕ) (op : Option ℕ) → expansion (marked_start params locals op) ≡ start_code params locals op
+starts params locals op =
+    ap (λ (js : List Item). item.Inst (SubImm 31 31 (frame_size locals)) ∷ item.Inst (Str 30 31 0) ∷ js) (stores_stay params 0 locals (begin_mark op))
+    ∙ ap (λ (js : List Item). prologue params locals ++ js) (begins op)
+
+leaves : (locals from : ℕ) (op : Option ℕ) → expansion (marked_return locals from op) ≡ leave_code locals from op
+leaves locals from None = refl
+leaves locals from (Some op) = refl
+
+depth : (args : List ℕ) (is : List Item) → expansion (depth_tested args is) ≡ depth_tested args (expansion is)
+depth args is =
+    ap (λ (js : List Item). item.Inst (SubsImm 31 28 256) ∷ item.Note note.Check ∷ item.Inst (BCond 3 (pos 2)) ∷ item.Inst (Brk 4) ∷ item.Inst (AddImm 28 28 1) ∷ js) (loads_stay 0 args is)
+
+pub marked_code_expands : MarkedCodeExpands
+marked_code_expands = record {
+  start = starts;
+  leave = leaves;
+  call = λ args callee result. depth args (item.Mark (mark.Call callee) ∷ behind_call result);
+  icall = λ args from result.
+      ap (λ (js : List Item). slot_load 9 from ∷ item.Note note.Check ∷ item.Inst (Cbnz 9 (pos 2)) ∷ item.Inst (Brk 3) ∷ js)
+      (depth args (item.Mark (mark.ICall (length args)) ∷ behind_call result));
+  jump = λ to. refl;
+  branch = λ x first second. refl;
+  load = λ word cell len x. refl;
+  store = λ word cell len x. refl;
+  loadx = λ word cell len x i. refl;
+  storex = λ word cell len i x. refl;
+}
+
+binaries : (op : BinOp) (x y z : ℕ) → expansion (binary_code op x y z) ≡ binary_code op x y z
+binaries Add x y z = refl
+binaries Sub x y z = refl
+binaries Mul x y z = refl
+binaries And x y z = refl
+binaries Or x y z = refl
+binaries Xor x y z = refl
+binaries Shl x y z = refl
+binaries Shr x y z = refl
+binaries Sar x y z = refl
+binaries Eq x y z = refl
+binaries Ne x y z = refl
+binaries Lt x y z = refl
+binaries Le x y z = refl
+binaries Ltu x y z = refl
+binaries Leu x y z = refl
+binaries Div x y z = refl
+binaries Rem x y z = refl
+binaries Divu x y z = refl
+binaries Remu x y z = refl
+
+pub other_code_stays : OtherCodeStays
+other_code_stays = record {
+  binary = binaries;
+  const = λ x value. refl;
+  copy = λ x y. refl;
+  input = λ x. refl;
+  output = λ x. refl;
+  halt = refl;
+  load = λ x word. refl;
+  store = λ word x. refl;
+  ref = λ x callee. refl;
+  loadx = λ x word len i. refl;
+  storex = λ word len i x. refl;
+}
+
+-- ---- blocks
+
+joined : {X : Type 0} (code : X → List Item) (xs : List X) → expansion (lines_code (map code xs)) ≡ lines_code (map (λ x. expansion (code x)) xs)
+joined code [] = refl
+joined code (x ∷ xs) = flat_map-append expanded (code x) (lines_code (map code xs)) ∙ ap (λ (js : List Item). expansion (code x) ++ js) (joined code xs)
+
+pub blocks_expand_by_line : BlocksExpandByLine
+blocks_expand_by_line places first func block = joined (line_code places first func) (code_lines block)
+
+-- what stands behind all others
+last_is : {X : Type 0} (xs : List X) (x : X) → slice_get (xs ++ x ∷ []) (length xs) ≡ Some x
+last_is [] x = refl
+last_is (y ∷ ys) x = last_is ys x
+
+line_is : (block : BlockIr) (n : ℕ) (line : CodeLine) → line_in block n ≡ Some line → slice_get (code_lines block) n ≡ Some line
+line_is block n line at = by (ltb n (length block.instrs)) refl at where
+  listed : List CodeLine
+  listed = map instruction block.instrs
+
+  of : (o : Option Instr) → slice_get block.instrs n ≡ o → option_map instruction o ≡ Some line → slice_get listed n ≡ Some line
+  of None found h = absurd (let e : None ≡ Some line = h in cc)
+  of (Some i) found h = map_get instruction block.instrs n i found ∙ h
+
+  behind : (b : Bool) → eqb n (length block.instrs) ≡ b → cond b (Some (terminator block.term)) None ≡ Some line → slice_get (code_lines block) n ≡ Some line
+  behind true is h =
+      let here : n ≡ length listed = eqb-true n (length block.instrs) is ∙ sym (length-map block.instrs instruction) in
+      ap (slice_get (code_lines block)) here ∙ last_is listed (terminator block.term) ∙ h
+  behind false is h = absurd (let e : None ≡ Some line = h in cc)
+
+  by : (b : Bool) → ltb n (length block.instrs) ≡ b
+      → cond b (option_map instruction (slice_get block.instrs n)) (cond (eqb n (length block.instrs)) (Some (terminator block.term)) None) ≡ Some line → slice_get (code_lines block) n ≡ Some line
+  by true is h =
+      let low : n < length listed = omega (arith, ltb-true n (length block.instrs) is, length-map block.instrs instruction) in
+      get_before listed (terminator block.term ∷ []) n low ∙ of (slice_get block.instrs n) refl h
+  by false is h = behind (eqb n (length block.instrs)) refl h
+
+pub blocks_have_their_lines : BlocksHaveTheirLines
+blocks_have_their_lines places first func block =
+    let code = λ (line : CodeLine). expansion (line_code places first func line) in
+    record {
+      count = length-map (code_lines block) code ∙ length-append (map instruction block.instrs) (terminator block.term ∷ []) ∙ ap (λ (n : ℕ). n + 1) (length-map block.instrs instruction);
+      each = λ n line at. map_get code (code_lines block) n line (line_is block n line at);
+    }

@@ -1,0 +1,233 @@
+-- The code of each function of a checked program is a prologue that begins its operation, and a stretch for each block.
+use Rattle.std.proofs.Common.{◌≡◌, ℕ, ◌+◌, ◌<◌, ◌≤◌, Bool, true, false, ◌&&◌, List, [], ◌∷◌, length, map, take, refl, sym, ap, ◌∙◌, subst, All, Some, None, arith, lit<, inl, inr}
+use Rattle.std.specs.Prelude.{slice_get, Contains}
+use Rattle.std.specs.List.{sum_by, AllByRecursion}
+use Rattle.std.proofs.lemmas.Bool.{and_parts, false≢true}
+use Rattle.std.proofs.lemmas.Option.{slice_get_cases}
+use Rattle.std.proofs.lemmas.List.{length-map}
+use Rattle.std.proofs.lemmas.List.Elements.{All-contains, Contains-append_cases}
+use Rattle.oat_a64.specs.declared.inst.Inst.TheVariants.{Ldr, Str}
+use Rattle.oat_asm.specs.declared.mark.Mark.TheVariants as mark
+use Rattle.oat_image.specs.Grammar.{IsOperationNumber}
+use Rattle.oat_ir.specs.declared.program.Program.{Program}
+use Rattle.oat_ir.specs.declared.program.GlobalItem.{GlobalItem}
+use Rattle.oat_ir.specs.declared.program.GlobalItem.TheVariants.{Scalar, FnScalar, Array, CriticalArray}
+use Rattle.oat_ir.specs.declared.func.Func.{Func}
+use Rattle.oat_ir.specs.declared.func.Role.{Role}
+use Rattle.oat_ir.specs.declared.func.Role.TheVariants.{Plain, Operation, Main}
+use Rattle.oat_ir.specs.declared.func.BlockIr.{BlockIr}
+use Rattle.oat_ir.specs.declared.instr.Instr.{Instr}
+use Rattle.oat_ir.specs.declared.instr.Instr.TheVariants.{Const, Copy, Binary, Load, Store, LoadX, StoreX, RefTo, Call, ICall, Input, Output}
+use Rattle.oat_ir.specs.declared.instr.Term.{Term}
+use Rattle.oat_ir.specs.declared.instr.Term.TheVariants.{Jump, Branch, Ret, Halt}
+use Rattle.oat_ir.specs.Indices.{HasLocal, IsInstr, IsTerm}
+use Rattle.oat_ir.specs.WellFormed.{IsGlobal, IsBlockIr, IsFunc, IsProgram, IsRole}
+use Rattle.oat_check.specs.Globals.{size_in_words, size_in_cells, word_number, cell_number}
+use Rattle.oat_check.specs.Lines.{CodeLine, instruction, terminator}
+use Rattle.oat_check.specs.Rules.{IsChecked, holds_number, names_array, is_array, passes}
+use Rattle.oat_check.specs.RuleLaws.{IsAllowed}
+use Rattle.oat_check.specs.RunLaws.{WordsAreFew}
+use Rattle.oat_check.specs.Steps.{operation_number}
+use Rattle.oat_check.proofs.Checking.{func_formed, instr_allowed}
+use Rattle.oat_parts.specs.Symbols.{SymbolTable, IsBlockLabel}
+use Rattle.oat_parts.specs.Making.{IsStretch}
+use Rattle.oat_parts.specs.Parts.{is_set}
+use Rattle.oat_parts.proofs.Lists.{first_in, later_in, cons_cases, not_in_none, get_in, in_get, of_map}
+use Rattle.oat_symbols.specs.Programs.{symbols_of, label_of_block, HasItsLabels, HasItsCells, ProgramsHaveTheirLabels, ProgramsHaveTheirCells}
+use Rattle.oat_symbols.specs.Codes.{IsCodeOf}
+use Rattle.oat_symbols.proofs.Elements.{numbered}
+use Rattle.oat_locals.specs.Code.{const_code, copy_code, input_code, output_code, halt_code}
+use Rattle.oat_locals.proofs.LineLaws.{lines-are-in-range}
+use Rattle.oat_globals.specs.Code.{slot_store}
+use Rattle.oat_gen.specs.declared.globals.GlobalPlace.{GlobalPlace}
+use Rattle.oat_gen.specs.GlobalPlaces.{global_places, place_in, placed}
+use Rattle.oat_gen.specs.Code.{instruction_code, terminator_code, line_code, code_lines, block_code, function_code}
+use Rattle.oat_gen.specs.Laws.{FunctionsHaveTheirCode}
+use Rattle.oat_gen.proofs.Bounds.{few_locals}
+use Rattle.oat_gen.proofs.Placing.{globals_have_their_places}
+use Rattle.oat_gen.proofs.Stretches.{Made, nothing, inst_then, check_now, plain_then, reference_then, mark_then, lines_made}
+use Rattle.oat_gen.proofs.LineParts.{binary_made, loads_slot, stores_slot, tested_made, followed, return_made, start_made, IsScalarPlace, IsArrayPlace, load_made, store_made, element_made, element_stored}
+use Rattle.oat_gen.proofs.Words.{block_words, some_words}
+
+first_holds : (a b c : Bool) → (a && b && c) ≡ true → a ≡ true
+first_holds a b c all = (and_parts a b (and_parts (a && b) c all).0).0
+
+second_holds : (a b c : Bool) → (a && b && c) ≡ true → b ≡ true
+second_holds a b c all = (and_parts a b (and_parts (a && b) c all).0).1
+
+module _ (labelled : ProgramsHaveTheirLabels) (celled : ProgramsHaveTheirCells) (low : WordsAreFew) (p : Program) (ok : IsChecked p) where
+  abbrev table : SymbolTable
+  table = symbols_of p
+
+  abbrev places : List GlobalPlace
+  places = global_places p
+
+  labels : HasItsLabels p
+  labels = labelled p ok
+
+  cells : HasItsCells p
+  cells = celled p ok
+
+  -- ---- globals
+
+  -- the first word and cell of global g
+  abbrev word_of : ℕ → ℕ
+  word_of g = sum_by size_in_words (take g p.globals)
+
+  abbrev cell_of : ℕ → ℕ
+  cell_of g = sum_by size_in_cells (take g p.globals)
+
+  no_more : (n : ℕ) → n + 0 ≡ n
+  no_more n = omega arith
+
+  item_at : (g : ℕ) → g < length p.globals → (item : GlobalItem) × (slice_get p.globals g ≡ Some item)
+  item_at g low =
+      elim (slice_get_cases p.globals g).1 [
+        | inl found ↦ (found.0, found.2)
+        | inr past ↦ absurd (omega (arith, low, past.0))
+      ]
+
+  sized : (g : ℕ) (item : GlobalItem) → slice_get p.globals g ≡ Some item → IsGlobal item
+  sized g item at = let formed : IsProgram p = ok.well_formed in All-contains IsGlobal p.globals item formed.globals (get_in p.globals g item at)
+
+  word_is : (g : ℕ) (item : GlobalItem) → slice_get p.globals g ≡ Some item → 1 ≤ size_in_words item → word_number p g 0 ≡ Some (word_of g)
+  word_is g item at some = numbered size_in_words p.globals g 0 item at some ∙ ap Some (no_more (word_of g))
+
+  cell_is : (g : ℕ) (item : GlobalItem) → slice_get p.globals g ≡ Some item → 1 ≤ size_in_cells item → cell_number p g 0 ≡ Some (cell_of g)
+  cell_is g item at some = numbered size_in_cells p.globals g 0 item at some ∙ ap Some (no_more (cell_of g))
+
+  word_low : (g : ℕ) (item : GlobalItem) → slice_get p.globals g ≡ Some item → 1 ≤ size_in_words item → word_of g < 65536
+  word_low g item at some = low p ok g 0 (word_of g) (word_is g item at some)
+
+  cell_has : (g : ℕ) (item : GlobalItem) → slice_get p.globals g ≡ Some item → 1 ≤ size_in_cells item → 1 ≤ size_in_words item → slice_get table.cells (cell_of g) ≡ Some (word_of g)
+  cell_has g item at some more = cells.elements g 0 (cell_of g) (word_of g) (cell_is g item at some) (word_is g item at more)
+
+  -- where it lies, by its kind
+  scalar_by : (g : ℕ) (item : GlobalItem) → slice_get p.globals g ≡ Some item → IsGlobal item → IsScalarPlace p (placed item (word_of g) (cell_of g))
+  scalar_by g (Scalar name start true) at long = cell_has g (Scalar name start true) at (omega arith) (omega arith)
+  scalar_by g (Scalar name start false) at long = word_low g (Scalar name start false) at (omega arith)
+  scalar_by g (FnScalar name params) at long = word_low g (FnScalar name params) at (omega arith)
+  scalar_by g (Array name len) at long = word_low g (Array name len) at long.0
+  scalar_by g (CriticalArray name len) at long = cell_has g (CriticalArray name len) at long.0 long.0
+
+  array_by : (g : ℕ) (item : GlobalItem) → slice_get p.globals g ≡ Some item → IsGlobal item → is_array item ≡ true → IsArrayPlace p (placed item (word_of g) (cell_of g))
+  array_by g (Scalar name start critical) at long typed = absurd (false≢true typed)
+  array_by g (FnScalar name params) at long typed = absurd (false≢true typed)
+  array_by g (Array name len) at long typed = (word_low g (Array name len) at long.0, long.1)
+  array_by g (CriticalArray name len) at long typed =
+      cells.arrays g (cell_of g) (word_of g) len name at (cell_is g (CriticalArray name len) at long.0) (word_is g (CriticalArray name len) at long.0)
+
+  scalar_lies : (g : ℕ) → g < length p.globals → IsScalarPlace p (place_in places g)
+  scalar_lies g within =
+      let r = item_at g within in
+      subst (IsScalarPlace p) (sym (globals_have_their_places p g r.0 r.1)) (scalar_by g r.0 r.1 (sized g r.0 r.1))
+
+  array_lies : (g : ℕ) → g < length p.globals → names_array p g ≡ true → IsArrayPlace p (place_in places g)
+  array_lies g within typed =
+      let r = item_at g within in
+      let array : is_array r.0 ≡ true = sym (ap (passes is_array) r.1) ∙ typed in
+      subst (IsArrayPlace p) (sym (globals_have_their_places p g r.0 r.1)) (array_by g r.0 r.1 (sized g r.0 r.1) array)
+
+  -- ---- the lines of function f
+
+  module _ (f : ℕ) (func : Func) (at : slice_get p.funcs f ≡ Some func) where
+    formed : IsFunc p func
+    formed = func_formed p ok f func at
+
+    slots : length func.locals ≤ 255
+    slots = few_locals p ok f func at
+
+    slotted : (x : ℕ) → HasLocal func x → x < 255
+    slotted x within = omega (arith, within, slots)
+
+    in_slots : (args : List ℕ) → All (HasLocal func) args → (k : ℕ) → Contains args k → k < 255
+    in_slots args all k has = slotted k (All-contains (HasLocal func) args k all has)
+
+    instruction_made : (i : Instr) → IsInstr p func i → IsAllowed p func (instruction i) → Made table [] (instruction_code places i)
+    instruction_made (Const x value) h k = plain_then table [] (const_code x value) [] refl (lines-are-in-range.const x value (slotted x h)) (λ r. nothing table)
+    instruction_made (Copy x y) h k = plain_then table [] (copy_code x y) [] refl (lines-are-in-range.copy x y (slotted x h.0) (slotted y h.1)) (λ r. nothing table)
+    instruction_made (Binary op x y z) h k = binary_made table op x y z (slotted x h.0) (slotted y h.1) (slotted z h.2)
+    instruction_made (Load x g) h k = load_made p (place_in places g) x (scalar_lies g h.1) (slotted x h.0)
+    instruction_made (Store g x) h k = store_made p (place_in places g) x (scalar_lies g h.0) (slotted x h.1)
+    instruction_made (LoadX x g i) h k = element_made p (place_in places g) x i (array_lies g h.1 (second_holds (holds_number func x) (names_array p g) (holds_number func i) k.typed)) (slotted x h.0) (slotted i h.2)
+    instruction_made (StoreX g i x) h k = element_stored p (place_in places g) i x (array_lies g h.0 (first_holds (names_array p g) (holds_number func i) (holds_number func x) k.typed)) (slotted x h.2) (slotted i h.1)
+    instruction_made (RefTo x callee) h k =
+        reference_then table [] 9 callee (slot_store 9 x ∷ []) (omega arith) (labels.functions callee h.1)
+        (inst_then table [] (Str 9 31 (x + 1)) [] (stores_slot 9 x (lit< tt) (slotted x h.0)) refl (nothing table))
+    instruction_made (Call x callee args) h k =
+        tested_made table args _ h.2.0 (in_slots args h.2.1) (followed table (mark.Call callee) x refl (labels.functions callee h.1) (slotted x h.0))
+    instruction_made (ICall x y args) h k =
+        let few = h.2.0 in
+        let calls = tested_made table args _ few (in_slots args h.2.1) (followed table (mark.ICall (length args)) x refl few (slotted x h.0)) in
+        inst_then table [] (Ldr 9 31 (y + 1)) _ (loads_slot 9 y (lit< tt) (slotted y h.1)) refl (check_now table [] (is_set 9) 3 _ (lit< tt, (lit< tt, tt)) (lit< tt) calls)
+    instruction_made (Input x) h k = plain_then table [] (input_code x) [] refl (lines-are-in-range.input x (slotted x h)) (λ r. nothing table)
+    instruction_made (Output x) h k = plain_then table [] (output_code x) [] refl (lines-are-in-range.output x (slotted x h)) (λ r. nothing table)
+
+    abbrev first : ℕ
+    first = label_of_block p f 0
+
+    -- the label of a block
+    block_labelled : (b : ℕ) → b < length func.blocks → IsBlockLabel table (first + b)
+    block_labelled b within =
+        let same : label_of_block p f b ≡ first + b = omega arith in
+        subst (IsBlockLabel table) same (labels.blocks f b func at within)
+
+    -- the number of the operation
+    numbered_by : (role : Role) (n : ℕ) → IsRole role func → operation_number role ≡ Some n → IsOperationNumber n
+    numbered_by Plain n h none = absurd (let e : None ≡ Some n = none in cc)
+    numbered_by Main n h none = absurd (let e : None ≡ Some n = none in cc)
+    numbered_by (Operation id) n h same = let e : id ≡ n = cc in subst IsOperationNumber e h
+
+    operation_is : (n : ℕ) → operation_number func.role ≡ Some n → IsOperationNumber n
+    operation_is n is = numbered_by func.role n formed.role is
+
+    terminator_made : (t : Term) → IsTerm func t → Made table [] (terminator_code first func t)
+    terminator_made (Jump to) h = mark_then table [] (mark.Jump (first + to)) [] refl (block_labelled to h) (nothing table)
+    terminator_made (Branch x taken other) h =
+        inst_then table [] (Ldr 9 31 (x + 1)) _ (loads_slot 9 x (lit< tt) (slotted x h.0)) refl
+        (mark_then table [] (mark.Branch (first + taken) (first + other)) [] refl (block_labelled taken h.1, block_labelled other h.2) (nothing table))
+    terminator_made (Ret x) h = return_made table (length func.locals) x (operation_number func.role) slots (slotted x h) (λ n is. (operation_is n is, labels.operations f n func at is))
+    terminator_made Halt h = plain_then table [] halt_code [] refl lines-are-in-range.halt (λ r. nothing table)
+
+    -- ---- blocks
+
+    stretch : (b : ℕ) (block : BlockIr) → slice_get func.blocks b ≡ Some block → IsStretch table [] (block_code places first func block)
+    stretch b block there = record { made = lines_made table (line_code places first func) (code_lines block) line; word = (block_words places first p func block own).0 } where
+      own : IsBlockIr p func block
+      own = All-contains (IsBlockIr p func) func.blocks block formed.blocks (get_in func.blocks b block there)
+
+      of_instr : (line : CodeLine) → Contains (map instruction block.instrs) line → Made table [] (line_code places first func line)
+      of_instr line has =
+          let r = of_map instruction block.instrs line has in
+          let k = in_get block.instrs r.0 r.1 in
+          subst (λ (l : CodeLine). Made table [] (line_code places first func l)) r.2
+          (instruction_made r.0 (All-contains (IsInstr p func) block.instrs r.0 own.0 r.1) (instr_allowed p ok f func at b block there k.0 r.0 k.1))
+
+      line : (line : CodeLine) → Contains (code_lines block) line → Made table [] (line_code places first func line)
+      line l has =
+          elim (Contains-append_cases (map instruction block.instrs) (terminator block.term ∷ []) l has) [
+            | inl before ↦ of_instr l before
+            | inr last ↦ elim (cons_cases (terminator block.term) [] l last) [
+              | inl same ↦ subst (λ (m : CodeLine). Made table [] (line_code places first func m)) same (terminator_made block.term own.1)
+              | inr none ↦ absurd (not_in_none l none)
+            ]
+          ]
+
+    stretches : (bs : List BlockIr) → ((block : BlockIr) → Contains bs block → Contains func.blocks block) → AllByRecursion (IsStretch table []) (map (block_code places first func) bs)
+    stretches [] own = tt
+    stretches (b ∷ bs) own =
+        let k = in_get func.blocks b (own b (first_in b bs)) in
+        (stretch k.0 b k.1, stretches bs (λ c has. own c (later_in b bs c has)))
+
+    pub code_is : IsCodeOf table func (function_code p f func)
+    code_is = record {
+      prologue = record {
+        made = start_made table func.params (length func.locals) (operation_number func.role) formed.few_params slots operation_is;
+        word = some_words func.params (length func.locals) (operation_number func.role);
+      };
+      blocks = stretches func.blocks (λ block has. has);
+      count = length-map func.blocks (block_code places first func);
+    }
+
+pub functions_have_their_code : ProgramsHaveTheirLabels → ProgramsHaveTheirCells → WordsAreFew → FunctionsHaveTheirCode
+functions_have_their_code labelled celled low p f func ok at = code_is labelled celled low p ok f func at

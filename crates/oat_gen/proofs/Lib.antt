@@ -1,0 +1,10 @@
+mod Loops
+mod Bounds
+mod Laying
+mod Expanding
+mod Placing
+mod Words
+mod Stretches
+mod LineParts
+mod FunctionParts
+mod Building
