@@ -7,3 +7,5 @@ mod Mains
 mod Imaging
 mod MainFirst
 mod Compiling
+mod SiteCode
+mod EdgeNames

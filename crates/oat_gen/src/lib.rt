@@ -16,3 +16,4 @@ mod moves;
 
 pub use fault::GenFault;
 pub use generation::generate;
+pub use globals::GlobalPlace;
