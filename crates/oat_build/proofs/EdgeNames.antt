@@ -5,13 +5,14 @@ use Rattle.std.specs.Option.{option_map, option_and_then}
 use Rattle.std.specs.List.{count_by}
 use Rattle.std.proofs.lemmas.Option.{slice_get-get_or}
 use Rattle.oat_a64.specs.Step.{code_base}
-use Rattle.oat_a64.specs.declared.inst.Inst.TheVariants.{Brk, Cbnz}
+use Rattle.oat_a64.specs.declared.inst.Inst.TheVariants.{AddImm, Blr, Brk, Cbnz, Ldr, Svc}
 use Rattle.oat_map.specs.declared.map.Map.{Map}
 use Rattle.oat_map.specs.declared.row.Row.{Row}
 use Rattle.oat_map.specs.declared.row.Row.TheVariants as row
 use Rattle.oat_map.specs.EdgeName.{EdgeName, PlaceName, Site, branch, call, icall, jump, return, place_name, site, call_site, name_of}
-use Rattle.oat_map.specs.Rows.{address_of, after, is_call}
-use Rattle.oat_image.specs.Grammar.{IsRow}
+use Rattle.oat_map.specs.Rows.{address_of, after, is_call, is_over}
+use Rattle.oat_image.specs.Grammar.{IsRow, IsWellFormedImage}
+use Rattle.oat_asm.specs.declared.branch_form.BranchForm.TheVariants.{Bl}
 use Rattle.oat_asm.specs.declared.item.Item.{Item}
 use Rattle.oat_asm.specs.declared.item.Item.TheVariants as item
 use Rattle.oat_asm.specs.declared.mark.Mark.{Mark}
@@ -25,7 +26,7 @@ use Rattle.oat_ir.specs.declared.program.Program.{Program}
 use Rattle.oat_ir.specs.declared.func.Func.{Func}
 use Rattle.oat_ir.specs.declared.func.BlockIr.{BlockIr}
 use Rattle.oat_ir.specs.declared.instr.Instr.{Instr}
-use Rattle.oat_ir.specs.declared.instr.Instr.TheVariants.{Call, ICall}
+use Rattle.oat_ir.specs.declared.instr.Instr.TheVariants.{Const, Copy, Binary, Load, Store, LoadX, StoreX, RefTo, Call, ICall, Input, Output}
 use Rattle.oat_ir.specs.declared.instr.Term.{Term}
 use Rattle.oat_ir.specs.declared.instr.Term.TheVariants.{Jump, Branch, Ret}
 use Rattle.oat_ir.specs.declared.source.SourceSite.{SourceSite}
@@ -42,13 +43,14 @@ use Rattle.oat_parts.proofs.Making.{words_add}
 use Rattle.oat_symbols.specs.Programs.{label_of_block, symbols_of, HasValidNames}
 use Rattle.oat_symbols.specs.Codes.{CodesAreOfTheProgram, IsBuiltWhole, IsCodeOf, codes_of}
 use Rattle.oat_symbols.specs.Names.{CallSitesAreFound, HasSourceNames, PlacesAreNamedBySource, SitesAreNamedBySource, is_site_item}
-use Rattle.oat_frames.specs.Frames.{World, return_address}
-use Rattle.oat_frames.specs.Code.{argument_loads, behind_call, call_code, icall_code}
+use Rattle.oat_frames.specs.Frames.{World, frame_size, return_address}
+use Rattle.oat_frames.specs.Code.{argument_loads, behind_call, depth_tested, icall_code}
 use Rattle.oat_frames.specs.Lines.{IsBlockAt, IsLineAt, lines_code, words_before_line}
 use Rattle.oat_frames.proofs.FrameLaws.{lines-stand, found-contains}
 use Rattle.oat_globals.specs.Operations.{role_words}
 use Rattle.oat_globals.specs.Code.{slot_load}
 use Rattle.oat_gen.specs.Code.{block_code, code_lines, expanded_lines, function_code, line_code, program_items}
+use Rattle.oat_gen.specs.Marked.{marked_return}
 use Rattle.oat_gen.specs.GlobalPlaces.{global_places, GlobalsHaveTheirPlaces}
 use Rattle.oat_gen.specs.Laws.{BlocksHaveTheirLines, FittingProgramsAreBuilt, FunctionsHaveTheirCode, MarkedCodeExpands, OtherCodeStays}
 use Rattle.oat_match.specs.Code.{block_items, instruction_items, terminator_items}
@@ -81,6 +83,11 @@ instrs_are : (p : Program) (at : LinePlace) (func : Func) (block : BlockIr) → 
 instrs_are p at func block is has =
     ap (λ (o : Option Func). unwrap_or (option_and_then (λ g. option_map (λ b. b.instrs) (slice_get g.blocks at.block)) o) []) is
     ∙ ap (λ (o : Option BlockIr). unwrap_or (option_map (λ b. b.instrs) o) []) has
+
+-- ---- behind a call: two instructions before the next line
+
+back_at : (place from count : ℕ) → place ≡ from + 4 * count + 8 → from < 2 ^ 32 → count ≤ 2 → place - 8 ≡ (from + 4 * count) % 2 ^ 64
+back_at place from count is low few = omega arith
 
 -- ---- words before a transfer
 
@@ -217,9 +224,6 @@ module _ (expands : MarkedCodeExpands) (stays : OtherCodeStays) (placing : Globa
         ap (site (program_image p).map) there
         ∙ site_is from (instruction (Call x g args)) found (before_call args) (behind_call x) (mark.Call g) (4 + length args) (front_is args (item.Mark (mark.Call g) ∷ behind_call x)) (before_call_sites args) (call_words_before args)
 
-    icall_front : ℕ → List ℕ → List Item
-    icall_front y args = slot_load 9 y ∷ item.Note note.Check ∷ item.Inst (Cbnz 9 (pos 2)) ∷ item.Inst (Brk 3) ∷ before_call args
-
     icall_site_is : (from : LinePlace) (x y : ℕ) (args : List ℕ) → LineFound p from (instruction (ICall x y args)) → site (program_image p).map (address_of_line (program_world p) from + 28 + 4 * length args) ≡ source_site_name p (site_of_line p from)
     icall_site_is from x y args found =
         let there : address_of_line (program_world p) from + 28 + 4 * length args ≡ address_of_line (program_world p) from + 4 * (7 + length args) = omega arith in
@@ -243,3 +247,124 @@ module _ (expands : MarkedCodeExpands) (stays : OtherCodeStays) (placing : Globa
         ap (λ (o : Option CodeLine). icall (site (program_image p).map (address_of_line (program_world p) from + 28 + 4 * length (call_arguments o))) (place_name (program_image p).map (program_label p g))) h
         ∙ ap (λ (s : Site). icall s (place_name (program_image p).map (program_label p g))) (icall_site_is from x y args found)
         ∙ ap (λ (o : Option PlaceName). icall (source_site_name p (site_of_line p from)) o) (func_named g less found.func)
+
+    -- ---- returns
+
+    return_site_by : (from : LinePlace) (x : ℕ) (found : LineFound p from (terminator (Ret x))) (op : Option ℕ) → operation_number found.func.role ≡ op
+        → site (program_image p).map (address_of_line (program_world p) from + 4 * (role_words op + 3)) ≡ source_site_name p (site_of_line p from)
+    return_site_by from x found None is =
+        site_is from (terminator (Ret x)) found (slot_load 0 x ∷ item.Inst (Ldr 30 31 0) ∷ item.Inst (AddImm 31 31 (frame_size (length found.func.locals))) ∷ []) [] mark.Ret 3
+        (ap (λ (o : Option ℕ). marked_return (length found.func.locals) x o) is) refl refl
+    return_site_by from x found (Some op) is =
+        site_is from (terminator (Ret x)) found (item.Mark (mark.End op) ∷ slot_load 0 x ∷ item.Inst (Ldr 30 31 0) ∷ item.Inst (AddImm 31 31 (frame_size (length found.func.locals))) ∷ []) [] mark.Ret 5
+        (ap (λ (o : Option ℕ). marked_return (length found.func.locals) x o) is) refl refl
+
+    return_site_is : (from : LinePlace) (x : ℕ) → LineFound p from (terminator (Ret x)) → site (program_image p).map (address_of_line (program_world p) from + 4 * role_words (operation_of p from.func) + 12) ≡ source_site_name p (site_of_line p from)
+    return_site_is from x found =
+        let op = operation_number found.func.role in
+        let number : operation_of p from.func ≡ op = ap (option_and_then (λ func. operation_number func.role)) found.is in
+        let role : role_words (operation_of p from.func) ≡ role_words op = ap role_words number in
+        let there : address_of_line (program_world p) from + 4 * role_words (operation_of p from.func) + 12 ≡ address_of_line (program_world p) from + 4 * (role_words op + 3) = omega arith in
+        ap (site (program_image p).map) there ∙ return_site_by from x found op refl
+
+    -- the code of a line stands at its place, and the next line behind it
+    line_at : (at : LinePlace) (line : CodeLine) (found : LineFound p at line) → IsLineAt (program_world p) (frame_at at) (expansion (line_code (global_places p) (label_of_block p at.func 0) found.func line))
+    line_at at line found =
+        let b = whole.blocks at.func at.block found.func found.block found.is found.has in
+        let code = (lined (global_places p) (label_of_block p at.func 0) found.func found.block).each at.line line found.there in
+        let same = block_same expands stays p ok.well_formed placing at.func found.func found.block (block_formed at.func at.block found.func found.block found.is found.has).0 in
+        let is = expansion (line_code (global_places p) (label_of_block p at.func 0) found.func line) in
+        lines-stand (program_world p) (frame_at at) (label_of_block p at.func at.block) (block_items p at.func found.func found.block) is b
+        (subst (λ (cs : List (List Item)). slice_get cs at.line ≡ Some is) same code) (whole.data_of.slots at.func)
+
+    module _ (called_back : CallSitesAreFound) (formed_image : IsWellFormedImage (program_image p)) where
+      -- a return site is named by the row that stands before it
+      back_by : (back : LinePlace) (r : Row) → Contains (program_image p).map.rows r → is_call r ≡ true → return_address (program_world p) (frame_at back) ≡ after r
+          → site (program_image p).map (address_of r) ≡ source_site_name p (site_of_line p back) → call_site (program_image p).map (return_address (program_world p) (frame_at back)) ≡ source_site_name p (site_of_line p back)
+      back_by back r has is behind name =
+          ap (call_site (program_image p).map) behind ∙ called_back (program_image p) r formed_image whole.shaped has is ∙ name
+
+      row_low : (r : Row) → Contains (program_image p).map.rows r → IsRow r
+      row_low r has = all_in IsRow (program_image p).map.rows r formed_image.rows.each has
+
+      tests_words : (args : List ℕ) (is : List Item) → words_needed (depth_tested args is) ≡ 4 + length args + words_needed is
+      tests_words args is =
+          let both = words_of_two (argument_loads 0 args) is in
+          let loads = loads_need 0 args in
+          omega arith
+
+      -- behind the test, the count and the arguments
+      behind_tests : (at : ℕ) (args : List ℕ) (is : List Item) → ItemsStand (program_image p) (program_label p) at (depth_tested args is) → ItemsStand (program_image p) (program_label p) (at + 16 + 4 * length args) is
+      behind_tests at args is stands =
+          let rest = (stand_in_two (program_image p) (program_label p) (at + 4 + 4 + 4 + 4) (argument_loads 0 args) is stands.1.1.1.1.1).1 in
+          let loads = loads_need 0 args in
+          let there : at + 4 + 4 + 4 + 4 + 4 * words_needed (argument_loads 0 args) ≡ at + 16 + 4 * length args = omega arith in
+          subst (λ (q : ℕ). ItemsStand (program_image p) (program_label p) q is) there rest
+
+      call_back : (back : LinePlace) (x g : ℕ) (args : List ℕ) → LineFound p back (instruction (Call x g args)) → call_site (program_image p).map (return_address (program_world p) (frame_at back)) ≡ source_site_name p (site_of_line p back)
+      call_back back x g args found =
+          let here = line_at back (instruction (Call x g args)) found in
+          let at = address_of_line (program_world p) back in
+          let r = row.Call (at + 16 + 4 * length args) (program_label p g) in
+          let code = expands.call args g x in
+          let stands = behind_tests at args (item.Note (note.Call g) ∷ item.BranchTo Bl g ∷ behind_call x) (subst (λ (is : List Item). ItemsStand (program_image p) (program_label p) at is) code here.code) in
+          let has : Contains (program_image p).map.rows r = found-contains (is_over (at + 16 + 4 * length args)) (program_image p).map.rows r (stands.0 (at + 16 + 4 * length args) (omega arith) (omega arith)) in
+          let low : at + 16 + 4 * length args < 2 ^ 32 = (row_low r has).0 in
+          let words : words_needed (expansion (line_code (global_places p) (label_of_block p back.func 0) found.func (instruction (Call x g args)))) ≡ 4 + length args + 3 = ap words_needed code ∙ tests_words args (item.Note (note.Call g) ∷ item.BranchTo Bl g ∷ behind_call x) in
+          let next = here.next in
+          let behind : return_address (program_world p) (frame_at back) ≡ after r = back_at ((program_world p).place back.func back.block (back.line + 1)) (at + 16 + 4 * length args) 1 (omega arith) low (omega arith) in
+          back_by back r has refl behind (call_site_is back x g args found)
+
+      icall_back : (back : LinePlace) (x y : ℕ) (args : List ℕ) → LineFound p back (instruction (ICall x y args)) → call_site (program_image p).map (return_address (program_world p) (frame_at back)) ≡ source_site_name p (site_of_line p back)
+      icall_back back x y args found =
+          let here = line_at back (instruction (ICall x y args)) found in
+          let at = address_of_line (program_world p) back in
+          let r = row.ICall (at + 28 + 4 * length args) (length args) in
+          let code = expands.icall args y x in
+          let called = item.Note (note.ICall (length args)) ∷ item.Inst (Svc 4) ∷ item.Inst (Blr 9) ∷ behind_call x in
+          let all : ItemsStand (program_image p) (program_label p) at (icall_code args y x) = subst (λ (is : List Item). ItemsStand (program_image p) (program_label p) at is) code here.code in
+          let tested = behind_tests (at + 4 + 4 + 4) args called all.1.1.1.1 in
+          let there : at + 4 + 4 + 4 + 16 + 4 * length args ≡ at + 28 + 4 * length args = omega arith in
+          let stands = subst (λ (q : ℕ). ItemsStand (program_image p) (program_label p) q called) there tested in
+          let has : Contains (program_image p).map.rows r = found-contains (is_over (at + 28 + 4 * length args)) (program_image p).map.rows r (stands.0 (at + 28 + 4 * length args) (omega arith) (omega arith)) in
+          let low : at + 28 + 4 * length args < 2 ^ 32 = (row_low r has).0 in
+          let tests = tests_words args called in
+          let words : words_needed (expansion (line_code (global_places p) (label_of_block p back.func 0) found.func (instruction (ICall x y args)))) ≡ 3 + (4 + length args + 4) = ap words_needed code ∙ ap (λ (n : ℕ). 1 + (0 + (1 + (1 + n)))) tests ∙ three (4 + length args + 4) in
+          let next = here.next in
+          let behind : return_address (program_world p) (frame_at back) ≡ after r = back_at ((program_world p).place back.func back.block (back.line + 1)) (at + 28 + 4 * length args) 2 (omega arith) low (omega arith) in
+          back_by back r has refl behind (icall_site_is back x y args found) where
+            three : (n : ℕ) → 1 + (0 + (1 + (1 + n))) ≡ 3 + n
+            three n = omega arith
+
+      any_back : (back : LinePlace) (i : Instr) → code_line_at p back ≡ Some (instruction i) → is_calling i ≡ true → call_site (program_image p).map (return_address (program_world p) (frame_at back)) ≡ source_site_name p (site_of_line p back)
+      any_back back (Call x g args) h calling = call_back back x g args (line_found p back (instruction (Call x g args)) h)
+      any_back back (ICall x y args) h calling = icall_back back x y args (line_found p back (instruction (ICall x y args)) h)
+      any_back back (Const x value) h calling = absurd (cc)
+      any_back back (Copy x y) h calling = absurd (cc)
+      any_back back (Binary op x y z) h calling = absurd (cc)
+      any_back back (Load x g) h calling = absurd (cc)
+      any_back back (Store g x) h calling = absurd (cc)
+      any_back back (LoadX x g i) h calling = absurd (cc)
+      any_back back (StoreX g i x) h calling = absurd (cc)
+      any_back back (RefTo x g) h calling = absurd (cc)
+      any_back back (Input x) h calling = absurd (cc)
+      any_back back (Output x) h calling = absurd (cc)
+
+      edge_named : (edge : LineEdge) → IsEdgeOf p edge → name_of (program_image p).map (edge_in_image p (program_world p) edge) ≡ line_edge_name p edge
+      edge_named (jumps from to) is = jump_named from to is
+      edge_named (branches from bit to) is = branch_named from bit to is.0 is.1 is.2
+      edge_named (calls from g) is = call_named from g is.0 is.1 is.2
+      edge_named (icalls from g) is = icall_named from g is.1 is.2 is.3 is.0 is.4
+      edge_named (returns from back) is =
+          let found = line_found p from (terminator (Ret is.0)) is.1 in
+          ap (λ (s : Site). return s (call_site (program_image p).map (return_address (program_world p) (frame_at back)))) (return_site_is from is.0 found)
+          ∙ ap (λ (s : Site). return (source_site_name p (site_of_line p from)) s) (any_back back is.2 is.3 is.4)
+      edge_named (finishes op) is = refl
+
+pub built_edges_are_named : MarkedCodeExpands → OtherCodeStays → GlobalsHaveTheirPlaces → BlocksHaveTheirLines → FunctionsHaveTheirCode → FittingProgramsAreBuilt → CodesAreOfTheProgram → SitesAreNamedBySource → PlacesAreNamedBySource → CallSitesAreFound
+    → BuiltProgramsAreCompiled → BuiltEdgesAreNamed
+built_edges_are_named expands stays placing lined coded fitting codes sited places_named called_back compiled p ok named few =
+    let built : IsBuiltWhole p (program_items p) = fitting p ok named few in
+    let are = codes p (function_code p) (λ f func is. coded p f func ok is) in
+    let placed = places_named p (codes_of (function_code p) p) ok named are in
+    record { named = edge_named expands stays placing lined coded sited p ok named (compiled p ok named few) placed called_back built.well.well_formed }
