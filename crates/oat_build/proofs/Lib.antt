@@ -9,3 +9,5 @@ mod MainFirst
 mod Compiling
 mod SiteCode
 mod EdgeNames
+mod OperationRows
+mod Promising

@@ -5,6 +5,7 @@ mod addresses;
 mod data;
 mod references;
 mod image;
+pub mod laws;
 mod names;
 mod rows;
 mod symbols;
