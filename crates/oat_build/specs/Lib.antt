@@ -1,0 +1,5 @@
+pub mod Addresses
+pub mod Listing
+pub mod Naming
+pub mod Built
+pub mod Faults

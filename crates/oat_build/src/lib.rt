@@ -1,0 +1,16 @@
+//! Checked programs become images that run as they do.
+#![tactic(auto)]
+
+mod addresses;
+mod compiler;
+mod data;
+mod fault;
+mod references;
+mod image;
+pub mod laws;
+mod names;
+mod rows;
+mod symbols;
+
+pub use compiler::build;
+pub use fault::BuildFault;
