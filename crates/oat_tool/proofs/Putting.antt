@@ -1,10 +1,11 @@
 -- How pieces that were put one after another add up to a front of a text.
-use Rattle.std.proofs.Common.{◌≡◌, ◌+◌, ◌-◌, ℕ, List, [], ◌++◌, length, take, drop, Option, None, Some, Err, refl, sym, ◌∙◌, ap, subst, append_assoc}
+use Rattle.std.proofs.Common.{◌≡◌, ◌+◌, ◌-◌, ℕ, List, [], ◌++◌, length, take, drop, Option, None, Some, Result, Ok, Err, refl, sym, ◌∙◌, ap, subst, append_assoc}
 use Rattle.std.proofs.Math.Seq.{take-add}
 use Rattle.std.proofs.lemmas.List.{take-append-drop, take_rest, append-nil}
 use Rattle.oat_world.specs.Outside.{Adds, Puts, Rose}
 use Rattle.oat_world.specs.declared.sink.SinkFault.{SinkFault}
 use Rattle.oat_world.specs.declared.sink.SinkFault.TheVariants as sink
+use Rattle.oat_tool.specs.Shows.{Put}
 use Rattle.oat_tool.specs.Puts.{PutsAll, PutsFront}
 
 pub Adds-nothing : (old : Option (List ℕ)) → Adds old [] old
@@ -61,3 +62,22 @@ PutsAll-behind whole text front piece left old mid new first before now sink.Fai
     (subst (λ (n : ℕ). Rose n now) same puts.0, behind_front whole text front piece left old mid new is made so_far puts.1)
 PutsAll-behind whole text front piece left old mid new first before now sink.Memory is made so_far same puts =
     (puts.0 ∙ same, behind_front whole text front piece left old mid new is made so_far puts.1)
+
+-- one text behind another
+pub PutsAll-then : (first second : List ℕ) (old mid new : Option (List ℕ)) (before between now : ℕ) (r : Result (Unit {0}) SinkFault)
+    → Adds old first mid → between ≡ before → PutsAll second (record { held = mid; holds = new; before = between; after = now }) r
+    → PutsAll (first ++ second) (record { held = old; holds = new; before = before; after = now }) r
+PutsAll-then first second old mid new before between now (Ok done) added same puts = (puts.0 ∙ same, Adds-then first second old mid new added puts.1)
+PutsAll-then first second old mid new before between now (Err fault) added same puts =
+    PutsAll-behind (first ++ second) second first second [] old mid new before between now fault refl (sym (append-nil second)) added same puts
+
+-- nothing was put where memory was wanting
+pub PutsAll-starved : (text : List ℕ) (held : Option (List ℕ)) (faults : ℕ) → PutsAll text (record { held = held; holds = held; before = faults; after = faults }) (Err sink.Memory)
+PutsAll-starved text held faults = (refl, ([], (text, refl), Adds-nothing held))
+
+-- the count rises at a put that failed alone
+pub failed_puts_rise : (text : List ℕ) (put : Put) (fault : SinkFault) → fault ≡ sink.Failed → PutsAll text put (Err fault) → Rose put.before put.after
+failed_puts_rise text put sink.Failed is puts = puts.0
+failed_puts_rise text put sink.Memory is puts = absurd (apart is) where
+  apart : sink.Memory ≡ sink.Failed → ⊥
+  apart same = cc

@@ -4,8 +4,8 @@ use Rattle.oat_tool.specs.declared.command.Command.TheVariants as commands
 use Rattle.oat_tool.specs.Commands.{limits_of}
 use Rattle.oat_tool.specs.Loads.{File}
 use Rattle.oat_tool.proofs.Lists.{four_of}
-use Rattle.oat_tool.proofs.Policing.{polices_rejected, polices_no_blob, polices_no_policy, polices_concluded}
-use Rattle.oat_tool.proofs.policy.police.Goals as goal
+use Rattle.oat_tool.proofs.Policing.{polices_rejected, polices_no_blob, polices_no_policy}
+use Rattle.oat_tool.proofs.policy.open_all_files.Goals as goal
 
 pub policy_in-requires : goal.policy_in-requires
 policy_in-requires c =
@@ -21,13 +21,13 @@ returns-in_err-admitted c =
     _ _ _ _ c.requires c.index-files-0.is c.index-files-1.is c.index-files-2.is c.index-files-3.is in
     rw (p.1, p.2, files) (polices_rejected c.index-files-0.result c.index-files-1.result c.index-files-2.result c.index-files-3.result _ c.in_err-admitted.ensures)
 
-pub returns-in_err-bytes : goal.returns-in_err-bytes
-returns-in_err-bytes c =
-    let p = err_from_is_err_and c.from_residual-in_err-bytes.result c.from_residual-in_err-bytes.ensures.1 in
+pub returns-in_err-digits : goal.returns-in_err-digits
+returns-in_err-digits c =
+    let p = err_from_is_err_and c.from_residual-in_err-digits.result c.from_residual-in_err-digits.ensures.1 in
     let files = four_of (λ (f : File). f.limit) c.args.files.now c.index-files-0.result c.index-files-1.result c.index-files-2.result c.index-files-3.result
     _ _ _ _ c.requires c.index-files-0.is c.index-files-1.is c.index-files-2.is c.index-files-3.is in
     rw (p.1, p.2, files) (polices_no_blob c.index-files-0.result c.index-files-1.result c.index-files-2.result c.index-files-3.result _ _ _
-    c.in_ok-admitted.ensures c.in_err-bytes.ensures)
+    c.in_ok-admitted.ensures c.in_err-digits.ensures)
 
 pub returns-in_err-rules : goal.returns-in_err-rules
 returns-in_err-rules c =
@@ -35,12 +35,17 @@ returns-in_err-rules c =
     let files = four_of (λ (f : File). f.limit) c.args.files.now c.index-files-0.result c.index-files-1.result c.index-files-2.result c.index-files-3.result
     _ _ _ _ c.requires c.index-files-0.is c.index-files-1.is c.index-files-2.is c.index-files-3.is in
     rw (p.1, p.2, files) (polices_no_policy c.index-files-0.result c.index-files-1.result c.index-files-2.result c.index-files-3.result _ _ _ _
-    c.in_ok-admitted.ensures c.in_ok-bytes.ensures c.in_err-rules.ensures)
+    c.in_ok-admitted.ensures c.in_ok-digits.ensures c.in_err-rules.ensures)
 
 pub returns : goal.returns
-returns c =
-    let concluded = rw c.as_slice.ensures.value at c.in_ok-conclude_with.ensures in
-    let files = four_of (λ (f : File). f.limit) c.args.files.now c.index-files-0.result c.index-files-1.result c.index-files-2.result c.index-files-3.result
-    _ _ _ _ c.requires c.index-files-0.is c.index-files-1.is c.index-files-2.is c.index-files-3.is in
-    rw files (polices_concluded c.index-files-0.result c.index-files-1.result c.index-files-2.result c.index-files-3.result _ _ _ _ _
-    c.in_ok-admitted.ensures c.in_ok-bytes.ensures c.in_ok-rules.ensures concluded)
+returns c = record {
+  image = c.index-files-0.result;
+  case = c.index-files-1.result;
+  blob = c.index-files-2.result;
+  policy = c.index-files-3.result;
+  are = four_of (λ (f : File). f.limit) c.args.files.now c.index-files-0.result c.index-files-1.result c.index-files-2.result c.index-files-3.result
+      _ _ _ _ c.requires c.index-files-0.is c.index-files-1.is c.index-files-2.is c.index-files-3.is;
+  admitted = c.in_ok-admitted.ensures;
+  spelled = c.in_ok-digits.ensures;
+  read = c.in_ok-rules.ensures;
+}
