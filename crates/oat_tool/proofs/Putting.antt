@@ -5,7 +5,6 @@ use Rattle.std.proofs.lemmas.List.{take-append-drop, take_rest, append-nil}
 use Rattle.oat_world.specs.Outside.{Adds, Puts, Rose}
 use Rattle.oat_world.specs.declared.sink.SinkFault.{SinkFault}
 use Rattle.oat_world.specs.declared.sink.SinkFault.TheVariants as sink
-use Rattle.oat_tool.specs.Shows.{Put}
 use Rattle.oat_tool.specs.Puts.{PutsAll, PutsFront}
 
 pub Adds-nothing : (old : Option (List ℕ)) → Adds old [] old
@@ -64,20 +63,21 @@ PutsAll-behind whole text front piece left old mid new first before now sink.Mem
     (puts.0 ∙ same, behind_front whole text front piece left old mid new is made so_far puts.1)
 
 -- one text behind another
-pub PutsAll-then : (first second : List ℕ) (old mid new : Option (List ℕ)) (before between now : ℕ) (r : Result (Unit {0}) SinkFault)
-    → Adds old first mid → between ≡ before → PutsAll second (record { held = mid; holds = new; before = between; after = now }) r
+pub PutsAll-then : (first second piece : List ℕ) (old mid new : Option (List ℕ)) (before between now : ℕ) (r : Result (Unit {0}) SinkFault)
+    → piece ≡ first → Adds old piece mid → between ≡ before → PutsAll second (record { held = mid; holds = new; before = between; after = now }) r
     → PutsAll (first ++ second) (record { held = old; holds = new; before = before; after = now }) r
-PutsAll-then first second old mid new before between now (Ok done) added same puts = (puts.0 ∙ same, Adds-then first second old mid new added puts.1)
-PutsAll-then first second old mid new before between now (Err fault) added same puts =
-    PutsAll-behind (first ++ second) second first second [] old mid new before between now fault refl (sym (append-nil second)) added same puts
+PutsAll-then first second piece old mid new before between now (Ok done) is added same puts =
+    (puts.0 ∙ same, Adds-then first second old mid new (subst (λ (xs : List ℕ). Adds old xs mid) is added) puts.1)
+PutsAll-then first second piece old mid new before between now (Err fault) is added same puts =
+    PutsAll-behind (first ++ second) second first second [] old mid new before between now fault refl (sym (append-nil second)) (subst (λ (xs : List ℕ). Adds old xs mid) is added) same puts
 
 -- nothing was put where memory was wanting
 pub PutsAll-starved : (text : List ℕ) (held : Option (List ℕ)) (faults : ℕ) → PutsAll text (record { held = held; holds = held; before = faults; after = faults }) (Err sink.Memory)
 PutsAll-starved text held faults = (refl, ([], (text, refl), Adds-nothing held))
 
--- the count rises at a put that failed alone
-pub failed_puts_rise : (text : List ℕ) (put : Put) (fault : SinkFault) → fault ≡ sink.Failed → PutsAll text put (Err fault) → Rose put.before put.after
-failed_puts_rise text put sink.Failed is puts = puts.0
-failed_puts_rise text put sink.Memory is puts = absurd (apart is) where
-  apart : sink.Memory ≡ sink.Failed → ⊥
-  apart same = cc
+-- where the first text fails, so does the whole
+pub PutsAll-front : (first second piece : List ℕ) (old new : Option (List ℕ)) (before now : ℕ) (fault : SinkFault)
+    → piece ≡ first → PutsAll piece (record { held = old; holds = new; before = before; after = now }) (Err fault)
+    → PutsAll (first ++ second) (record { held = old; holds = new; before = before; after = now }) (Err fault)
+PutsAll-front first second piece old new before now fault same puts =
+    PutsAll-behind (first ++ second) (first ++ second) [] piece second old old new before before now fault refl (ap (λ xs. xs ++ second) (sym same)) (Adds-nothing old) refl puts

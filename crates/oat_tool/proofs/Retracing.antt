@@ -9,6 +9,7 @@ use Rattle.oat_replay.specs.declared.replay.Replay.{Replay}
 use Rattle.oat_replay.specs.Replay.{FollowsRecords, IsWalked}
 use Rattle.oat_replay.specs.StandsBehind.{StandsBehind}
 use Rattle.oat_replay.proofs.ReplayLemmas.{followers_are_fronts, one_path}
+use Rattle.oat_world.specs.Outside.{Adds}
 use Rattle.oat_report.specs.PathLine.{edge_line}
 use Rattle.oat_tool.specs.Outcome.{line}
 use Rattle.oat_tool.specs.Report.{path_text}
@@ -58,3 +59,11 @@ pub is_last : (flow : Map) (op : ℕ) (bits : List Bool) (targets : List ℕ) (p
     → path_text flow path ≡ path_text flow (path_of steps) ++ path_text flow (edge ∷ [])
 is_last flow op bits targets path steps edge walked ends =
     ap (path_text flow) (one_path flow op bits targets path (path_of (steps ++ moved edge ∷ [])) walked ends) ∙ text_moved flow steps edge
+
+-- the steps that a replay made before a turn, whose lines were put
+pub record RetracesSoFar (flow : Map) (op : ℕ) (bits : List Bool) (targets : List ℕ) (replay : Replay) (old new : Option (List ℕ)) (before now turn : ℕ) : Type 0 where
+  pub steps : List Step
+  pub behind : StandsBehind flow op bits targets replay steps
+  pub put : Adds old (path_text flow (path_of steps)) new
+  pub faults : now ≡ before
+  pub turn_is : turn ≡ length steps

@@ -32,7 +32,7 @@ tells s bytes settled settles = record {
 never : (cause : Cause) → feeds.Refuse cause ≡ feeds.Accept → ⊥
 never cause same = cc
 
-accepted : (v : Verdict) → feed_verdict_of v ≡ feeds.Accept → (path : List Edge) × (v ≡ Accept path)
+pub accepted : (v : Verdict) → feed_verdict_of v ≡ feeds.Accept → (path : List Edge) × (v ≡ Accept path)
 accepted (Accept path) same = (path, refl)
 accepted (Refuse cause) same = absurd (never cause same)
 

@@ -1,4 +1,4 @@
-ghost use Rattle.std.specs.Prelude.{◌≡◌, List, ℕ, MatchOption, if◌then◌else◌};
+ghost use Rattle.std.specs.Prelude.{◌≡◌, List, ℕ, MatchOption, true, false};
 ghost use Rattle.hex.specs.Hex.{is_hex_digit};
 ghost use Rattle.oat_tool.specs.BlobText.{AreDigits, HasDigits, IsBlobText, after_front, before_end};
 
@@ -27,7 +27,8 @@ fn is_digit(byte: u8) -> bool
 
 /// Whether these are the digits of bytes.
 fn are_digits(text: &[u8]) -> bool
-    ensures { if result then AreDigits text.now else ¬ AreDigits text.now }
+    ensures yes { result ≡ true → AreDigits text.now }
+    ensures no { result ≡ false → AreDigits text.now → ⊥ }
 {
     for byte in text {
         if !is_digit(*byte) {
@@ -42,5 +43,9 @@ pub fn blob_digits(text: &[u8]) -> Option<&[u8]>
     ensures { MatchOption result ((bytes : List ℕ) → IsBlobText text.now bytes → ⊥) (λ digits. HasDigits text.now digits.now) }
 {
     let digits = digits_only(digits_on(text));
-    if are_digits(digits) { Some(digits) } else { None }
+    if are_digits(digits) {
+        Some(digits)
+    } else {
+        None
+    }
 }

@@ -22,7 +22,7 @@ fn feed_digits(feed: &mut Feed<'_>, digits: &[u8]) -> Result<(), AllocError>
     let mut piece = [0; PIECE];
     let mut done = 0;
     while done < digits.len() {
-        let end = digits.len().min(done.saturating_add(2 * PIECE));
+        let end = done + (digits.len() - done).min(2 * PIECE);
         let size = (end - done) / 2;
         let decoded = hex::decode_to_slice(&digits[done..end], &mut piece[..size]);
         decoded.unwrap();

@@ -82,10 +82,12 @@ pub fn close<E: Sink>(put: Result<(), SinkFault>, ended: Ended, said: &[u8], err
     ensures raised { (text : List ℕ) (out : Put) → PutsAll text out put → (out.before < out.after) ⊎ (E.faults err.old < E.faults err.new) → result ≡ 5 }
     ensures no_fault { result ≢ 4 }
 {
-    match put {
-        Ok(()) => say(err, said, ended.status()),
-        Err(SinkFault::Failed) => WRITE_FAULT,
-        Err(SinkFault::Memory) => say_starved(err),
+    let Err(fault) = put else {
+        return say(err, said, ended.status());
+    };
+    match fault {
+        SinkFault::Failed => WRITE_FAULT,
+        SinkFault::Memory => say_starved(err),
     }
 }
 

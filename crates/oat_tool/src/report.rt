@@ -56,12 +56,7 @@ pub fn ended(verdict: FeedVerdict) -> Ended
     }
 }
 
-fn put_edge<S: Sink>(
-    alloc: Global,
-    sink: &mut S,
-    map: &Map,
-    edge: &Edge,
-) -> Result<(), SinkFault>
+fn put_edge<S: Sink>(alloc: Global, sink: &mut S, map: &Map, edge: &Edge) -> Result<(), SinkFault>
     ensures { PutsAll (path_text map.now (edge.now ∷ [])) (put_of S.told S.faults sink.old sink.new) result }
 {
     match edge_line(alloc, map, edge) {
@@ -87,7 +82,7 @@ fn put_path<S: Sink>(
     let Ok(mut replay) = Replay::new(alloc, map, op) else {
         return Err(SinkFault::Memory);
     };
-    for _ in 0..PATH_LIMIT + 1 {
+    for turn in 0..PATH_LIMIT + 1 {
         match replay.turn(kept) {
             Turn::Moved(edge) => put_edge(alloc, sink, map, &edge)?,
             Turn::Passed => {}

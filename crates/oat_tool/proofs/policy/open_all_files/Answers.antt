@@ -4,6 +4,7 @@ use Rattle.oat_tool.specs.declared.command.Command.TheVariants as commands
 use Rattle.oat_tool.specs.Commands.{limits_of}
 use Rattle.oat_tool.specs.Loads.{File}
 use Rattle.oat_tool.proofs.Lists.{four_of}
+use Rattle.oat_tool.proofs.Digits.{blob_text}
 use Rattle.oat_tool.proofs.Policing.{polices_rejected, polices_no_blob, polices_no_policy}
 use Rattle.oat_tool.proofs.policy.open_all_files.Goals as goal
 
@@ -35,7 +36,7 @@ returns-in_err-rules c =
     let files = four_of (λ (f : File). f.limit) c.args.files.now c.index-files-0.result c.index-files-1.result c.index-files-2.result c.index-files-3.result
     _ _ _ _ c.requires c.index-files-0.is c.index-files-1.is c.index-files-2.is c.index-files-3.is in
     rw (p.1, p.2, files) (polices_no_policy c.index-files-0.result c.index-files-1.result c.index-files-2.result c.index-files-3.result _ _ _ _
-    c.in_ok-admitted.ensures c.in_ok-digits.ensures c.in_err-rules.ensures)
+    c.in_ok-admitted.ensures (blob_text _ _ _ c.in_ok-digits.ensures c.in_ok-digits.ensures.decoded.1) c.in_err-rules.ensures)
 
 pub returns : goal.returns
 returns c = record {
