@@ -19,3 +19,6 @@ mod PolicySaying
 mod Running
 mod Naming
 mod Lines
+mod Settling
+mod Digits
+mod Retracing

@@ -1,12 +1,14 @@
 -- The room of `policy`: where its work stops and goes on, and that it has one answer.
-use Rattle.std.proofs.Common.{◌≡◌, ◌≢◌, ◌≤◌, ◌∙◌, ℕ, List, [], ◌∷◌, length, sym, ap, arith}
+use Rattle.std.proofs.Common.{Bool, ◌≡◌, ◌≢◌, ◌≤◌, ◌∙◌, ℕ, List, [], ◌∷◌, length, sym, ap, arith}
+use Rattle.oat_map.specs.declared.edge.Edge.{Edge}
+use Rattle.oat_map.specs.declared.map.Map.{Map}
+use Rattle.oat_replay.specs.Replay.{IsWalked}
 use Rattle.oat_map.specs.Walk.{Step, passed, moved, path_of}
 use Rattle.oat_image.specs.declared.image.Image.{Image}
 use Rattle.oat_case.specs.declared.case.Case.{Case}
 use Rattle.oat_verify.specs.declared.verdict.Verdict.{Verdict}
-use Rattle.oat_verify.specs.declared.verdict.Verdict.TheVariants.{Accept, Refuse}
-use Rattle.oat_verify.specs.Verdict.{Subject, subject_of, IsVerdict}
-use Rattle.oat_verify.proofs.OneVerdict.{one_verdict, acceptance_at_once}
+use Rattle.oat_verify.specs.Verdict.{Subject, subject_of}
+use Rattle.oat_verify.proofs.OneVerdict.{one_verdict}
 use Rattle.oat_lines.specs.declared.fault.Fault.{Fault}
 use Rattle.oat_lines.specs.declared.fault.Fault.TheVariants.{Memory}
 use Rattle.oat_lines.specs.Faults.{Fails}
@@ -24,7 +26,6 @@ use Rattle.oat_tool.specs.Loads.{File}
 use Rattle.oat_tool.specs.BlobText.{IsBlobText}
 use Rattle.oat_tool.specs.Refusals.{RefusesBlob}
 use Rattle.oat_tool.specs.Admits.{Rejects, AreAdmitted}
-use Rattle.oat_tool.specs.Report.{path_in}
 use Rattle.oat_tool.specs.Policy.{IsPolicyText, RefusesPolicy, said_of, with_policy, ConcludesWith, Polices}
 use Rattle.oat_tool.specs.PolicyLaws.{OnePolicyAnswer}
 use Rattle.oat_tool.specs.Works.{StopsWith}
@@ -48,19 +49,17 @@ policy_is_decisive file = record {
   apart = λ rules a read refuses. never rules refuses.fault (policy_of file.text) read refuses.first;
 }
 
--- ---- an accepted path is one that a policy can be asked about
+-- ---- a walked path is one that a policy can be asked about
 
 path_is_short : (steps : List Step) → length (path_of steps) ≤ length steps
 path_is_short [] = omega arith
 path_is_short (passed ∷ steps) = let rest = path_is_short steps in omega (arith, rest)
 path_is_short (moved edge ∷ steps) = let rest = path_is_short steps in omega (arith, rest)
 
-pub accepted_is_short : (s : Subject) (bytes : List ℕ) (verdict : Verdict) → IsVerdict s bytes verdict → length (path_in verdict) ≤ 4194304
-accepted_is_short s bytes (Accept path) right =
-    let walked = ((acceptance_at_once s bytes path).0 right).walked in
+pub walked_is_short : (flow : Map) (op : ℕ) (bits : List Bool) (targets : List ℕ) (path : List Edge) → IsWalked flow op bits targets path → length path ≤ 4194304
+walked_is_short flow op bits targets path walked =
     let short = path_is_short walked.steps in
     rw walked.path_is (omega (arith, short, walked.within))
-accepted_is_short s bytes (Refuse cause) right = omega arith
 
 -- ---- where the work stops, and where it goes on to the verdict
 

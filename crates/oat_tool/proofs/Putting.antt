@@ -1,5 +1,5 @@
 -- How pieces that were put one after another add up to a front of a text.
-use Rattle.std.proofs.Common.{◌≡◌, ◌+◌, ◌-◌, ℕ, List, [], ◌++◌, length, take, drop, Option, None, Some, Err, refl, sym, ◌∙◌, ap, subst, append_assoc}
+use Rattle.std.proofs.Common.{◌≡◌, ◌+◌, ◌-◌, ℕ, List, [], ◌++◌, length, take, drop, Option, None, Some, Result, Ok, Err, refl, sym, ◌∙◌, ap, subst, append_assoc}
 use Rattle.std.proofs.Math.Seq.{take-add}
 use Rattle.std.proofs.lemmas.List.{take-append-drop, take_rest, append-nil}
 use Rattle.oat_world.specs.Outside.{Adds, Puts, Rose}
@@ -61,3 +61,23 @@ PutsAll-behind whole text front piece left old mid new first before now sink.Fai
     (subst (λ (n : ℕ). Rose n now) same puts.0, behind_front whole text front piece left old mid new is made so_far puts.1)
 PutsAll-behind whole text front piece left old mid new first before now sink.Memory is made so_far same puts =
     (puts.0 ∙ same, behind_front whole text front piece left old mid new is made so_far puts.1)
+
+-- one text behind another
+pub PutsAll-then : (first second piece : List ℕ) (old mid new : Option (List ℕ)) (before between now : ℕ) (r : Result (Unit {0}) SinkFault)
+    → piece ≡ first → Adds old piece mid → between ≡ before → PutsAll second (record { held = mid; holds = new; before = between; after = now }) r
+    → PutsAll (first ++ second) (record { held = old; holds = new; before = before; after = now }) r
+PutsAll-then first second piece old mid new before between now (Ok done) is added same puts =
+    (puts.0 ∙ same, Adds-then first second old mid new (subst (λ (xs : List ℕ). Adds old xs mid) is added) puts.1)
+PutsAll-then first second piece old mid new before between now (Err fault) is added same puts =
+    PutsAll-behind (first ++ second) second first second [] old mid new before between now fault refl (sym (append-nil second)) (subst (λ (xs : List ℕ). Adds old xs mid) is added) same puts
+
+-- nothing was put where memory was wanting
+pub PutsAll-starved : (text : List ℕ) (held : Option (List ℕ)) (faults : ℕ) → PutsAll text (record { held = held; holds = held; before = faults; after = faults }) (Err sink.Memory)
+PutsAll-starved text held faults = (refl, ([], (text, refl), Adds-nothing held))
+
+-- where the first text fails, so does the whole
+pub PutsAll-front : (first second piece : List ℕ) (old new : Option (List ℕ)) (before now : ℕ) (fault : SinkFault)
+    → piece ≡ first → PutsAll piece (record { held = old; holds = new; before = before; after = now }) (Err fault)
+    → PutsAll (first ++ second) (record { held = old; holds = new; before = before; after = now }) (Err fault)
+PutsAll-front first second piece old new before now fault same puts =
+    PutsAll-behind (first ++ second) (first ++ second) [] piece second old old new before before now fault refl (ap (λ xs. xs ++ second) (sym same)) (Adds-nothing old) refl puts

@@ -7,13 +7,17 @@ use Rattle.oat_tool.specs.Outcome.{Outcome}
 use Rattle.oat_tool.specs.Answer.{Answer, shows, refuses, refused, as_outcome, IsAnswered}
 use Rattle.oat_tool.specs.Shows.{Put, Shows}
 use Rattle.oat_tool.proofs.Showing.{Shows-more}
-use Rattle.oat_tool.specs.Works.{StopsWith, RefusesWith, Works, IsOutcomeOf}
+use Rattle.oat_tool.specs.Works.{StopsWith, RefusesWith, Works, IsOutcomeOf, IsStopOutcome}
+
+-- Work that stopped early answers a refusal.
+pub stops_answer : (Q : Answer → Type 0) (s : Stop) (o : Outcome) → StopsWith Q s → IsStopOutcome s o → IsAnswered Q o
+stops_answer Q (stop.Refused said) o stops is = record { answer = refuses said.items; given = stops; is = is }
+stops_answer Q stop.Starved o stops is = absurd is
 
 pub Works-answers : {P : Type 0} (text : P → List ℕ) (Q : Answer → Type 0) (work : Result (Page P) Stop) (o : Outcome)
     → Works text Q work → IsOutcomeOf text work o → IsAnswered Q o
 Works-answers text Q (Ok page) o works is = record { answer = shows page.ended (text page.pieces) page.err.items; given = works; is = is }
-Works-answers text Q (Err (stop.Refused said)) o works is = record { answer = refuses said.items; given = works; is = is }
-Works-answers text Q (Err stop.Starved) o works is = absurd is
+Works-answers text Q (Err stop) o works is = stops_answer Q stop o works is
 
 pub StopsWith-more : (P Q : Answer → Type 0) (s : Stop) → ((a : Answer) → P a → Q a) → StopsWith P s → StopsWith Q s
 StopsWith-more P Q (stop.Refused text) more stops = more (refuses text.items) stops

@@ -27,3 +27,4 @@ pub mod Device
 pub mod DeviceLaws
 pub mod Policy
 pub mod PolicyLaws
+pub mod Settles

@@ -3,6 +3,8 @@
 use Rattle.std.specs.Prelude.{◌≡◌, ℕ, List, [], ◌∷◌, ◌++◌, codes, Option, Some, None, Ok, Err}
 use Rattle.std.specs.Fmt.{decimal}
 use Rattle.oat_map.specs.declared.map.Map.{Map}
+use Rattle.oat_image.specs.declared.image.Image.{Image}
+use Rattle.oat_case.specs.declared.case.Case.{Case}
 use Rattle.oat_verify.specs.declared.verdict.Verdict.{Verdict}
 use Rattle.oat_verify.specs.declared.verdict.Verdict.TheVariants.{Accept, Refuse}
 use Rattle.oat_verify.specs.Verdict.{Subject, subject_of}
@@ -21,9 +23,11 @@ use Rattle.oat_tool.specs.declared.page.Ended.TheVariants.{Done, Rejected}
 use Rattle.oat_tool.specs.Outcome.{line}
 use Rattle.oat_tool.specs.Answer.{Answer, shows, refuses, refused}
 use Rattle.oat_tool.specs.Loads.{File}
-use Rattle.oat_tool.specs.BlobText.{IsBlobText}
+use Rattle.oat_tool.specs.BlobText.{HasDigits, IsBlobText}
 use Rattle.oat_tool.specs.Refusals.{RefusesBlob}
-use Rattle.oat_tool.specs.Admits.{Admits}
+use Rattle.oat_tool.specs.Admits.{Admits, AreAdmitted}
+use Rattle.oat_feed.specs.declared.verdict.Settled.{Settled}
+use Rattle.oat_tool.specs.Settles.{Settles}
 use Rattle.oat_tool.specs.Verify.{Concludes}
 
 -- ---- the policy's file
@@ -69,6 +73,11 @@ pub record ConcludesWith (subject : Subject) (rules : List PolicyRule) (bytes : 
   pub concluded : Concludes subject bytes report
   pub is : a ≡ with_policy (said_of subject.map rules concluded.verdict) report
 
+-- what was settled of a blob, and what the rules say of an accepted path
+pub record SettlesWith (subject : Subject) (rules : List PolicyRule) (bytes : List ℕ) (settled : Settled) (said : Option PolicyVerdict) : Type 0 where
+  pub settles : Settles subject bytes settled
+  pub is_said : said ≡ said_of subject.map rules settles.verdict.verdict
+
 abbrev pub Polices : List File → Answer → Type 0
 Polices (image ∷ case ∷ blob ∷ policy ∷ []) a =
     Admits image case (λ i c.
@@ -76,3 +85,14 @@ Polices (image ∷ case ∷ blob ∷ policy ∷ []) a =
     First (List PolicyRule) Answer (IsPolicyText policy.text) (RefusesPolicy policy) (λ rules.
     ConcludesWith (subject_of i c.session) rules bytes))) a
 Polices _ a = ⊥
+
+-- The files hold an image and a case that are admitted, a blob of these digits, and a policy of these rules.
+pub record IsOpenedWith (files : List File) (i : Image) (c : Case) (digits : List ℕ) (rules : List PolicyRule) : Type 0 where
+  pub image : File
+  pub case : File
+  pub blob : File
+  pub policy : File
+  pub are : files ≡ image ∷ case ∷ blob ∷ policy ∷ []
+  pub admitted : AreAdmitted image case i c
+  pub spelled : HasDigits blob.text digits
+  pub read : IsPolicyText policy.text rules

@@ -1,5 +1,5 @@
 -- What a verdict puts: its line, and after an acceptance the lines of the path (docs/FORMATS.md).
-use Rattle.std.specs.Prelude.{ℕ, Bool, Option, List, [], ◌++◌, ◌+◌, ◌-◌, length, drop, if◌then◌else◌}
+use Rattle.std.specs.Prelude.{ℕ, Option, List, [], ◌++◌}
 use Rattle.std.specs.List.{flat_map}
 use Rattle.oat_map.specs.declared.map.Map.{Map}
 use Rattle.oat_map.specs.declared.edge.Edge.{Edge}
@@ -7,7 +7,6 @@ use Rattle.oat_report.specs.PathLine.{edge_line}
 use Rattle.oat_report.specs.VerdictLine.{verdict_text}
 use Rattle.oat_verify.specs.declared.verdict.Verdict.{Verdict}
 use Rattle.oat_verify.specs.declared.verdict.Verdict.TheVariants.{Accept, Refuse}
-use Rattle.oat_image.specs.declared.image.Image.{Image}
 use Rattle.oat_tool.specs.declared.page.Ended.{Ended}
 use Rattle.oat_tool.specs.declared.page.Ended.TheVariants.{Done, Rejected}
 use Rattle.oat_tool.specs.Outcome.{line}
@@ -26,21 +25,9 @@ abbrev pub ended_of : Verdict → Ended
 ended_of (Accept path) = Done
 ended_of (Refuse cause) = Rejected
 
+-- the lines of a verdict on a blob with such a serial number
+abbrev pub report_text : Map → Option ℕ → Verdict → List ℕ
+report_text flow serial verdict = line (verdict_text serial verdict) ++ path_text flow (path_in verdict)
+
 abbrev pub report_of : Map → Option ℕ → Verdict → Answer
-report_of flow serial verdict = shows (ended_of verdict) (line (verdict_text serial verdict) ++ path_text flow (path_in verdict)) []
-
--- a report of which the lines before a place were made
-pub record Left : Type 0 where
-  pub image : Image
-  pub verdict : Verdict
-  pub serial : Option ℕ
-  pub is_begun : Bool
-  pub at : ℕ
-
-abbrev pub text_left : Left → List ℕ
-text_left left =
-    if left.is_begun then path_text left.image.map (drop left.at (path_in left.verdict))
-    else line (verdict_text left.serial left.verdict) ++ path_text left.image.map (drop left.at (path_in left.verdict))
-
-abbrev pub turns_left : Left → ℕ
-turns_left left = (if left.is_begun then 0 else 1) + (length (path_in left.verdict) - left.at)
+report_of flow serial verdict = shows (ended_of verdict) (report_text flow serial verdict) []

@@ -24,11 +24,15 @@ abbrev pub Works : {P : Type 0} → (P → List ℕ) → (Answer → Type 0) →
 Works text Q (Ok page) = Q (shows page.ended (text page.pieces) page.err.items)
 Works text Q (Err stop) = StopsWith Q stop
 
+-- the outcome that work stands for which stopped early
+abbrev pub IsStopOutcome : Stop → Outcome → Type 0
+IsStopOutcome (stop.Refused said) o = o ≡ says 2 said.items
+IsStopOutcome stop.Starved o = ⊥
+
 -- the outcome that finished work stands for
 abbrev pub IsOutcomeOf : {P : Type 0} → (P → List ℕ) → Result (Page P) Stop → Outcome → Type 0
 IsOutcomeOf text (Ok page) o = o ≡ as_outcome (shows page.ended (text page.pieces) page.err.items)
-IsOutcomeOf text (Err (stop.Refused said)) o = o ≡ says 2 said.items
-IsOutcomeOf text (Err stop.Starved) o = ⊥
+IsOutcomeOf text (Err stop) o = IsStopOutcome stop o
 
 -- Loads that don't go through end so, or memory was wanting.
 abbrev pub HaltsWith : (Outcome → Type 0) → Halt → Type 0

@@ -1,10 +1,6 @@
-ghost use Rattle.std.specs.Prelude.{◌≡◌, List, ℕ, MatchOption, MatchResult};
-ghost use Rattle.oat_tool.specs.BlobText.{IsBlobText, after_front, before_end};
-ghost use Rattle.oat_tool.specs.declared.page.Stop.TheVariants.{Starved};
-
-use crate::page::Stop;
-use hex::FromHexError;
-use std::alloc::Global;
+ghost use Rattle.std.specs.Prelude.{◌≡◌, List, ℕ, MatchOption, true, false};
+ghost use Rattle.hex.specs.Hex.{is_hex_digit};
+ghost use Rattle.oat_tool.specs.BlobText.{AreDigits, HasDigits, IsBlobText, after_front, before_end};
 
 /// The text without a leading `blob `.
 fn digits_on(text: &[u8]) -> &[u8]
@@ -23,15 +19,33 @@ fn digits_only(text: &[u8]) -> &[u8]
     text.strip_suffix(b"\n".as_slice()).unwrap_or(text)
 }
 
-/// The bytes of a blob file, if its text is one.
-pub fn blob_bytes(alloc: Global, text: &[u8]) -> Result<Option<Vec<u8>>, Stop>
-    ensures { MatchResult result
-        (λ found. MatchOption found ((bytes : List ℕ) → IsBlobText text.now bytes → ⊥) (λ bytes. IsBlobText text.now bytes.items))
-        (λ stop. stop ≡ Starved) }
+fn is_digit(byte: u8) -> bool
+    ensures { result ≡ is_hex_digit byte }
 {
-    match hex::decode(alloc, digits_only(digits_on(text))) {
-        Ok(bytes) => Ok(Some(bytes)),
-        Err(FromHexError::OutOfMemory) => Err(Stop::Starved),
-        Err(_) => Ok(None),
+    matches!(byte, b'0'..=b'9' | b'A'..=b'F' | b'a'..=b'f')
+}
+
+/// Whether these are the digits of bytes.
+fn are_digits(text: &[u8]) -> bool
+    ensures yes { result ≡ true → AreDigits text.now }
+    ensures no { result ≡ false → AreDigits text.now → ⊥ }
+{
+    for byte in text {
+        if !is_digit(*byte) {
+            return false;
+        }
+    }
+    text.len() % 2 == 0
+}
+
+/// The digits of a blob file, if its text is one.
+pub fn blob_digits(text: &[u8]) -> Option<&[u8]>
+    ensures { MatchOption result ((bytes : List ℕ) → IsBlobText text.now bytes → ⊥) (λ digits. HasDigits text.now digits.now) }
+{
+    let digits = digits_only(digits_on(text));
+    if are_digits(digits) {
+        Some(digits)
+    } else {
+        None
     }
 }

@@ -9,10 +9,10 @@ ghost use Rattle.oat_case.specs.FaultText.{case_fault_word};
 ghost use Rattle.oat_case.specs.Grammar.{IsCaseText};
 ghost use Rattle.oat_tool.specs.Commands.{image_limit, case_limit};
 ghost use Rattle.oat_tool.specs.Refusals.{RefusesImage, RefusesShape, RefusesCase, RefusesOperation, RefusesBlob};
-ghost use Rattle.oat_tool.specs.BlobText.{IsBlobText};
+ghost use Rattle.oat_tool.specs.BlobText.{HasDigits};
 ghost use Rattle.oat_tool.specs.Works.{IsRefusal, StopsWith};
 
-use crate::blob_text::blob_bytes;
+use crate::blob_text::blob_digits;
 use crate::files::File;
 use crate::page::Stop;
 use crate::texts::{no_operation, refused, rule};
@@ -89,12 +89,12 @@ pub fn test_operation(alloc: Global, file: &File, shaped: &Shaped, op: u16) -> R
     }
 }
 
-/// The bytes of the blob's text.
-pub fn blob_of(alloc: Global, file: &File) -> Result<Vec<u8>, Stop>
-    ensures { MatchResult result (λ bytes. IsBlobText file.now.text bytes.items) (StopsWith (RefusesBlob file.now)) }
+/// The digits of the blob's text.
+pub fn digits_of(alloc: Global, file: &File) -> Result<&[u8], Stop>
+    ensures { MatchResult result (λ digits. HasDigits file.now.text digits.now) (StopsWith (RefusesBlob file.now)) }
 {
-    match blob_bytes(alloc, file.text())? {
-        Some(bytes) => Ok(bytes),
+    match blob_digits(file.text()) {
+        Some(digits) => Ok(digits),
         None => Err(refused(alloc, file.name(), "Hex")?),
     }
 }

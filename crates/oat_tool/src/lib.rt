@@ -14,6 +14,7 @@ mod blob_lines;
 mod blob_text;
 mod command;
 mod device;
+mod feeding;
 mod files;
 mod inputs;
 mod interpret;

@@ -1,29 +1,41 @@
-ghost use Rattle.std.specs.Prelude.{◌≡◌, ◌≢◌, ◌≤◌, length, map, IfOk, MatchResult};
+ghost use Rattle.std.specs.Prelude.{◌≡◌, ◌≢◌, ◌<◌, ◌⊎◌, ◌++◌, ℕ, List, Ok, map, IfOk, IsSome, MatchResult};
+ghost use Rattle.hex.specs.Hex.{decode_of};
+ghost use Rattle.oat_world.specs.Outside.{Rose};
 ghost use Rattle.oat_lines.specs.declared.fault.Fault.TheVariants.{Memory};
 ghost use Rattle.oat_lines.specs.FaultText.{fault_text};
-ghost use Rattle.oat_map.specs.Rows.{IsOperation};
+ghost use Rattle.oat_map.specs.Rows.{IsOperation, start};
+ghost use Rattle.oat_verify.specs.declared.verdict.Verdict.{Verdict};
 ghost use Rattle.oat_verify.specs.Verdict.{subject_of};
 ghost use Rattle.oat_policy.specs.FaultText.{policy_fault_word};
 ghost use Rattle.oat_tool.specs.declared.command.Command.TheVariants as commands;
+ghost use Rattle.oat_tool.specs.Answer.{IsAnswered};
+ghost use Rattle.oat_tool.specs.BlobText.{AreDigits};
+ghost use Rattle.oat_tool.specs.Call.{put_of};
 ghost use Rattle.oat_tool.specs.Outcome.{line};
 ghost use Rattle.oat_tool.specs.Commands.{policy_limit, limits_of};
 ghost use Rattle.oat_tool.specs.Pieces.{turns_of_some};
-ghost use Rattle.oat_tool.specs.Report.{path_in};
-ghost use Rattle.oat_tool.specs.Works.{IsRefusal, StopsWith, Works, answer_in};
-ghost use Rattle.oat_tool.specs.Policy.{IsPolicyText, RefusesPolicy, said_of, policy_text, said_text, ended_by, ConcludesWith, Polices};
+ghost use Rattle.oat_tool.specs.Puts.{PutsAll};
+ghost use Rattle.oat_tool.specs.Report.{report_text};
+ghost use Rattle.oat_tool.specs.Settles.{HasPath, TellsVerdict};
+ghost use Rattle.oat_tool.specs.Shows.{Shows};
+ghost use Rattle.oat_tool.specs.Works.{IsRefusal, StopsWith};
+ghost use Rattle.oat_tool.specs.Policy.{IsPolicyText, RefusesPolicy, said_of, policy_text, said_text, ended_by, ConcludesWith, IsOpenedWith, Polices, SettlesWith};
 
 use crate::admit::{Admitted, admit};
+use crate::feeding::settle;
 use crate::files::File;
-use crate::inputs::blob_of;
-use crate::page::{Ended, Page, Stop};
-use crate::pieces::{Pieces, Then};
-use crate::report::ReportLines;
+use crate::inputs::digits_of;
+use crate::page::{Ended, Stop};
+use crate::pieces::Pieces;
+use crate::put::{close, put_pieces, say_starved, say_stop};
+use crate::report::put_report;
 use crate::texts::refused;
 use oat_case::Session;
-use oat_map::Map;
+use oat_feed::{FeedVerdict, Settled};
 use oat_policy::{Policy, PolicyFault, PolicyVerdict, read_policy, verdict_on};
+use oat_replay::{WalkFault, walk};
 use oat_shape::Shaped;
-use oat_verify::{Verdict, settle};
+use oat_world::{Sink, SinkFault};
 use std::alloc::{AllocError, Global};
 
 /// The line of what a policy says, if it says something.
@@ -31,9 +43,6 @@ use std::alloc::{AllocError, Global};
 pub struct PolicyLine {
     said: Option<PolicyVerdict>,
 }
-
-/// The lines of a report, and the policy's line.
-pub type ReportAndPolicy = Then<ReportLines, PolicyLine>;
 
 fn policy_line(alloc: Global, said: PolicyVerdict) -> Result<Vec<u8>, AllocError>
     ensures { IfOk result (λ text. text.items ≡ line (policy_text said)) }
@@ -89,15 +98,22 @@ fn policy_in(alloc: Global, file: &File) -> Result<Policy, Stop>
 fn said_of(
     alloc: Global,
     policy: &Policy,
-    map: &Map,
-    verdict: &Verdict,
+    shaped: &Shaped,
+    op: u16,
+    settled: &Settled,
 ) -> Result<Option<PolicyVerdict>, AllocError>
-    requires { length (path_in verdict.now) ≤ 4194304 }
-    ensures { IfOk result (λ said. said ≡ said_of map.now policy.now verdict.now) }
+    requires begun { IsSome (start shaped.now.map.rows op) }
+    requires path { HasPath shaped.now.map op settled.now }
+    ensures { (verdict : Verdict) → TellsVerdict shaped.now.map op settled.now verdict → IfOk result (λ said. said ≡ said_of shaped.now.map policy.now verdict) }
 {
-    match verdict {
-        Verdict::Accept(path) => Ok(Some(verdict_on(alloc, policy, map, path.as_slice())?)),
-        Verdict::Refuse(_) => Ok(None),
+    let FeedVerdict::Accept = settled.verdict else {
+        return Ok(None);
+    };
+    let map = &shaped.image().map;
+    match walk(alloc, map, op, &settled.kept) {
+        Ok(path) => Ok(Some(verdict_on(alloc, policy, map, path.as_slice())?)),
+        Err(WalkFault::Stuck { .. }) => unreachable!(),
+        Err(WalkFault::Memory) => Err(AllocError),
     }
 }
 
@@ -111,42 +127,112 @@ fn ended_by(said: Option<PolicyVerdict>) -> Ended
     }
 }
 
-/// The verdict on a blob's bytes, and what the policy says of its path, to be reported.
-fn conclude_with(
-    alloc: Global,
-    shaped: Shaped,
-    session: &Session,
-    bytes: &[u8],
-    policy: &Policy,
-) -> Result<Page<ReportAndPolicy>, AllocError>
-    requires { IsOperation shaped.map session.now.op }
-    ensures { IfOk result (λ page. ConcludesWith (subject_of shaped session.now) policy.now bytes.now (answer_in ⟦<ReportAndPolicy as Pieces>⟧.text page)) }
-{
-    let settled = settle(alloc, &shaped, session, bytes)?;
-    let said = said_of(alloc, policy, &shaped.image().map, &settled.verdict)?;
-    Ok(Page {
-        ended: ended_by(said),
-        pieces: Then {
-            first: ReportLines::of(shaped, settled),
-            second: PolicyLine { said },
-            is_behind: false,
-        },
-        err: Vec::new(alloc),
-    })
+/// What was settled of a blob, and what a policy says of an accepted path.
+#[derive(Drop)]
+struct Ruled {
+    settled: Settled,
+    said: Option<PolicyVerdict>,
 }
 
-/// Judges the blob of the third file against the image and the case of the first two, and an accepted path by the policy of the fourth.
-pub fn police(alloc: Global, files: &[File]) -> Result<Page<ReportAndPolicy>, Stop>
+/// The verdict on the bytes of a blob's digits, and what the policy says of its path.
+fn rule(
+    alloc: Global,
+    shaped: &Shaped,
+    session: &Session,
+    digits: &[u8],
+    policy: &Policy,
+) -> Result<Ruled, AllocError>
+    requires operation { IsOperation shaped.now.map session.now.op }
+    requires digits { AreDigits digits.now }
+    ensures { (bytes : List ℕ) → decode_of digits.now ≡ Ok bytes → IfOk result (λ ruled. SettlesWith (subject_of shaped.now session.now) policy.now bytes ruled.settled ruled.said) }
+{
+    let settled = settle(alloc, shaped, session, digits)?;
+    let said = said_of(alloc, policy, shaped, session.op, &settled)?;
+    Ok(Ruled { settled, said })
+}
+
+/// Puts the report, and behind it what the policy says.
+fn put_ruled<S: Sink>(
+    alloc: Global,
+    sink: &mut S,
+    shaped: &Shaped,
+    op: u16,
+    ruled: &Ruled,
+) -> Result<(), SinkFault>
+    requires begun { IsSome (start shaped.now.map.rows op) }
+    requires path { HasPath shaped.now.map op ruled.now.settled }
+    ensures { (verdict : Verdict) → TellsVerdict shaped.now.map op ruled.now.settled verdict
+        → PutsAll (report_text shaped.now.map ruled.now.settled.serial verdict ++ said_text ruled.now.said) (put_of S.told S.faults sink.old sink.new) result }
+{
+    put_report(alloc, sink, shaped, op, &ruled.settled)?;
+    put_pieces(alloc, sink, PolicyLine { said: ruled.said })
+}
+
+/// Puts the report of the verdict on the bytes of a blob's digits with what the policy says, and answers the status.
+fn conclude_with<O: Sink, E: Sink>(
+    alloc: Global,
+    opened: &OpenedWith<'_>,
+    out: &mut O,
+    err: &mut E,
+) -> u8
+    requires operation { IsOperation opened.now.admitted.shaped.map opened.now.admitted.case.session.op }
+    requires digits { AreDigits opened.now.digits.now }
+    ensures shows { (bytes : List ℕ) → decode_of opened.now.digits.now ≡ Ok bytes
+        → Shows (IsAnswered (ConcludesWith (subject_of opened.now.admitted.shaped opened.now.admitted.case.session) opened.now.rules bytes))
+        (put_of O.told O.faults out.old out.new) (put_of E.told E.faults err.old err.new) result }
+    ensures write_fault { result ≡ 5 → Rose (O.faults out.old) (O.faults out.new) ⊎ Rose (E.faults err.old) (E.faults err.new) }
+    ensures raised { (O.faults out.old < O.faults out.new) ⊎ (E.faults err.old < E.faults err.new) → result ≡ 5 }
+    ensures no_fault { result ≢ 4 }
+{
+    let shaped = &opened.admitted.shaped;
+    let session = &opened.admitted.case.session;
+    match rule(alloc, shaped, session, opened.digits, &opened.rules) {
+        Ok(ruled) => {
+            let put = put_ruled(alloc, out, shaped, session.op, &ruled);
+            close(put, ended_by(ruled.said), b"", err)
+        }
+        Err(_) => say_starved(err),
+    }
+}
+
+/// What is judged: an image and a case that are admitted, the digits of a blob, and a policy.
+#[derive(Drop)]
+struct OpenedWith<'a> {
+    admitted: Admitted,
+    digits: &'a [u8],
+    rules: Policy,
+}
+
+/// Looks at the four files before the verdict.
+fn open_all_files(alloc: Global, files: &[File]) -> Result<OpenedWith<'_>, Stop>
     requires { map (λ file. file.limit) files.now ≡ limits_of commands.Policy }
-    ensures { Works ⟦<ReportAndPolicy as Pieces>⟧.text (Polices files.now) result }
+    ensures { MatchResult result (λ opened. IsOpenedWith files.now opened.admitted.shaped opened.admitted.case opened.digits.now opened.rules) (StopsWith (Polices files.now)) }
 {
     let image = &files[0];
     let case = &files[1];
     let blob = &files[2];
     let policy = &files[3];
     let admitted = admit(alloc, image, case)?;
-    let bytes = blob_of(alloc, blob)?;
+    let digits = digits_of(alloc, blob)?;
     let rules = policy_in(alloc, policy)?;
-    let Admitted { shaped, case } = admitted;
-    Ok(conclude_with(alloc, shaped, &case.session, bytes.as_slice(), &rules)?)
+    Ok(OpenedWith {
+        admitted,
+        digits,
+        rules,
+    })
+}
+
+/// Judges the blob of the third file against the image and the case of the first two, and an accepted path by the policy of the fourth,
+/// and answers the status.
+pub fn police<O: Sink, E: Sink>(alloc: Global, files: &[File], out: &mut O, err: &mut E) -> u8
+    requires { map (λ file. file.limit) files.now ≡ limits_of commands.Policy }
+    ensures shows { Shows (IsAnswered (Polices files.now)) (put_of O.told O.faults out.old out.new) (put_of E.told E.faults err.old err.new) result }
+    ensures write_fault { result ≡ 5 → Rose (O.faults out.old) (O.faults out.new) ⊎ Rose (E.faults err.old) (E.faults err.new) }
+    ensures raised { (O.faults out.old < O.faults out.new) ⊎ (E.faults err.old < E.faults err.new) → result ≡ 5 }
+    ensures no_fault { result ≢ 4 }
+{
+    match open_all_files(alloc, files) {
+        Ok(opened) => conclude_with(alloc, &opened, out, err),
+        Err(stop) => say_stop(&stop, err),
+    }
 }

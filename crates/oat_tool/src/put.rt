@@ -1,14 +1,14 @@
-ghost use Rattle.std.specs.Prelude.{◌≡◌, ◌≢◌, ◌<◌, ◌⊎◌};
+ghost use Rattle.std.specs.Prelude.{◌≡◌, ◌≢◌, ◌<◌, ◌⊎◌, ℕ, List, Option};
 ghost use Rattle.oat_world.specs.Outside.{Rose};
 ghost use Rattle.oat_tool.specs.Outcome.{says};
 ghost use Rattle.oat_tool.specs.Texts.{starved};
 ghost use Rattle.oat_tool.specs.Answer.{shows, as_outcome};
 ghost use Rattle.oat_tool.specs.Puts.{PutsAll, SaysLast};
-ghost use Rattle.oat_tool.specs.Shows.{Shows};
+ghost use Rattle.oat_tool.specs.Shows.{Put, HasFailed, Shows};
 ghost use Rattle.oat_tool.specs.Call.{put_of};
-ghost use Rattle.oat_tool.specs.Works.{IsOutcomeOf};
+ghost use Rattle.oat_tool.specs.Works.{IsOutcomeOf, IsStopOutcome};
 
-use crate::page::{Page, Stop};
+use crate::page::{Ended, Page, Stop};
 use crate::pieces::Pieces;
 use oat_world::{Sink, SinkFault};
 use std::alloc::Global;
@@ -22,7 +22,7 @@ const NO_MEMORY: u8 = 6;
 const STARVED: &[u8] = b"want of memory\n";
 
 /// Puts a whole text, one front after another, until a put fails.
-fn put_all<S: Sink>(sink: &mut S, text: &[u8]) -> Result<(), SinkFault>
+pub fn put_all<S: Sink>(sink: &mut S, text: &[u8]) -> Result<(), SinkFault>
     ensures { PutsAll text.now (put_of S.told S.faults sink.old sink.new) result }
 {
     let mut done = 0;
@@ -33,7 +33,7 @@ fn put_all<S: Sink>(sink: &mut S, text: &[u8]) -> Result<(), SinkFault>
 }
 
 /// Puts a text piece by piece, until a put fails or memory is wanting for a piece.
-fn put_pieces<S: Sink, P: Pieces + Drop>(
+pub fn put_pieces<S: Sink, P: Pieces + Drop>(
     alloc: Global,
     sink: &mut S,
     pieces: P,
@@ -74,6 +74,36 @@ pub fn say_starved<E: Sink>(err: &mut E) -> u8
     say(err, STARVED, NO_MEMORY)
 }
 
+/// Says the last text behind a text that was put as far as it went, and answers the call's status.
+pub fn close<E: Sink>(put: Result<(), SinkFault>, ended: Ended, said: &[u8], err: &mut E) -> u8
+    ensures shows { (text : List ℕ) (out : Put) → PutsAll text out put
+        → Shows (λ o. o ≡ as_outcome (shows ended text said.now)) out (put_of E.told E.faults err.old err.new) result }
+    ensures write_fault { (text : List ℕ) (out : Put) → PutsAll text out put → result ≡ 5 → HasFailed out ⊎ Rose (E.faults err.old) (E.faults err.new) }
+    ensures raised { (text : List ℕ) (out : Put) → PutsAll text out put → (out.before < out.after) ⊎ (E.faults err.old < E.faults err.new) → result ≡ 5 }
+    ensures no_fault { result ≢ 4 }
+{
+    let Err(fault) = put else {
+        return say(err, said, ended.status());
+    };
+    match fault {
+        SinkFault::Failed => WRITE_FAULT,
+        SinkFault::Memory => say_starved(err),
+    }
+}
+
+/// Says why work stopped early, and answers the call's status.
+pub fn say_stop<E: Sink>(stop: &Stop, err: &mut E) -> u8
+    ensures shows { (out : Option (List ℕ)) (faults : ℕ) → Shows (IsStopOutcome stop.now) (record { held = out; holds = out; before = faults; after = faults }) (put_of E.told E.faults err.old err.new) result }
+    ensures write_fault { result ≡ 5 → Rose (E.faults err.old) (E.faults err.new) }
+    ensures raised { E.faults err.old < E.faults err.new → result ≡ 5 }
+    ensures no_fault { result ≢ 4 }
+{
+    match stop {
+        Stop::Refused(line) => say(err, line.as_slice(), INPUT),
+        Stop::Starved => say_starved(err),
+    }
+}
+
 /// Puts both texts of a page, and answers the call's status.
 fn put_page<P: Pieces + Drop, O: Sink, E: Sink>(
     alloc: Global,
@@ -87,11 +117,8 @@ fn put_page<P: Pieces + Drop, O: Sink, E: Sink>(
     ensures raised { (O.faults out.old < O.faults out.new) ⊎ (E.faults err.old < E.faults err.new) → result ≡ 5 }
     ensures no_fault { result ≢ 4 }
 {
-    match put_pieces(alloc, out, page.pieces) {
-        Ok(()) => say(err, page.err.as_slice(), page.ended.status()),
-        Err(SinkFault::Failed) => WRITE_FAULT,
-        Err(SinkFault::Memory) => say_starved(err),
-    }
+    let put = put_pieces(alloc, out, page.pieces);
+    close(put, page.ended, page.err.as_slice(), err)
 }
 
 /// Puts what the work of a command ended with, and answers the call's status.
@@ -109,7 +136,6 @@ pub fn finish<P: Pieces + Drop, O: Sink, E: Sink>(
 {
     match work {
         Ok(page) => put_page(alloc, page, out, err),
-        Err(Stop::Refused(line)) => say(err, line.as_slice(), INPUT),
-        Err(Stop::Starved) => say_starved(err),
+        Err(stop) => say_stop(&stop, err),
     }
 }

@@ -1,40 +1,40 @@
-ghost use Rattle.std.specs.Prelude.{◌≡◌, ◌∷◌, [], IfOk};
-ghost use Rattle.oat_tool.specs.Report.{path_text, path_in, ended_of, text_left, turns_left};
+ghost use Rattle.std.specs.Prelude.{◌≡◌, ◌∷◌, [], ℕ, List, IfOk, IsSome};
+ghost use Rattle.oat_map.specs.declared.edge.Edge.{Edge};
+ghost use Rattle.oat_map.specs.Rows.{start};
+ghost use Rattle.oat_verify.specs.declared.verdict.Verdict.{Verdict};
+ghost use Rattle.oat_feed.specs.Verdict.{feed_verdict_of};
+ghost use Rattle.oat_report.specs.VerdictLine.{verdict_text};
+ghost use Rattle.oat_tool.specs.Outcome.{line};
+ghost use Rattle.oat_tool.specs.Report.{path_text, report_text, ended_of};
+ghost use Rattle.oat_tool.specs.Puts.{PutsAll};
+ghost use Rattle.oat_tool.specs.Call.{put_of};
+ghost use Rattle.oat_tool.specs.Settles.{HasPath, IsPathOf, TellsVerdict};
 
 use crate::page::Ended;
-use crate::pieces::Pieces;
-use oat_map::{Edge, Map};
+use crate::put::put_all;
+use oat_feed::{FeedVerdict, Kept, Settled};
+use oat_map::{Edge, Map, Path};
+use oat_replay::{Replay, Turn};
 use oat_report::{path_line, verdict_line};
 use oat_shape::Shaped;
-use oat_verify::{Settled, Verdict};
+use oat_verify::Verdict;
+use oat_world::{Sink, SinkFault};
 use std::alloc::{AllocError, Global};
-use std::marker::Model;
 
-/// The lines of a report: the verdict's, and after an acceptance those of the path, each made as it is put.
-#[derive(Debug, Drop)]
-pub struct ReportLines {
-    shaped: Shaped,
-    settled: Settled,
-    is_begun: bool,
-    at: usize,
-}
+/// The most turns of a replay that lead on.
+const PATH_LIMIT: u32 = 4_194_304;
 
-impl Model for ReportLines {
-    ghost use Rattle.oat_tool.specs.Report as reports;
-
-    ghost Value = { reports.Left };
-
-    ghost view = { λ lines. record { image = lines.shaped; verdict = lines.settled.verdict; serial = lines.settled.serial; is_begun = lines.is_begun; at = lines.at } };
-}
-
-/// The path of an acceptance.
-fn path_of(verdict: &Verdict) -> &[Edge]
-    ensures { result.now ≡ path_in verdict.now }
+/// The line of what was settled.
+fn first_line(alloc: Global, settled: &Settled) -> Result<Vec<u8>, AllocError>
+    ensures { (verdict : Verdict) → settled.now.verdict ≡ feed_verdict_of verdict → IfOk result (λ text. text.items ≡ line (verdict_text settled.now.serial verdict)) }
 {
-    match verdict {
-        Verdict::Accept(path) => path.as_slice(),
-        Verdict::Refuse(_) => &[],
-    }
+    let told = match settled.verdict {
+        FeedVerdict::Accept => Verdict::Accept(Path::from_vec(Vec::new(alloc))),
+        FeedVerdict::Refuse(cause) => Verdict::Refuse(cause),
+    };
+    let mut text = verdict_line(alloc, settled.serial, &told)?;
+    text.extend_from_slice(b"\n")?;
+    Ok(text)
 }
 
 /// The line of one edge.
@@ -47,48 +47,71 @@ fn edge_line(alloc: Global, map: &Map, edge: &Edge) -> Result<Vec<u8>, AllocErro
 }
 
 /// How a verdict ends the work.
-pub fn ended(verdict: &Verdict) -> Ended
-    ensures { result ≡ ended_of verdict.now }
+pub fn ended(verdict: FeedVerdict) -> Ended
+    ensures { (of : Verdict) → verdict ≡ feed_verdict_of of → result ≡ ended_of of }
 {
     match verdict {
-        Verdict::Accept(_) => Ended::Done,
-        Verdict::Refuse(_) => Ended::Rejected,
+        FeedVerdict::Accept => Ended::Done,
+        FeedVerdict::Refuse(_) => Ended::Rejected,
     }
 }
 
-impl ReportLines {
-    ghost use Rattle.std.specs.Prelude.{◌≡◌, false};
-
-    pub fn of(shaped: Shaped, settled: Settled) -> ReportLines
-        ensures { result ≡ record { image = shaped; verdict = settled.verdict; serial = settled.serial; is_begun = false; at = 0 } }
-    {
-        ReportLines {
-            shaped,
-            settled,
-            is_begun: false,
-            at: 0,
-        }
+fn put_edge<S: Sink>(alloc: Global, sink: &mut S, map: &Map, edge: &Edge) -> Result<(), SinkFault>
+    ensures { PutsAll (path_text map.now (edge.now ∷ [])) (put_of S.told S.faults sink.old sink.new) result }
+{
+    match edge_line(alloc, map, edge) {
+        Ok(text) => put_all(sink, text.as_slice()),
+        Err(_) => Err(SinkFault::Memory),
     }
 }
 
-impl Pieces for ReportLines {
-    ghost text = { text_left };
-
-    ghost turns = { turns_left };
-
-    fn next(&mut self, alloc: Global) -> Result<Option<Vec<u8>>, AllocError> {
-        if !self.is_begun {
-            let mut line = verdict_line(alloc, self.settled.serial, &self.settled.verdict)?;
-            line.extend_from_slice(b"\n")?;
-            self.is_begun = true;
-            return Ok(Some(line));
+/// Puts the lines of the path of the walk with these records, each as the replay finds it.
+fn put_path<S: Sink>(
+    alloc: Global,
+    sink: &mut S,
+    shaped: &Shaped,
+    op: u16,
+    kept: &Kept,
+) -> Result<(), SinkFault>
+    requires begun { IsSome (start shaped.now.map.rows op) }
+    requires walked { (path : List Edge) × IsPathOf shaped.now.map op kept.now path }
+    ensures { (path : List Edge) → IsPathOf shaped.now.map op kept.now path
+        → PutsAll (path_text shaped.now.map path) (put_of S.told S.faults sink.old sink.new) result }
+{
+    let map = &shaped.image().map;
+    let Ok(mut replay) = Replay::new(alloc, map, op) else {
+        return Err(SinkFault::Memory);
+    };
+    for turn in 0..PATH_LIMIT + 1 {
+        match replay.turn(kept) {
+            Turn::Moved(edge) => put_edge(alloc, sink, map, &edge)?,
+            Turn::Passed => {}
+            Turn::Done(edge) => return put_edge(alloc, sink, map, &edge),
+            Turn::Stuck(_) => unreachable!(),
         }
-        let path = path_of(&self.settled.verdict);
-        if self.at < path.len() {
-            let line = edge_line(alloc, &self.shaped.image().map, &path[self.at])?;
-            self.at += 1;
-            return Ok(Some(line));
-        }
-        Ok(None)
+    }
+    unreachable!()
+}
+
+/// Puts the verdict's line, and after an acceptance those of the path.
+pub fn put_report<S: Sink>(
+    alloc: Global,
+    sink: &mut S,
+    shaped: &Shaped,
+    op: u16,
+    settled: &Settled,
+) -> Result<(), SinkFault>
+    requires begun { IsSome (start shaped.now.map.rows op) }
+    requires path { HasPath shaped.now.map op settled.now }
+    ensures { (verdict : Verdict) → TellsVerdict shaped.now.map op settled.now verdict
+        → PutsAll (report_text shaped.now.map settled.now.serial verdict) (put_of S.told S.faults sink.old sink.new) result }
+{
+    let Ok(text) = first_line(alloc, settled) else {
+        return Err(SinkFault::Memory);
+    };
+    put_all(sink, text.as_slice())?;
+    match settled.verdict {
+        FeedVerdict::Accept => put_path(alloc, sink, shaped, op, &settled.kept),
+        FeedVerdict::Refuse(_) => Ok(()),
     }
 }

@@ -37,9 +37,9 @@ fn work<O: Sink, E: Sink>(
 {
     match command {
         Command::Run => finish(alloc, interpret(alloc, files), out, err),
-        Command::Verify => finish(alloc, verify(alloc, files), out, err),
+        Command::Verify => verify(alloc, files, out, err),
         Command::Device => finish(alloc, device(alloc, files), out, err),
-        Command::Policy => finish(alloc, police(alloc, files), out, err),
+        Command::Policy => police(alloc, files, out, err),
     }
 }
 

@@ -1,50 +1,88 @@
-ghost use Rattle.std.specs.Prelude.{◌≡◌, map, IfOk};
+ghost use Rattle.std.specs.Prelude.{◌≡◌, ◌≢◌, ◌<◌, ◌⊎◌, ℕ, List, Ok, map, MatchResult};
+ghost use Rattle.hex.specs.Hex.{decode_of};
+ghost use Rattle.oat_world.specs.Outside.{Rose};
 ghost use Rattle.oat_map.specs.Rows.{IsOperation};
 ghost use Rattle.oat_verify.specs.Verdict.{subject_of};
 ghost use Rattle.oat_tool.specs.declared.command.Command.TheVariants.{Verify};
+ghost use Rattle.oat_tool.specs.Answer.{IsAnswered};
+ghost use Rattle.oat_tool.specs.BlobText.{AreDigits};
 ghost use Rattle.oat_tool.specs.Commands.{limits_of};
-ghost use Rattle.oat_tool.specs.Works.{Works, answer_in};
-ghost use Rattle.oat_tool.specs.Verify.{Concludes, Verifies};
+ghost use Rattle.oat_tool.specs.Call.{put_of};
+ghost use Rattle.oat_tool.specs.Shows.{Shows};
+ghost use Rattle.oat_tool.specs.Works.{StopsWith};
+ghost use Rattle.oat_tool.specs.Verify.{Concludes, IsOpened, Verifies};
 
 use crate::admit::{Admitted, admit};
+use crate::feeding::settle;
 use crate::files::File;
-use crate::inputs::blob_of;
-use crate::page::{Page, Stop};
-use crate::pieces::Pieces;
-use crate::report::{ReportLines, ended};
+use crate::inputs::digits_of;
+use crate::page::Stop;
+use crate::put::{close, say_starved, say_stop};
+use crate::report::{ended, put_report};
 use oat_case::Session;
 use oat_shape::Shaped;
-use oat_verify::settle;
-use std::alloc::{AllocError, Global};
+use oat_world::Sink;
+use std::alloc::Global;
 
-/// The verdict on a blob's bytes, to be reported with their serial number.
-fn conclude(
-    alloc: Global,
-    shaped: Shaped,
-    session: &Session,
-    bytes: &[u8],
-) -> Result<Page<ReportLines>, AllocError>
-    requires { IsOperation shaped.map session.now.op }
-    ensures { IfOk result (λ page. Concludes (subject_of shaped session.now) bytes.now (answer_in ⟦<ReportLines as Pieces>⟧.text page)) }
-{
-    let settled = settle(alloc, &shaped, session, bytes)?;
-    Ok(Page {
-        ended: ended(&settled.verdict),
-        pieces: ReportLines::of(shaped, settled),
-        err: Vec::new(alloc),
-    })
+/// What is judged: an image and a case that are admitted, and the digits of a blob.
+#[derive(Drop)]
+struct Opened<'a> {
+    admitted: Admitted,
+    digits: &'a [u8],
 }
 
-/// Judges the blob of the third file against the image and the case of the first two.
-pub fn verify(alloc: Global, files: &[File]) -> Result<Page<ReportLines>, Stop>
+/// Looks at the three files before the verdict.
+fn open_files(alloc: Global, files: &[File]) -> Result<Opened<'_>, Stop>
     requires { map (λ file. file.limit) files.now ≡ limits_of Verify }
-    ensures { Works ⟦<ReportLines as Pieces>⟧.text (Verifies files.now) result }
+    ensures { MatchResult result (λ opened. IsOpened files.now opened.admitted.shaped opened.admitted.case opened.digits.now) (StopsWith (Verifies files.now)) }
 {
     let image = &files[0];
     let case = &files[1];
     let blob = &files[2];
     let admitted = admit(alloc, image, case)?;
-    let bytes = blob_of(alloc, blob)?;
-    let Admitted { shaped, case } = admitted;
-    Ok(conclude(alloc, shaped, &case.session, bytes.as_slice())?)
+    let digits = digits_of(alloc, blob)?;
+    Ok(Opened { admitted, digits })
+}
+
+/// Puts the report of the verdict on the bytes of a blob's digits, and answers the status.
+fn conclude<O: Sink, E: Sink>(
+    alloc: Global,
+    shaped: &Shaped,
+    session: &Session,
+    digits: &[u8],
+    out: &mut O,
+    err: &mut E,
+) -> u8
+    requires operation { IsOperation shaped.now.map session.now.op }
+    requires digits { AreDigits digits.now }
+    ensures shows { (bytes : List ℕ) → decode_of digits.now ≡ Ok bytes
+        → Shows (IsAnswered (Concludes (subject_of shaped.now session.now) bytes)) (put_of O.told O.faults out.old out.new) (put_of E.told E.faults err.old err.new) result }
+    ensures write_fault { result ≡ 5 → Rose (O.faults out.old) (O.faults out.new) ⊎ Rose (E.faults err.old) (E.faults err.new) }
+    ensures raised { (O.faults out.old < O.faults out.new) ⊎ (E.faults err.old < E.faults err.new) → result ≡ 5 }
+    ensures no_fault { result ≢ 4 }
+{
+    match settle(alloc, shaped, session, digits) {
+        Ok(settled) => {
+            let put = put_report(alloc, out, shaped, session.op, &settled);
+            close(put, ended(settled.verdict), b"", err)
+        }
+        Err(_) => say_starved(err),
+    }
+}
+
+/// Judges the blob of the third file against the image and the case of the first two, and answers the status.
+pub fn verify<O: Sink, E: Sink>(alloc: Global, files: &[File], out: &mut O, err: &mut E) -> u8
+    requires { map (λ file. file.limit) files.now ≡ limits_of Verify }
+    ensures shows { Shows (IsAnswered (Verifies files.now)) (put_of O.told O.faults out.old out.new) (put_of E.told E.faults err.old err.new) result }
+    ensures write_fault { result ≡ 5 → Rose (O.faults out.old) (O.faults out.new) ⊎ Rose (E.faults err.old) (E.faults err.new) }
+    ensures raised { (O.faults out.old < O.faults out.new) ⊎ (E.faults err.old < E.faults err.new) → result ≡ 5 }
+    ensures no_fault { result ≢ 4 }
+{
+    match open_files(alloc, files) {
+        Ok(opened) => {
+            let Admitted { shaped, case } = opened.admitted;
+            conclude(alloc, &shaped, &case.session, opened.digits, out, err)
+        }
+        Err(stop) => say_stop(&stop, err),
+    }
 }

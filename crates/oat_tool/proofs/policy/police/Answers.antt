@@ -1,46 +1,24 @@
-use Rattle.std.proofs.Common.{◌≡◌, ℕ, List, map, get_or, ap, subst}
-use Rattle.std.proofs.lemmas.Result.{err_from_is_err_and}
-use Rattle.oat_tool.specs.declared.command.Command.TheVariants as commands
-use Rattle.oat_tool.specs.Commands.{limits_of}
+use Rattle.std.proofs.Common.{List, sym, subst}
 use Rattle.oat_tool.specs.Loads.{File}
-use Rattle.oat_tool.proofs.Lists.{four_of}
-use Rattle.oat_tool.proofs.Policing.{polices_rejected, polices_no_blob, polices_no_policy, polices_concluded}
+use Rattle.oat_tool.specs.Policy.{Polices}
+use Rattle.oat_tool.proofs.Digits.{blob_text}
+use Rattle.oat_tool.proofs.Showing.{Shows-more}
+use Rattle.oat_tool.proofs.Policing.{polices_concluded}
+use Rattle.oat_tool.proofs.Working.{stops_answer}
 use Rattle.oat_tool.proofs.policy.police.Goals as goal
 
-pub policy_in-requires : goal.policy_in-requires
-policy_in-requires c =
-    let files = four_of (λ (f : File). f.limit) c.args.files.now c.index-files-0.result c.index-files-1.result c.index-files-2.result c.index-files-3.result
-    _ _ _ _ c.requires c.index-files-0.is c.index-files-1.is c.index-files-2.is c.index-files-3.is in
-    ap (λ (limits : List ℕ). get_or limits 3 c.index-files-3.result.limit)
-    (subst (λ (fs : List File). map (λ (f : File). f.limit) fs ≡ limits_of commands.Policy) files c.requires)
+pub returns-in-Ok-clause-shows : goal.returns-in-Ok-clause-shows
+returns-in-Ok-clause-shows g c =
+    let opened = c.in-Ok.ensures in
+    let bytes = opened.spelled.decoded in
+    Shows-more _ _ _ _ _
+    (λ o answered. record {
+      answer = answered.answer;
+      given = subst (λ (fs : List File). Polices fs answered.answer) (sym opened.are)
+          (polices_concluded opened.image opened.case opened.blob opened.policy _ _ bytes.0 _ answered.answer opened.admitted (blob_text _ _ bytes.0 opened.spelled bytes.1) opened.read answered.given);
+      is = answered.is;
+    })
+    (c.conclude_with.ensures.shows bytes.0 bytes.1)
 
-pub returns-in_err-admitted : goal.returns-in_err-admitted
-returns-in_err-admitted c =
-    let p = err_from_is_err_and c.from_residual.result c.from_residual.ensures.1 in
-    let files = four_of (λ (f : File). f.limit) c.args.files.now c.index-files-0.result c.index-files-1.result c.index-files-2.result c.index-files-3.result
-    _ _ _ _ c.requires c.index-files-0.is c.index-files-1.is c.index-files-2.is c.index-files-3.is in
-    rw (p.1, p.2, files) (polices_rejected c.index-files-0.result c.index-files-1.result c.index-files-2.result c.index-files-3.result _ c.in_err-admitted.ensures)
-
-pub returns-in_err-bytes : goal.returns-in_err-bytes
-returns-in_err-bytes c =
-    let p = err_from_is_err_and c.from_residual-in_err-bytes.result c.from_residual-in_err-bytes.ensures.1 in
-    let files = four_of (λ (f : File). f.limit) c.args.files.now c.index-files-0.result c.index-files-1.result c.index-files-2.result c.index-files-3.result
-    _ _ _ _ c.requires c.index-files-0.is c.index-files-1.is c.index-files-2.is c.index-files-3.is in
-    rw (p.1, p.2, files) (polices_no_blob c.index-files-0.result c.index-files-1.result c.index-files-2.result c.index-files-3.result _ _ _
-    c.in_ok-admitted.ensures c.in_err-bytes.ensures)
-
-pub returns-in_err-rules : goal.returns-in_err-rules
-returns-in_err-rules c =
-    let p = err_from_is_err_and c.from_residual-in_err-rules.result c.from_residual-in_err-rules.ensures.1 in
-    let files = four_of (λ (f : File). f.limit) c.args.files.now c.index-files-0.result c.index-files-1.result c.index-files-2.result c.index-files-3.result
-    _ _ _ _ c.requires c.index-files-0.is c.index-files-1.is c.index-files-2.is c.index-files-3.is in
-    rw (p.1, p.2, files) (polices_no_policy c.index-files-0.result c.index-files-1.result c.index-files-2.result c.index-files-3.result _ _ _ _
-    c.in_ok-admitted.ensures c.in_ok-bytes.ensures c.in_err-rules.ensures)
-
-pub returns : goal.returns
-returns c =
-    let concluded = rw c.as_slice.ensures.value at c.in_ok-conclude_with.ensures in
-    let files = four_of (λ (f : File). f.limit) c.args.files.now c.index-files-0.result c.index-files-1.result c.index-files-2.result c.index-files-3.result
-    _ _ _ _ c.requires c.index-files-0.is c.index-files-1.is c.index-files-2.is c.index-files-3.is in
-    rw files (polices_concluded c.index-files-0.result c.index-files-1.result c.index-files-2.result c.index-files-3.result _ _ _ _ _
-    c.in_ok-admitted.ensures c.in_ok-bytes.ensures c.in_ok-rules.ensures concluded)
+pub returns-in-Err-clause-shows : goal.returns-in-Err-clause-shows
+returns-in-Err-clause-shows g c = Shows-more _ _ _ _ _ (λ o is. stops_answer (Polices c.args.files.now) c.in-Err.stop o c.in-Err.ensures is) (c.say_stop.ensures.shows _ _)

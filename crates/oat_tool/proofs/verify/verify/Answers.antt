@@ -1,26 +1,24 @@
-use Rattle.std.proofs.lemmas.Result.{err_from_is_err_and}
+use Rattle.std.proofs.Common.{List, sym, subst}
 use Rattle.oat_tool.specs.Loads.{File}
-use Rattle.oat_tool.proofs.Lists.{three_of}
-use Rattle.oat_tool.proofs.Verifying.{stops_admitting, stops_blob, verifies_concluded}
+use Rattle.oat_tool.specs.Verify.{Verifies}
+use Rattle.oat_tool.proofs.Digits.{blob_text}
+use Rattle.oat_tool.proofs.Showing.{Shows-more}
+use Rattle.oat_tool.proofs.Verifying.{verifies_concluded}
+use Rattle.oat_tool.proofs.Working.{stops_answer}
 use Rattle.oat_tool.proofs.verify.verify.Goals as goal
 
-pub returns-in_err-admitted : goal.returns-in_err-admitted
-returns-in_err-admitted c =
-    let p = err_from_is_err_and c.from_residual.result c.from_residual.ensures.1 in
-    let files = three_of (λ (f : File). f.limit) c.args.files.now c.index-files-0.result c.index-files-1.result c.index-files-2.result _ _ _ c.requires
-    c.index-files-0.is c.index-files-1.is c.index-files-2.is in
-    rw (p.1, p.2, files) (stops_admitting c.index-files-0.result c.index-files-1.result c.index-files-2.result _ c.in_err-admitted.ensures)
+pub returns-in-Ok-clause-shows : goal.returns-in-Ok-clause-shows
+returns-in-Ok-clause-shows g c =
+    let opened = c.in-Ok.ensures in
+    let bytes = opened.spelled.decoded in
+    Shows-more _ _ _ _ _
+    (λ o answered. record {
+      answer = answered.answer;
+      given = subst (λ (fs : List File). Verifies fs answered.answer) (sym opened.are)
+          (verifies_concluded opened.image opened.case opened.blob _ _ bytes.0 answered.answer opened.admitted (blob_text _ _ bytes.0 opened.spelled bytes.1) answered.given);
+      is = answered.is;
+    })
+    (c.conclude.ensures.shows bytes.0 bytes.1)
 
-pub returns-in_err-bytes : goal.returns-in_err-bytes
-returns-in_err-bytes c =
-    let p = err_from_is_err_and c.from_residual-in_err-bytes.result c.from_residual-in_err-bytes.ensures.1 in
-    let files = three_of (λ (f : File). f.limit) c.args.files.now c.index-files-0.result c.index-files-1.result c.index-files-2.result _ _ _ c.requires
-    c.index-files-0.is c.index-files-1.is c.index-files-2.is in
-    rw (p.1, p.2, files) (stops_blob c.index-files-0.result c.index-files-1.result c.index-files-2.result _ _ _ c.in_ok-admitted.ensures c.in_err-bytes.ensures)
-
-pub returns : goal.returns
-returns c =
-    let concluded = rw c.as_slice.ensures.value at c.in_ok-conclude.ensures in
-    let files = three_of (λ (f : File). f.limit) c.args.files.now c.index-files-0.result c.index-files-1.result c.index-files-2.result _ _ _ c.requires
-    c.index-files-0.is c.index-files-1.is c.index-files-2.is in
-    rw files (verifies_concluded c.index-files-0.result c.index-files-1.result c.index-files-2.result _ _ _ _ c.in_ok-admitted.ensures c.in_ok-bytes.ensures concluded)
+pub returns-in-Err-clause-shows : goal.returns-in-Err-clause-shows
+returns-in-Err-clause-shows g c = Shows-more _ _ _ _ _ (λ o is. stops_answer (Verifies c.args.files.now) c.in-Err.stop o c.in-Err.ensures is) (c.say_stop.ensures.shows _ _)

@@ -2,10 +2,9 @@ use Rattle.std.proofs.Common.{ap, refl, codes}
 use Rattle.oat_tool.specs.Answer.{refused}
 use Rattle.oat_tool.specs.Refusals.{RefusesBlob}
 use Rattle.oat_tool.proofs.Working.{RefusesWith-stops}
-use Rattle.oat_tool.proofs.inputs.blob_of.Goals as goal
+use Rattle.oat_tool.proofs.inputs.digits_of.Goals as goal
 
 pub returns-in_ok-refused-in-None : goal.returns-in_ok-refused-in-None
 returns-in_ok-refused-in-None c =
-    let none = rw (c.in-None.is, c.text.ensures.text) at c.in_ok-bytes.ensures in
     RefusesWith-stops (RefusesBlob c.args.file.now) (refused c.name.result.now (codes "Hex")) _ (c.in_ok-refused-in-None.ensures (codes "Hex") refl)
-    (record { not_hex = none; told = ap (λ name. refused name (codes "Hex")) c.name.ensures })
+    (record { not_hex = rw c.text.ensures.text at c.in-None.ensures; told = ap (λ name. refused name (codes "Hex")) c.name.ensures })
