@@ -12,7 +12,7 @@ use Rattle.oat_owner.specs.declared.call.OwnerReply.{OwnerReply}
 use Rattle.oat_owner.specs.declared.call.OwnerReply.TheVariants as replies
 use Rattle.oat_owner.specs.Frames.{IsAnswerFrame}
 use Rattle.oat_owner.specs.Ledger.{Ledger, device_of}
-use Rattle.oat_owner.specs.Replies.{session_of, IsAnswerReply, behind_answer}
+use Rattle.oat_owner.specs.Replies.{challenge_session, IsAnswerReply, behind_answer}
 use Rattle.oat_owner.specs.Exchanges.{Exchange, IsReply, behind, CallByCall, issued_by, owner_behind, AreReplies}
 
 -- What the clauses say call by call, of an owner that has issued nothing, is what the definition says of the whole list.
@@ -40,7 +40,7 @@ pub record IsAcceptance (known : List Known) (earlier : List Exchange) (frame : 
   pub is_known : device_of known challenge.device ≡ Some device
   pub blob : List ℕ
   pub is_brought : IsAnswerFrame frame (record { device = challenge.device; nonce = challenge.nonce; blob = blob })
-  pub verdict : IsVerdict (subject_of device.shaped (session_of device challenge)) blob (Accept path)
+  pub verdict : IsVerdict (subject_of device.shaped (challenge_session device challenge)) blob (Accept path)
 
 abbrev pub AcceptedByVerdict : Type 0
 AcceptedByVerdict = (known : List Known) (exchanges : List Exchange) → AreReplies known exchanges
