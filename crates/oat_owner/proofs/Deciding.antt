@@ -15,8 +15,8 @@ use Rattle.oat_owner.specs.declared.owner.IssueFault.TheVariants as faults
 use Rattle.oat_owner.specs.declared.call.OwnerCall.TheVariants as calls
 use Rattle.oat_owner.specs.declared.call.OwnerReply.TheVariants as replies
 use Rattle.oat_owner.specs.Frames.{Delivery, IsAnswerFrame, IsFrameOffset}
-use Rattle.oat_owner.specs.Ledger.{Ledger, device_of, number_of, number_to}
-use Rattle.oat_owner.specs.Replies.{IssueReply, OrFault, OrUsed, IsIssueReply, Asked, IsAsked, Judged, session_of, judged, IsAnswerReply}
+use Rattle.oat_owner.specs.Ledger.{Ledger, device_of, number_with, number_to}
+use Rattle.oat_owner.specs.Replies.{IssueReply, OrRefused, OrUsed, IsIssueReply, Asked, IsAsked, Judged, challenge_session, judged, IsAnswerReply}
 use Rattle.oat_owner.specs.Laws.{OneReply}
 use Rattle.oat_owner.proofs.Answering.{only_delivery}
 
@@ -50,16 +50,16 @@ found_once {X} {A} o refused = record {
 
 -- ---- a challenge is asked for
 
-fault_once : (holds : Type 0) (fault : IssueFault) (rest : IssueReply → Type 0) → IsOne IssueReply rest → IsOne IssueReply (OrFault holds fault rest)
+fault_once : (holds : Type 0) (fault : IssueFault) (rest : IssueReply → Type 0) → IsOne IssueReply rest → IsOne IssueReply (OrRefused holds fault rest)
 fault_once holds fault rest one =
     First-one (Unit {0}) IssueReply (λ u. holds) (λ r. ¬ holds × (r ≡ Err fault)) (λ u. rest)
     (Tests-decisive IssueReply holds (λ r. ¬ holds × (r ≡ Err fault)) (λ r s first second. first.1 ∙ sym second.1) (λ r held failed. failed.0 held)) (λ u held. one)
 
 used_once : (challenges : List Challenge) (nonce : List ℕ) (rest : IssueReply → Type 0) → IsOne IssueReply rest → IsOne IssueReply (OrUsed challenges nonce rest)
 used_once challenges nonce rest one =
-    let fails = λ (r : IssueReply). (n : ℕ) × (number_of challenges nonce ≡ Some n) × (r ≡ Err (faults.UsedNonce n)) in
-    First-one (Unit {0}) IssueReply (λ u. number_of challenges nonce ≡ None) fails (λ u. rest)
-    (Tests-decisive IssueReply (number_of challenges nonce ≡ None) fails
+    let fails = λ (r : IssueReply). (n : ℕ) × (number_with challenges nonce ≡ Some n) × (r ≡ Err (faults.UsedNonce n)) in
+    First-one (Unit {0}) IssueReply (λ u. number_with challenges nonce ≡ None) fails (λ u. rest)
+    (Tests-decisive IssueReply (number_with challenges nonce ≡ None) fails
     (λ r s first second.
     let both : Path (Option ℕ) (Some first.0) (Some second.0) = sym first.1 ∙ second.1 in
     let same : first.0 ≡ second.0 = cc in
@@ -90,7 +90,7 @@ asked_once challenges d = record {
 
 judged_once : (k : Known) (a : Asked) (blob : List ℕ) → IsOne Answer (Judged k a blob)
 judged_once k a blob r s is is' =
-    let same = one_verdict (subject_of k.shaped (session_of k a.challenge)) blob is.0 is'.0 is.1 is'.1 in
+    let same = one_verdict (subject_of k.shaped (challenge_session k a.challenge)) blob is.0 is'.0 is.1 is'.1 in
     is.2 ∙ ap (judged a.number) same ∙ sym is'.2
 
 unspent_once : (spent : Bool) (n : ℕ) → IsDecisive (Unit {0}) Answer (λ u. spent ≡ false) (λ r. (spent ≡ true) × (r ≡ Refused (causes.Spent n)))

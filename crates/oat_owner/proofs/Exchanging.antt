@@ -19,8 +19,8 @@ use Rattle.oat_owner.specs.declared.call.OwnerReply.{OwnerReply}
 use Rattle.oat_owner.specs.declared.call.OwnerReply.TheVariants as replies
 use Rattle.oat_owner.specs.Frames.{Delivery, IsAnswerFrame}
 use Rattle.oat_owner.specs.Ledger.{Ledger, device_of, number_to, spent_at}
-use Rattle.oat_owner.specs.Replies.{IsAnswerReply, session_of, judged}
-use Rattle.oat_owner.specs.Laws.{CallsGiveReplies, AcceptedOnce, AcceptedByVerdict}
+use Rattle.oat_owner.specs.Replies.{IsAnswerReply, challenge_session, judged}
+use Rattle.oat_owner.specs.Laws.{CallsGiveReplies, AcceptedOnce, AcceptedByVerdict, CallsGoOn, AcceptedIsIssued}
 use Rattle.oat_owner.proofs.Answering.{delivery_same}
 use Rattle.oat_owner.proofs.Tabling.{asked_is}
 use Rattle.oat_owner.specs.Exchanges.{Exchange, IsReply, behind, CallByCall, issued_in, issued_by, accepts, is_spent, marked, owner_behind, AreRepliesBehind, AreReplies}
@@ -36,7 +36,7 @@ pub record Acceptance (l : Ledger) (frame : List ℕ) (number : ℕ) (path : Lis
   pub is_number : number_to l.challenges delivery.device delivery.nonce ≡ Some number
   pub is_at : slice_get l.challenges number ≡ Some challenge
   pub open_yet : challenge.spent ≡ false
-  pub verdict : IsVerdict (subject_of device.shaped (session_of device challenge)) delivery.blob (verdicts.Accept path)
+  pub verdict : IsVerdict (subject_of device.shaped (challenge_session device challenge)) delivery.blob (verdicts.Accept path)
 
 accepted_verdict : (n number : ℕ) (path : List Edge) (v : Verdict) → Accepted number path ≡ judged n v → (number ≡ n) × (v ≡ verdicts.Accept path)
 accepted_verdict n number path (verdicts.Accept way) is =
@@ -61,7 +61,7 @@ accepted_so l frame number path (passes d framed (passes k known (passes a asked
       is_number = asked.0 ∙ ap Some (sym both.0);
       is_at = ap (slice_get l.challenges) both.0 ∙ asked.1;
       open_yet = fresh;
-      verdict = subst (λ (w : Verdict). IsVerdict (subject_of k.shaped (session_of k a.challenge)) d.blob w) both.1 verdict;
+      verdict = subst (λ (w : Verdict). IsVerdict (subject_of k.shaped (challenge_session k a.challenge)) d.blob w) both.1 verdict;
     }
 
 -- ---- tests
@@ -311,5 +311,20 @@ accepted_by_verdict known exchanges are i number frame path at =
       is_known = ap (device_of known) (sym devices) ∙ a.is_known;
       blob = a.delivery.blob;
       is_brought = subst (IsAnswerFrame frame) (delivery_same a.delivery (record { device = item.0.device; nonce = item.0.nonce; blob = a.delivery.blob }) devices nonces refl) a.is_frame;
-      verdict = subst (λ (c : Challenge). IsVerdict (subject_of a.device.shaped (session_of a.device c)) a.delivery.blob (verdicts.Accept path)) item.2 a.verdict;
+      verdict = subst (λ (c : Challenge). IsVerdict (subject_of a.device.shaped (challenge_session a.device c)) a.delivery.blob (verdicts.Accept path)) item.2 a.verdict;
     }
+
+pub calls_go_on : CallsGoOn
+calls_go_on l m [] e same is = subst (λ (k : Ledger). IsReply k e.call e.reply × (behind k e.call e.reply ≡ behind m e.call e.reply)) (sym same) (is, refl)
+calls_go_on l m (d ∷ exchanges) e (first, rest) is = (first, calls_go_on (behind l d.call d.reply) m exchanges e rest is)
+
+spent_length : (n : ℕ) (challenges : List Challenge) → length (spent_at n challenges) ≡ length challenges
+spent_length n [] = refl
+spent_length zero (c ∷ challenges) = refl
+spent_length (suc n) (c ∷ challenges) = ap suc (spent_length n challenges)
+
+pub accepted_is_issued : AcceptedIsIssued
+accepted_is_issued l frame number path is =
+    let accepted = accepted_so l frame number path is in
+    let within = slice_get_within l.challenges number accepted.challenge accepted.is_at in
+    rw (spent_length number l.challenges) within

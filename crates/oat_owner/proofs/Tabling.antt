@@ -11,7 +11,7 @@ use Rattle.std.proofs.Math.ListN.{length-set}
 use Rattle.std.proofs.Math.Seq.{map-set_same}
 use Rattle.oat_owner.specs.declared.challenge.Challenge.{Challenge}
 use Rattle.oat_owner.specs.declared.device.Known.{Known}
-use Rattle.oat_owner.specs.Ledger.{device_of, number_of, number_to, spent_at, ids_of, repeated_behind, challenge_limit}
+use Rattle.oat_owner.specs.Ledger.{device_of, number_with, number_to, spent_at, ids_of, repeated_behind, challenge_limit}
 use Rattle.oat_owner.specs.Tables.{AreNonces}
 use Rattle.oat_owner.proofs.Searching.{place, place_is, place_mapped, place_within, nowhere, find_place, find_nowhere, none_both, first_both, missed_both}
 
@@ -25,7 +25,7 @@ module _ (keys : List (List ℕ)) (items : List Challenge) (are : AreNonces keys
   along : (nonce : List ℕ) → position (bytes_eq nonce) keys ≡ place (λ (c : Challenge). bytes_eq nonce c.nonce) items
   along nonce = place_is (bytes_eq nonce) keys ∙ ap (place (bytes_eq nonce)) are.same ∙ place_mapped (bytes_eq nonce) (λ (c : Challenge). c.nonce) items
 
-  pub is_number : (nonce : List ℕ) → position (bytes_eq nonce) keys ≡ number_of items nonce
+  pub is_number : (nonce : List ℕ) → position (bytes_eq nonce) keys ≡ number_with items nonce
   is_number nonce = along nonce ∙ sym (place_is (λ (c : Challenge). bytes_eq nonce c.nonce) items)
 
   pub is_at : (nonce : List ℕ) (i : ℕ) (x : Challenge) → Some i ≡ position (bytes_eq nonce) keys → x ≡ get_or items i x → slice_get items i ≡ Some x
@@ -55,7 +55,7 @@ module _ (keys : List (List ℕ)) (items : List Challenge) (are : AreNonces keys
         (sym (along nonce) ∙ sym found) (is_at nonce i x found read) (ne_eqb x.device device other))
 
   -- one more, with a new nonce
-  pub one_more : (c : Challenge) (more : List (List ℕ)) → number_of items c.nonce ≡ None → length items < challenge_limit
+  pub one_more : (c : Challenge) (more : List (List ℕ)) → number_with items c.nonce ≡ None → length items < challenge_limit
       → more ≡ (if list_any (bytes_eq c.nonce) keys then keys else keys ++ c.nonce ∷ []) → IsDistinct bytes_eq more → AreNonces more (items ++ c ∷ [])
   one_more c more new room put distinct =
       let none : list_any (bytes_eq c.nonce) keys ≡ false = nowhere (bytes_eq c.nonce) keys (sym (place_is (bytes_eq c.nonce) keys) ∙ is_number c.nonce ∙ new) in

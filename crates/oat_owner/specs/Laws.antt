@@ -1,5 +1,5 @@
 -- What an owner's replies are good for, in any order and number of calls.
-use Rattle.std.specs.Prelude.{◌≡◌, ℕ, List, [], slice_get, take, Some}
+use Rattle.std.specs.Prelude.{◌≡◌, ◌<◌, ℕ, List, [], ◌∷◌, ◌++◌, length, slice_get, take, Some}
 use Rattle.oat_map.specs.declared.edge.Edge.{Edge}
 use Rattle.oat_verify.specs.declared.verdict.Verdict.TheVariants.{Accept}
 use Rattle.oat_verify.specs.Verdict.{subject_of, IsVerdict}
@@ -12,8 +12,8 @@ use Rattle.oat_owner.specs.declared.call.OwnerReply.{OwnerReply}
 use Rattle.oat_owner.specs.declared.call.OwnerReply.TheVariants as replies
 use Rattle.oat_owner.specs.Frames.{IsAnswerFrame}
 use Rattle.oat_owner.specs.Ledger.{Ledger, device_of}
-use Rattle.oat_owner.specs.Replies.{session_of}
-use Rattle.oat_owner.specs.Exchanges.{Exchange, IsReply, CallByCall, issued_by, owner_behind, AreReplies}
+use Rattle.oat_owner.specs.Replies.{challenge_session, IsAnswerReply, behind_answer}
+use Rattle.oat_owner.specs.Exchanges.{Exchange, IsReply, behind, CallByCall, issued_by, owner_behind, AreReplies}
 
 -- What the clauses say call by call, of an owner that has issued nothing, is what the definition says of the whole list.
 abbrev pub CallsGiveReplies : Type 0
@@ -40,10 +40,20 @@ pub record IsAcceptance (known : List Known) (earlier : List Exchange) (frame : 
   pub is_known : device_of known challenge.device ≡ Some device
   pub blob : List ℕ
   pub is_brought : IsAnswerFrame frame (record { device = challenge.device; nonce = challenge.nonce; blob = blob })
-  pub verdict : IsVerdict (subject_of device.shaped (session_of device challenge)) blob (Accept path)
+  pub verdict : IsVerdict (subject_of device.shaped (challenge_session device challenge)) blob (Accept path)
 
 abbrev pub AcceptedByVerdict : Type 0
 AcceptedByVerdict = (known : List Known) (exchanges : List Exchange) → AreReplies known exchanges
     → (i number : ℕ) (frame : List ℕ) (path : List Edge)
     → slice_get exchanges i ≡ Some (record { call = calls.Answer frame; reply = replies.Answer (Accepted number path) })
     → IsAcceptance known (take i exchanges) frame number path
+
+-- One call more goes on from where the calls before it led.
+abbrev pub CallsGoOn : Type 0
+CallsGoOn = (l m : Ledger) (exchanges : List Exchange) (e : Exchange) → CallByCall l exchanges m → IsReply m e.call e.reply
+    → CallByCall l (exchanges ++ e ∷ []) (behind m e.call e.reply)
+
+-- The number of an acceptance is that of an issued challenge.
+abbrev pub AcceptedIsIssued : Type 0
+AcceptedIsIssued = (l : Ledger) (frame : List ℕ) (number : ℕ) (path : List Edge) → IsAnswerReply l frame (Accepted number path)
+    → number < length (behind_answer l (Accepted number path)).challenges

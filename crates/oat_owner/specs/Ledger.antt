@@ -19,8 +19,8 @@ abbrev pub device_of : List Known → ℕ → Option Known
 device_of known id = find (λ k. id == k.id) known
 
 -- the number of the challenge with this nonce, to whichever device
-abbrev pub number_of : List Challenge → List ℕ → Option ℕ
-number_of challenges nonce = position (λ c. bytes_eq nonce c.nonce) challenges
+abbrev pub number_with : List Challenge → List ℕ → Option ℕ
+number_with challenges nonce = position (λ c. bytes_eq nonce c.nonce) challenges
 
 -- the number of the challenge with this nonce to this device
 abbrev pub number_to : List Challenge → ℕ → List ℕ → Option ℕ

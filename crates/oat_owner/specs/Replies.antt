@@ -16,7 +16,7 @@ use Rattle.oat_owner.specs.declared.owner.Answer.{Answer}
 use Rattle.oat_owner.specs.declared.owner.Answer.TheVariants.{Accepted, Refused}
 use Rattle.oat_owner.specs.declared.owner.AnswerCause.TheVariants as causes
 use Rattle.oat_owner.specs.Frames.{Delivery, challenge_frame, IsAnswerFrame, IsFrameOffset}
-use Rattle.oat_owner.specs.Ledger.{Ledger, challenge_limit, device_of, number_of, number_to, spent_at}
+use Rattle.oat_owner.specs.Ledger.{Ledger, challenge_limit, device_of, number_with, number_to, spent_at}
 
 -- ---- a challenge is asked for
 
@@ -28,20 +28,20 @@ abbrev pub issued : Ledger → (device op : ℕ) → (nonce : List ℕ) → Issu
 issued l device op nonce = record { number = length l.challenges; frame = challenge_frame device op nonce }
 
 -- a fact that is looked at, and the fault where it doesn't hold
-abbrev pub OrFault : (holds : Type 0) → IssueFault → (IssueReply → Type 0) → IssueReply → Type 0
-OrFault holds fault = Tests IssueReply holds (λ r. ¬ holds × (r ≡ Err fault))
+abbrev pub OrRefused : (holds : Type 0) → IssueFault → (IssueReply → Type 0) → IssueReply → Type 0
+OrRefused holds fault = Tests IssueReply holds (λ r. ¬ holds × (r ≡ Err fault))
 
 -- no challenge has the nonce, or the one with this number has it
 abbrev pub OrUsed : List Challenge → List ℕ → (IssueReply → Type 0) → IssueReply → Type 0
-OrUsed challenges nonce = Tests IssueReply (number_of challenges nonce ≡ None)
-    (λ r. (n : ℕ) × (number_of challenges nonce ≡ Some n) × (r ≡ Err (faults.UsedNonce n)))
+OrUsed challenges nonce = Tests IssueReply (number_with challenges nonce ≡ None)
+    (λ r. (n : ℕ) × (number_with challenges nonce ≡ Some n) × (r ≡ Err (faults.UsedNonce n)))
 
 abbrev pub IsIssueReply : Ledger → (device op : ℕ) → (nonce : List ℕ) → IssueReply → Type 0
 IsIssueReply l device op nonce =
     First Known IssueReply (λ k. device_of l.known device ≡ Some k) (λ r. (device_of l.known device ≡ None) × (r ≡ Err faults.UnknownDevice)) (λ k.
-    OrFault (IsOperation k.shaped.map op) faults.NoOperation (
+    OrRefused (IsOperation k.shaped.map op) faults.NoOperation (
     OrUsed l.challenges nonce (
-    OrFault (length l.challenges < challenge_limit) faults.Full (
+    OrRefused (length l.challenges < challenge_limit) faults.Full (
     λ r. r ≡ Ok (issued l device op nonce)))))
 
 -- what a call answers is the reply, unless memory ran out
@@ -66,8 +66,8 @@ abbrev pub IsAsked : List Challenge → Delivery → Asked → Type 0
 IsAsked challenges d a = (number_to challenges d.device d.nonce ≡ Some a.number) × (slice_get challenges a.number ≡ Some a.challenge)
 
 -- the session of a challenge, which has one window
-abbrev pub session_of : Known → Challenge → Session
-session_of k c = record { key = k.key; nonce = c.nonce; op = c.op; calls = None }
+abbrev pub challenge_session : Known → Challenge → Session
+challenge_session k c = record { key = k.key; nonce = c.nonce; op = c.op; calls = None }
 
 -- the verdict, said of the challenge with this number
 abbrev pub judged : ℕ → Verdict → Answer
@@ -75,7 +75,7 @@ judged number (verdicts.Accept path) = Accepted number path
 judged number (verdicts.Refuse cause) = Refused (causes.Verdict number cause)
 
 abbrev pub Judged : Known → Asked → List ℕ → Answer → Type 0
-Judged k a blob reply = (v : Verdict) × IsVerdict (subject_of k.shaped (session_of k a.challenge)) blob v × (reply ≡ judged a.number v)
+Judged k a blob reply = (v : Verdict) × IsVerdict (subject_of k.shaped (challenge_session k a.challenge)) blob v × (reply ≡ judged a.number v)
 
 abbrev pub IsAnswerReply : Ledger → List ℕ → Answer → Type 0
 IsAnswerReply l frame =

@@ -1,5 +1,5 @@
 ghost use Rattle.std.specs.Prelude.{◌≡◌, ◌<◌, ◌++◌, ◌∷◌, [], None, Some, slice_get, length, OnOk, OnErr};
-ghost use Rattle.oat_owner.specs.Ledger.{challenge_limit, number_of, number_to, spent_at};
+ghost use Rattle.oat_owner.specs.Ledger.{challenge_limit, number_with, number_to, spent_at};
 
 use indexmap::IndexSet;
 use std::alloc::{AllocError, Global};
@@ -54,8 +54,8 @@ impl Challenges {
     }
 
     /// The number of the challenge with this nonce.
-    pub fn number_of(&self, nonce: &[u8; 16]) -> Option<u32>
-        ensures { result ≡ number_of self.now nonce.now }
+    pub fn number_with(&self, nonce: &[u8; 16]) -> Option<u32>
+        ensures { result ≡ number_with self.now nonce.now }
     {
         match self.nonces.get_index_of(nonce) {
             Some(index) => Some(index as u32),
@@ -84,7 +84,7 @@ impl Challenges {
 
     /// Puts a challenge with a new nonce behind the others.
     pub fn push(&mut self, challenge: Challenge) -> Result<(), AllocError>
-        requires new { number_of self.old challenge.nonce ≡ None }
+        requires new { number_with self.old challenge.nonce ≡ None }
         requires room { length self.old < challenge_limit }
         ensures pushed { OnOk result (self.new ≡ self.old ++ challenge ∷ []) }
         ensures same { OnErr result (self.new ≡ self.old) }

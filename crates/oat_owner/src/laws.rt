@@ -1,6 +1,6 @@
 //! Laws of an owner's replies, in any order and number of calls: each function's contract is the law.
 
-ghost use Rattle.oat_owner.specs.Laws.{AcceptedByVerdict, AcceptedOnce, CallsGiveReplies, OneReply};
+ghost use Rattle.oat_owner.specs.Laws.{AcceptedByVerdict, AcceptedIsIssued, AcceptedOnce, CallsGiveReplies, CallsGoOn, OneReply};
 
 /// Each reply is the one that the calls and replies before it give.
 pub fn calls_give_replies()
@@ -20,4 +20,14 @@ pub fn accepted_once()
 /// Each acceptance is the verdict's, for the challenge's own device, operation and nonce.
 pub fn accepted_by_verdict()
     ensures { AcceptedByVerdict }
+{}
+
+/// One call more goes on from where the calls before it led.
+pub fn calls_go_on()
+    ensures { CallsGoOn }
+{}
+
+/// The number of an acceptance is that of an issued challenge.
+pub fn accepted_is_issued()
+    ensures { AcceptedIsIssued }
 {}

@@ -1,7 +1,7 @@
 ghost use Rattle.std.specs.Prelude.{◌≡◌, ◌<◌, [], Some, length, IfOk, IfErr, OnOk, OnErr};
 ghost use Rattle.oat_owner.specs.Ledger.{repeated_id, shaped_of};
 ghost use Rattle.oat_owner.specs.Refusal.{IsOwnerFault};
-ghost use Rattle.oat_owner.specs.Replies.{IssuesOrStarves, IsAnswerReply, behind_issue, behind_answer, judged, session_of};
+ghost use Rattle.oat_owner.specs.Replies.{IssuesOrStarves, IsAnswerReply, behind_issue, behind_answer, judged, challenge_session};
 ghost use Rattle.oat_owner.specs.Exchanges.{IsReply, behind};
 ghost use Rattle.oat_map.specs.Rows.{IsOperation};
 ghost use Rattle.oat_verify.specs.Verdict.{subject_of, IsVerdict};
@@ -101,7 +101,7 @@ fn judge(
     blob: &[u8],
 ) -> Result<Verdict, AllocError>
     requires { IsOperation device.now.shaped.map challenge.now.op }
-    ensures { IfOk result (IsVerdict (subject_of device.now.shaped (session_of device.now challenge.now)) blob.now) }
+    ensures { IfOk result (IsVerdict (subject_of device.now.shaped (challenge_session device.now challenge.now)) blob.now) }
 {
     let session = Session {
         key: Listed::from_vec(Vec::from_slice(alloc, device.key.as_slice())?),
@@ -155,7 +155,7 @@ impl Owner {
         let Some(_) = known.shaped.begin_at(op) else {
             return Err(IssueFault::NoOperation);
         };
-        if let Some(number) = self.challenges.number_of(&nonce) {
+        if let Some(number) = self.challenges.number_with(&nonce) {
             return Err(IssueFault::UsedNonce(number));
         }
         let number = self.challenges.len();

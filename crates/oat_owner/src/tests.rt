@@ -157,6 +157,8 @@ fn calls_are_replied(rt: HostRuntime) -> Result<(), Fail> {
     laws::one_reply();
     laws::accepted_once();
     laws::accepted_by_verdict();
+    laws::calls_go_on();
+    laws::accepted_is_issued();
     Ok(())
 }
 

@@ -1,6 +1,6 @@
--- What the lines so far have gathered, as contracts see it.
+-- What the lines so far have read_so_far, as contracts see it.
 use Rattle.oat_script.specs.declared.draft.Draft.{Draft}
 use Rattle.oat_script.specs.declared.script.Script.{Script}
 
-abbrev pub gathered : Draft → Script
-gathered d = record { devices = d.devices.items; calls = d.calls.items }
+abbrev pub read_so_far : Draft → Script
+read_so_far d = record { devices = d.devices.items; calls = d.calls.items }

@@ -1,6 +1,6 @@
 -- Which script a text stands for, or else the fault of its first bad line (docs/FORMATS.md, "Owner scripts"). A line is read with what the
--- lines above it have gathered; its faults are tested in the order Token, Number, Twice, Order.
-use Rattle.std.specs.Prelude.{ℕ, ◌+◌, ◌^◌, ◌==◌, ◌&&◌, Bool, not, List, [], ◌∷◌, ◌++◌, length, nat_lt, codes, Option, Some, None, option_map, Result, Ok, Err, if◌then◌else◌}
+-- lines above it have read_so_far; its faults are tested in the order Token, Number, Twice, Order.
+use Rattle.std.specs.Prelude.{ℕ, ◌+◌, ◌^◌, ◌==◌, ◌&&◌, Bool, not, List, [], ◌∷◌, ◌++◌, length, nat_lt, codes, option_map, Result, Ok, Err, if◌then◌else◌}
 use Rattle.std.specs.List.{list_all, list_any}
 use Rattle.std.specs.Option.{ok_or}
 use Rattle.std.specs.Str.{bytes_eq}
@@ -116,7 +116,7 @@ whole n g = do
   some ← guard (nat_lt 0 (length g.devices)) (At n Order)
   Ok g
 
--- the lines from number n on, with what the lines above have gathered
+-- the lines from number n on, with what the lines above have read_so_far
 unfoldable pub script_from : ℕ → Script → List TextWord → Result Script (Fault ScriptFaultKind)
 script_from n g [] = whole n g
 script_from n g (line ∷ lines) = do

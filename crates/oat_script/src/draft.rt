@@ -11,7 +11,7 @@ use oat_list::Listed;
 use oat_owner::OwnerCall;
 use std::alloc::Global;
 
-/// What the lines so far have gathered.
+/// What the lines so far have read_so_far.
 #[derive(Drop)]
 pub struct Draft {
     pub devices: Vec<ScriptDevice>,
@@ -30,10 +30,10 @@ fn is_new(devices: &[ScriptDevice], id: u32) -> bool
 }
 
 impl Draft {
-    ghost use Rattle.oat_script.specs.Draft.{gathered};
+    ghost use Rattle.oat_script.specs.Draft.{read_so_far};
 
     pub fn new(alloc: Global) -> Self
-        ensures { gathered result ≡ record { devices = []; calls = [] } }
+        ensures { read_so_far result ≡ record { devices = []; calls = [] } }
     {
         Draft {
             devices: Vec::new(alloc),
@@ -42,14 +42,14 @@ impl Draft {
     }
 
     fn may_be_device(&self) -> bool
-        ensures { result ≡ may_be_device (gathered self.now) }
+        ensures { result ≡ may_be_device (read_so_far self.now) }
     {
         self.calls.is_empty() && self.devices.len() < 16
     }
 
     #[tactic(auto, unfolding(crate::specs::Reading::device_line))]
     fn take_device(&mut self, alloc: Global, line: u32, words: &[u8]) -> Result<(), ScriptFault>
-        ensures { Gives (λ _. gathered self.new) result (device_line line (gathered self.old) (words_of words.now)) }
+        ensures { Gives (λ _. read_so_far self.new) result (device_line line (read_so_far self.old) (words_of words.now)) }
     {
         let (id, file, key) = three_words(words).ok_or(ScriptFault::At(
             line,
@@ -68,7 +68,7 @@ impl Draft {
 
     #[tactic(auto, unfolding(crate::specs::Reading::add_call))]
     fn add_call(&mut self, line: u32, call: OwnerCall) -> Result<(), ScriptFault>
-        ensures { Gives (λ _. gathered self.new) result (add_call line (gathered self.old) call) }
+        ensures { Gives (λ _. read_so_far self.new) result (add_call line (read_so_far self.old) call) }
     {
         if self.devices.is_empty() {
             return Err(ScriptFault::At(line, ScriptFaultKind::Order));
@@ -79,7 +79,7 @@ impl Draft {
 
     #[tactic(auto, unfolding(crate::specs::Reading::challenge_line))]
     fn take_challenge(&mut self, alloc: Global, line: u32, words: &[u8]) -> Result<(), ScriptFault>
-        ensures { Gives (λ _. gathered self.new) result (challenge_line line (gathered self.old) (words_of words.now)) }
+        ensures { Gives (λ _. read_so_far self.new) result (challenge_line line (read_so_far self.old) (words_of words.now)) }
     {
         let (id, op, nonce) = three_words(words).ok_or(ScriptFault::At(
             line,
@@ -91,7 +91,7 @@ impl Draft {
 
     #[tactic(auto, unfolding(crate::specs::Reading::answer_line))]
     fn take_answer(&mut self, alloc: Global, line: u32, words: &[u8]) -> Result<(), ScriptFault>
-        ensures { Gives (λ _. gathered self.new) result (answer_line line (gathered self.old) (words_of words.now)) }
+        ensures { Gives (λ _. read_so_far self.new) result (answer_line line (read_so_far self.old) (words_of words.now)) }
     {
         let word = sole_word(words).ok_or(ScriptFault::At(line, ScriptFaultKind::Token))?;
         let frame = bytes(alloc, line, word)?;
@@ -106,7 +106,7 @@ impl Draft {
         keyword: &[u8],
         words: &[u8],
     ) -> Result<(), ScriptFault>
-        ensures { Gives (λ _. gathered self.new) result (statement_line line (gathered self.old) keyword.now (words_of words.now)) }
+        ensures { Gives (λ _. read_so_far self.new) result (statement_line line (read_so_far self.old) keyword.now (words_of words.now)) }
     {
         if is_word(keyword, b"device") {
             self.take_device(alloc, line, words)
@@ -122,7 +122,7 @@ impl Draft {
     /// Takes what a line says, or skips it.
     #[tactic(auto, unfolding(crate::specs::Reading::line_of))]
     pub fn take_line(&mut self, alloc: Global, number: u32, line: &[u8]) -> Result<(), ScriptFault>
-        ensures { Gives (λ _. gathered self.new) result (line_of number (gathered self.old) (words_of line.now)) }
+        ensures { Gives (λ _. read_so_far self.new) result (line_of number (read_so_far self.old) (words_of line.now)) }
     {
         let Some((first, words)) = first_word(line) else {
             return Ok(());
@@ -136,7 +136,7 @@ impl Draft {
     /// The script, if it has a device.
     #[tactic(auto, unfolding(crate::specs::Reading::whole))]
     pub fn finish(self, line: u32) -> Result<Script, ScriptFault>
-        ensures { result ≡ whole line (gathered self) }
+        ensures { result ≡ whole line (read_so_far self) }
     {
         if self.devices.is_empty() {
             return Err(ScriptFault::At(line, ScriptFaultKind::Order));
