@@ -55,7 +55,7 @@ use Rattle.oat_gen.specs.GlobalPlaces.{global_places, GlobalsHaveTheirPlaces}
 use Rattle.oat_gen.specs.Laws.{BlocksHaveTheirLines, FittingProgramsAreBuilt, FunctionsHaveTheirCode, MarkedCodeExpands, OtherCodeStays}
 use Rattle.oat_match.specs.Code.{block_items, instruction_items, terminator_items}
 use Rattle.oat_match.specs.Compiled.{IsCompiled, ProgramsHaveWorlds, world_of}
-use Rattle.oat_match.specs.Placed.{EdgesAreNamed, IsEdgeOf, address_of_line, call_arguments, code_line_at, edge_in_image, frame_at}
+use Rattle.oat_match.specs.Placed.{EdgesAreNamed, IsLineEdge, address_of_line, call_arguments, code_line_at, edge_in_image, frame_at}
 use Rattle.oat_build.specs.Built.{program_image, program_label, program_world, BuiltEdgesAreNamed, BuiltProgramsAreCompiled}
 use Rattle.oat_build.proofs.LineCode.{block_same}
 use Rattle.oat_build.proofs.SiteCode.{before_call, before_call_sites, front_is, sites, sites_join, loads_have_none, sites_before, words_before, split_lines, line_is_there, line_inside}
@@ -350,7 +350,7 @@ module _ (expands : MarkedCodeExpands) (stays : OtherCodeStays) (placing : Globa
       any_back back (Input x) h calling = absurd (cc)
       any_back back (Output x) h calling = absurd (cc)
 
-      edge_named : (edge : LineEdge) → IsEdgeOf p edge → name_of (program_image p).map (edge_in_image p (program_world p) edge) ≡ line_edge_name p edge
+      edge_named : (edge : LineEdge) → IsLineEdge p edge → name_of (program_image p).map (edge_in_image p (program_world p) edge) ≡ line_edge_name p edge
       edge_named (jumps from to) is = jump_named from to is
       edge_named (branches from bit to) is = branch_named from bit to is.0 is.1 is.2
       edge_named (calls from g) is = call_named from g is.0 is.1 is.2

@@ -21,7 +21,7 @@ use Rattle.oat_parts.specs.Built.{built_address, built_image, in_map, in_table}
 use Rattle.oat_symbols.specs.Programs.{symbols_of, HasValidNames}
 use Rattle.oat_frames.specs.Frames.{World}
 use Rattle.oat_gen.specs.Code.{program_items}
-use Rattle.oat_gen.specs.Laws.{most_words}
+use Rattle.oat_ir.specs.Size.{most_words}
 use Rattle.oat_match.specs.Compiled.{IsCompiled, world_of}
 use Rattle.oat_match.specs.Placed.{EdgesAreNamed}
 

@@ -22,7 +22,7 @@ use Rattle.oat_follow.specs.Following.{Means}
 use Rattle.oat_frames.specs.Frames.{World, return_address}
 use Rattle.oat_match.specs.Compiled.{IsCompiled}
 use Rattle.oat_match.specs.Following.{CompiledProgramsMean, CompiledWindowsGoBack, StepsTakeEdges, TakesEdgesOf}
-use Rattle.oat_match.specs.Placed.{IsEdgeOf, address_of_line, call_arguments, code_line_at, edge_in_image, frame_at, placement}
+use Rattle.oat_match.specs.Placed.{IsLineEdge, address_of_line, call_arguments, code_line_at, edge_in_image, frame_at, placement}
 use Rattle.oat_match.proofs.CallRows.{HasCallRow, call_row, icall_row}
 use Rattle.oat_match.proofs.Finding.{located}
 
@@ -78,7 +78,7 @@ module _ (p : Program) where
   parted (stores cell value ∷ xs) ys h = parted xs ys h
   parted (outputs value ∷ xs) ys h = parted xs ys h
 
-  taken : (op : ℕ) (es : List (SourceEvent LineEdge)) → TakesEdgesOf p es → AreEdges (IsEdgeOf p) (filter_map (edge_taken finishes op) es)
+  taken : (op : ℕ) (es : List (SourceEvent LineEdge)) → TakesEdgesOf p es → AreEdges (IsLineEdge p) (filter_map (edge_taken finishes op) es)
   taken op [] h = tt
   taken op (takes edge ∷ es) h = (h.0, taken op es h.1)
   taken op (enters left ∷ es) h = taken op es h
@@ -86,7 +86,7 @@ module _ (p : Program) where
   taken op (stores cell value ∷ es) h = taken op es h
   taken op (outputs value ∷ es) h = taken op es h
   taken op (leaves left ∷ es) h = by (nat_eq left op) (taken op es h) where
-    by : (t : Bool) → AreEdges (IsEdgeOf p) (filter_map (edge_taken finishes op) es) → AreEdges (IsEdgeOf p) (cons_option (if t then Some (finishes op) else None) (filter_map (edge_taken finishes op) es))
+    by : (t : Bool) → AreEdges (IsLineEdge p) (filter_map (edge_taken finishes op) es) → AreEdges (IsLineEdge p) (cons_option (if t then Some (finishes op) else None) (filter_map (edge_taken finishes op) es))
     by true rest = (tt, rest)
     by false rest = rest
 
@@ -95,7 +95,7 @@ module _ (p : Program) where
   run_takes edges ok inputs (suc n) s g =
       joined (source_step p s).shown (shown_from (source_of p inputs) n (source_step p s).state) (edges p ok s g) (run_takes edges ok inputs n (source_step p s).state ((keeps p ok inputs).goes s g))
 
-  call_takes : StepsTakeEdges → (ok : IsChecked p) (inputs : List ℤ) (n op s : ℕ) → AreEdges (IsEdgeOf p) (path_of_call (source_of p inputs) op s (source_events p inputs n))
+  call_takes : StepsTakeEdges → (ok : IsChecked p) (inputs : List ℤ) (n op s : ℕ) → AreEdges (IsLineEdge p) (path_of_call (source_of p inputs) op s (source_events p inputs n))
   call_takes edges ok inputs n op s =
       let es : List (SourceEvent LineEdge) = source_events p inputs n in
       let parts = windows_are_parts (is_entered op) (is_left op) s es in
@@ -111,7 +111,7 @@ abbrev site_of : World → LinePlace → ℕ
 site_of w at = return_address w (frame_at at)
 
 module _ (p : Program) (w : World) (c : IsCompiled p w) where
-  turned : (edge : LineEdge) → IsEdgeOf p edge → turn_of (edge_in_image p w edge) ≡ turn_at (site_of w) (line_turn edge)
+  turned : (edge : LineEdge) → IsLineEdge p edge → turn_of (edge_in_image p w edge) ≡ turn_at (site_of w) (line_turn edge)
   turned (jumps from block) h = refl
   turned (branches from bit block) h = refl
   turned (returns from back) h = refl
@@ -134,5 +134,5 @@ compiled_windows_go_back mean edges p ok w c named inputs fit o begun n s body h
     let means : Means (source_of p inputs) w.image (placement p w) o inputs = mean p ok w c named inputs fit o begun in
     let done : has_completed o.op s (events_after (source_of p inputs) n) ≡ true = means.sealed s n body has in
     subst (GoesBack turn_of []) (sym (means.shows s n n body done has).edges)
-    (mapped_back (IsEdgeOf p) line_turn turn_of (edge_in_image p w) (site_of w) (turned p w c) (path_of_call (source_of p inputs) o.op s (source_events p inputs n)) []
+    (mapped_back (IsLineEdge p) line_turn turn_of (edge_in_image p w) (site_of w) (turned p w c) (path_of_call (source_of p inputs) o.op s (source_events p inputs n)) []
     (call_takes p edges ok inputs n o.op s) (calls_go_back p ok inputs n o.op s done))

@@ -21,14 +21,14 @@ use Rattle.oat_check.specs.Steps.{Frame, LineEdge, Next, SourceState, at_line, b
 use Rattle.oat_check.proofs.Checking.{has_ty, instr_allowed}
 use Rattle.oat_check.proofs.Frames.{There, instr_is, line_is, term_is, there}
 use Rattle.oat_match.specs.Following.{StepsTakeEdges, TakesEdgesOf}
-use Rattle.oat_match.specs.Placed.{IsEdgeOf}
+use Rattle.oat_match.specs.Placed.{IsLineEdge}
 
 module _ (p : Program) where
   entering : (o : Option ℕ) → TakesEdgesOf p (shows o enters)
   entering None = tt
   entering (Some op) = tt
 
-  leaving : (o : Option ℕ) (e : LineEdge) → IsEdgeOf p e → TakesEdgesOf p (shows o leaves ++ takes e ∷ [])
+  leaving : (o : Option ℕ) (e : LineEdge) → IsLineEdge p e → TakesEdgesOf p (shows o leaves ++ takes e ∷ [])
   leaving None e h = (h, tt)
   leaving (Some op) e h = (h, tt)
 
@@ -52,7 +52,7 @@ module _ (p : Program) where
   taking s x [] = tt
   taking s x (value ∷ rest) = tt
 
-  running : (s : SourceState) (edge : LineEdge) (g : ℕ) (args : List ℕ) → IsEdgeOf p edge → TakesEdgesOf p (runs p s edge g args).shown
+  running : (s : SourceState) (edge : LineEdge) (g : ℕ) (args : List ℕ) → IsLineEdge p edge → TakesEdgesOf p (runs p s edge g args).shown
   running s edge g args h = within (leb 256 (length s.callers)) (traps_by s Depth) (record { state = entered s g args; shown = takes edge ∷ shows (operation_of p g) enters }) tt (h, entering (operation_of p g))
 
   module _ (ok : IsChecked p) (s : SourceState) (g : IsConsistent p s) where

@@ -16,13 +16,13 @@ use Rattle.oat_journal.specs.Window.{executed_path}
 use Rattle.oat_follow.specs.Following.{Means, RunsAs}
 use Rattle.oat_frames.specs.Frames.{World}
 use Rattle.oat_match.specs.Compiled.{IsCompiled}
-use Rattle.oat_match.specs.Placed.{EdgesAreNamed, IsEdgeOf, placement}
+use Rattle.oat_match.specs.Placed.{EdgesAreNamed, IsLineEdge, placement}
 
 -- ---- the edges that a step takes are the program's
 
 abbrev pub TakesEdgesOf : Program → List (SourceEvent LineEdge) → Type 0
 TakesEdgesOf p [] = Unit {0}
-TakesEdgesOf p (takes edge ∷ es) = IsEdgeOf p edge × TakesEdgesOf p es
+TakesEdgesOf p (takes edge ∷ es) = IsLineEdge p edge × TakesEdgesOf p es
 TakesEdgesOf p (_ ∷ es) = TakesEdgesOf p es
 
 abbrev pub StepsTakeEdges : Type 0

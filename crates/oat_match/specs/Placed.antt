@@ -54,15 +54,15 @@ placement p w = record { edge = edge_in_image p w; begin = λ op. prologue_end w
 -- ---- names
 
 -- an edge that the lines of the program may take
-abbrev pub IsEdgeOf : Program → LineEdge → Type 0
-IsEdgeOf p (jumps from block) = code_line_at p from ≡ Some (terminator (Jump block))
-IsEdgeOf p (branches from bit block) = (x other : ℕ) × (code_line_at p from ≡ Some (terminator (if bit then Branch x block other else Branch x other block)))
-IsEdgeOf p (calls from func) = (x : ℕ) × (args : List ℕ) × (code_line_at p from ≡ Some (instruction (Call x func args)))
-IsEdgeOf p (icalls from func) = (func < length p.funcs) × (x y : ℕ) × (args : List ℕ) × (code_line_at p from ≡ Some (instruction (ICall x y args)))
-IsEdgeOf p (returns from back) =
+abbrev pub IsLineEdge : Program → LineEdge → Type 0
+IsLineEdge p (jumps from block) = code_line_at p from ≡ Some (terminator (Jump block))
+IsLineEdge p (branches from bit block) = (x other : ℕ) × (code_line_at p from ≡ Some (terminator (if bit then Branch x block other else Branch x other block)))
+IsLineEdge p (calls from func) = (x : ℕ) × (args : List ℕ) × (code_line_at p from ≡ Some (instruction (Call x func args)))
+IsLineEdge p (icalls from func) = (func < length p.funcs) × (x y : ℕ) × (args : List ℕ) × (code_line_at p from ≡ Some (instruction (ICall x y args)))
+IsLineEdge p (returns from back) =
     (x : ℕ) × (code_line_at p from ≡ Some (terminator (Ret x))) × (i : Instr) × (code_line_at p back ≡ Some (instruction i)) × (is_calling i ≡ true)
-IsEdgeOf p (finishes op) = Unit {0}
+IsLineEdge p (finishes op) = Unit {0}
 
 -- in the map of the image each has the name that it has in the source
 pub record EdgesAreNamed (p : Program) (w : World) : Type 0 where
-  pub named : (edge : LineEdge) → IsEdgeOf p edge → name_of w.image.map (edge_in_image p w edge) ≡ line_edge_name p edge
+  pub named : (edge : LineEdge) → IsLineEdge p edge → name_of w.image.map (edge_in_image p w edge) ≡ line_edge_name p edge
