@@ -12,6 +12,7 @@ mod One
 mod Refusing
 mod Programming
 mod Interpreting
+mod Building
 mod Admitting
 mod Verifying
 mod Policing

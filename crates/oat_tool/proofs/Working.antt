@@ -23,6 +23,12 @@ pub StopsWith-more : (P Q : Answer → Type 0) (s : Stop) → ((a : Answer) → 
 StopsWith-more P Q (stop.Refused text) more stops = more (refuses text.items) stops
 StopsWith-more P Q stop.Starved more stops = tt
 
+-- Work with weaker answers.
+pub Works-more : {P : Type 0} (text : P → List ℕ) (Q R : Answer → Type 0) (work : Result (Page P) Stop) → ((a : Answer) → Q a → R a)
+    → Works text Q work → Works text R work
+Works-more text Q R (Ok page) more works = more (shows page.ended (text page.pieces) page.err.items) works
+Works-more text Q R (Err stop) more works = StopsWith-more Q R stop more works
+
 -- a status of work
 abbrev pub IsDone : ℕ → Type 0
 IsDone status = (status ≡ 2) → ⊥

@@ -3,13 +3,14 @@ use Rattle.std.specs.Prelude.{◌≡◌, ℕ, List}
 use Rattle.oat_world.specs.Outside.{Contents}
 use Rattle.oat_first.specs.First.{First}
 use Rattle.oat_tool.specs.declared.command.Command.{Command}
-use Rattle.oat_tool.specs.declared.command.Command.TheVariants.{Run, Verify, Device, Policy}
+use Rattle.oat_tool.specs.declared.command.Command.TheVariants.{Run, Build, Verify, Device, Policy}
 use Rattle.oat_tool.specs.Outcome.{Outcome}
 use Rattle.oat_tool.specs.Texts.{usage}
 use Rattle.oat_tool.specs.Answer.{Answer, IsAnswered}
 use Rattle.oat_tool.specs.Loads.{File, AreLoaded, LoadsFail}
 use Rattle.oat_tool.specs.Commands.{IsLine, files_of}
 use Rattle.oat_tool.specs.Interpret.{Interprets}
+use Rattle.oat_tool.specs.Build.{Builds}
 use Rattle.oat_tool.specs.Verify.{Verifies}
 use Rattle.oat_tool.specs.Device.{Runs}
 use Rattle.oat_tool.specs.Policy.{Polices}
@@ -17,6 +18,7 @@ use Rattle.oat_tool.specs.Policy.{Polices}
 -- what a command answers to its files
 abbrev pub Does : Command → List File → Answer → Type 0
 Does Run = Interprets
+Does Build = Builds
 Does Verify = Verifies
 Does Device = Runs
 Does Policy = Polices

@@ -20,6 +20,8 @@ pub mod Report
 pub mod Programs
 pub mod Interpret
 pub mod InterpretLaws
+pub mod Build
+pub mod BuildLaws
 pub mod Verify
 pub mod VerifyLaws
 pub mod Headline

@@ -16,6 +16,8 @@ const POLICY_LIMIT: usize = 65_536;
 pub enum Command {
     /// Runs a program on the inputs of a case.
     Run,
+    /// Compiles a program into an image.
+    Build,
     /// Judges a blob against an image and a case.
     Verify,
     /// Runs a case on an image, measured.
@@ -31,6 +33,7 @@ impl Command {
     {
         match self {
             Command::Run => &["run"],
+            Command::Build => &["build"],
             Command::Verify => &["verify"],
             Command::Device => &["device"],
             Command::Policy => &["policy"],
@@ -43,6 +46,7 @@ impl Command {
     {
         match self {
             Command::Run => &[PROGRAM_LIMIT, CASE_LIMIT],
+            Command::Build => &[PROGRAM_LIMIT],
             Command::Verify => &[IMAGE_LIMIT, CASE_LIMIT, BLOB_LIMIT],
             Command::Device => &[IMAGE_LIMIT, CASE_LIMIT],
             Command::Policy => &[IMAGE_LIMIT, CASE_LIMIT, BLOB_LIMIT, POLICY_LIMIT],
@@ -51,8 +55,9 @@ impl Command {
 }
 
 /// The commands of the program.
-pub const COMMANDS: [Command; 4] = [
+pub const COMMANDS: [Command; 5] = [
     Command::Run,
+    Command::Build,
     Command::Verify,
     Command::Device,
     Command::Policy,

@@ -3,6 +3,7 @@
 ghost use Rattle.oat_tool.specs.DefinedLaws.{LinesNameFiles, OneCommand, OneOutcome, WorkIsOfCommand};
 ghost use Rattle.oat_tool.specs.CallLaws.{WholeIsPut, DefinedIsShown, TheDefinedIsShown, FrontIsPut, RefusalsAreQuiet, ReadFaultsAreTold};
 
+pub mod build;
 pub mod device;
 pub mod interpret;
 pub mod policy;

@@ -12,6 +12,7 @@ mod admit;
 mod asked;
 mod blob_lines;
 mod blob_text;
+mod build;
 mod command;
 mod device;
 mod feeding;

@@ -53,3 +53,29 @@ impl<P: Pieces + Drop, Q: Pieces + Drop> Pieces for Then<P, Q> {
         self.second.next(alloc)
     }
 }
+
+/// A text as one piece.
+#[derive(Debug, Drop)]
+pub struct Whole {
+    text: Option<Vec<u8>>,
+}
+
+impl Whole {
+    ghost use Rattle.std.specs.Prelude.{◌≡◌};
+
+    pub fn of(text: Vec<u8>) -> Whole
+        ensures { ⟦<Whole as Pieces>⟧.text result ≡ text.items }
+    {
+        Whole { text: Some(text) }
+    }
+}
+
+impl Pieces for Whole {
+    ghost text = { λ whole. text_of_some (λ text. text.items) whole.text };
+
+    ghost turns = { λ whole. turns_of_some (λ text. 1) whole.text };
+
+    fn next(&mut self, _alloc: Global) -> Result<Option<Vec<u8>>, AllocError> {
+        Ok(self.text.take())
+    }
+}

@@ -1,4 +1,5 @@
-ghost use Rattle.std.specs.Prelude.{◌≡◌, ℕ, List, Some};
+ghost use Rattle.std.specs.Prelude.{◌≡◌, ◌++◌, ℕ, List, Some, codes};
+ghost use Rattle.std.specs.Fmt.{decimal};
 ghost use Rattle.oat_tool.specs.Answer.{no_operation};
 ghost use Rattle.oat_tool.specs.Refusals.{rule_reason};
 ghost use Rattle.oat_tool.specs.Works.{IsRefusal, RefusesWith};
@@ -25,6 +26,14 @@ pub fn no_operation(alloc: Global, file: &str, op: u16) -> Result<Stop, AllocErr
     ensures { RefusesWith (no_operation file.now op) result }
 {
     let line = format!(in alloc; "refused {file} NoOperation {op}\n")?;
+    Ok(Stop::Refused(line.into_bytes()))
+}
+
+/// A program is refused, for code of so many words.
+pub fn too_large(alloc: Global, file: &str, words: usize) -> Result<Stop, AllocError>
+    ensures { IsRefusal file.now (codes "CodeTooLarge " ++ decimal words) result }
+{
+    let line = format!(in alloc; "refused {file} CodeTooLarge {words}\n")?;
     Ok(Stop::Refused(line.into_bytes()))
 }
 

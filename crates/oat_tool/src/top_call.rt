@@ -8,6 +8,7 @@ ghost use Rattle.oat_tool.specs.Call.{read_of, put_of, Ran};
 ghost use Rattle.oat_tool.specs.Headline.{Headlined};
 
 use crate::asked::{command_of, names_of};
+use crate::build::build_program;
 use crate::command::Command;
 use crate::device::device;
 use crate::files::{File, load_all};
@@ -37,6 +38,7 @@ fn work<O: Sink, E: Sink>(
 {
     match command {
         Command::Run => finish(alloc, interpret(alloc, files), out, err),
+        Command::Build => finish(alloc, build_program(alloc, files), out, err),
         Command::Verify => verify(alloc, files, out, err),
         Command::Device => finish(alloc, device(alloc, files), out, err),
         Command::Policy => police(alloc, files, out, err),

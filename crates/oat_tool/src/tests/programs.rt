@@ -1,7 +1,7 @@
 //! Calls of `run`.
 
 use super::texts::CASE;
-use super::{changed_file, expect, file};
+use super::{call, changed_file, expect, file};
 use oat_world::{MemoryFile, MemoryFiles, MemorySink};
 use std::alloc::{AllocError, Global};
 use std::process::Abort;
@@ -23,8 +23,13 @@ const DEEP: &str =
 const ELEMENT: &str =
     "array a 4\noperation 1 idle\nlocal z i64\nblock b0\nret z\nend\nmain\nlocal i i64\nlocal x i64\nblock b0\nconst i 3\nloadx x a i\nout x\nhalt\nend\n";
 
+/// An operation that stores and loads elements of a critical array, and a main function that asks for one more.
+const LIMITS: &str =
+    "criticals lim 3\noperation 1 work n:i64\nlocal k i64\nlocal v i64\nblock b0\nconst k 2\nconst v 9\nstorex lim k v\nloadx v lim k\nout v\nloadx v lim n\nret v\nend\nmain\nlocal n i64\nlocal s i64\nblock b0\ncall s work n\nout s\nconst n 3\nloadx s lim n\nhalt\nend\n";
+
 /// The texts of files.
-const TEXTS: [(&str, &str); 11] = [
+const TEXTS: [(&str, &str); 12] = [
+    ("Q", LIMITS),
     ("I", IDLE),
     ("S", LOOP),
     ("R", DEEP),
@@ -82,34 +87,41 @@ const LOOP_PATH: &str =
     "jump measure.b0#0 measure.test\nbranch measure.test#0 1 measure.body\ncall measure.body#0 scale\nret scale.b0#0 measure.body#0\ncall measure.body#1 clip\nbranch clip.b0#0 0 clip.under\nret clip.under#0 measure.body#1\njump measure.body#2 measure.test\nbranch measure.test#0 1 measure.body\ncall measure.body#0 scale\nret scale.b0#0 measure.body#0\ncall measure.body#1 clip\nbranch clip.b0#0 1 clip.over\nret clip.over#0 measure.body#1\njump measure.body#2 measure.test\nbranch measure.test#0 1 measure.body\ncall measure.body#0 scale\nret scale.b0#0 measure.body#0\ncall measure.body#1 clip\nbranch clip.b0#0 0 clip.under\nret clip.under#0 measure.body#1\njump measure.body#2 measure.test\nbranch measure.test#0 1 measure.body\ncall measure.body#0 scale\nret scale.b0#0 measure.body#0\ncall measure.body#1 clip\nbranch clip.b0#0 1 clip.over\nret clip.over#0 measure.body#1\njump measure.body#2 measure.test\nbranch measure.test#0 1 measure.body\ncall measure.body#0 scale\nret scale.b0#0 measure.body#0\ncall measure.body#1 clip\nbranch clip.b0#0 0 clip.under\nret clip.under#0 measure.body#1\njump measure.body#2 measure.test\nbranch measure.test#0 0 measure.done\nend 7\n";
 
 /// Runs of programs: a loop; the least number divided by -1, and a division by 0; elements of an array and none; a local
-/// that was never set; an input that isn't there; 256 calls and one more. The words, the run lines and the path lines.
-const RAN: [(&str, &str, &str); 10] = [
+/// that was never set; an input that isn't there; 256 calls and one more; elements of a critical array. The program, the
+/// case, the run lines and the path lines.
+const RAN: [(&str, &str, &str, &str); 11] = [
     (
-        "run S KS",
+        "S",
+        "KS",
         "out 30\nout 50\nout 48\nout 50\nout 0\nout 178\nended halted\n",
         LOOP_PATH,
     ),
-    ("run I KA", "ended halted\n", "end 1\n"),
+    ("I", "KA", "ended halted\n", "end 1\n"),
     (
-        "run DIVIDES KA",
+        "DIVIDES",
+        "KA",
         "out -9223372036854775808\nout 0\nended trap DivZero\n",
         "",
     ),
-    ("run INDEX_3 KA", "out 0\nended halted\n", ""),
-    ("run INDEX_4 KA", "ended trap Index\n", ""),
-    ("run INDEX_LESS KA", "ended trap Index\n", ""),
-    ("run UNSET KA", "ended trap NullCall\n", ""),
+    ("INDEX_3", "KA", "out 0\nended halted\n", ""),
+    ("INDEX_4", "KA", "ended trap Index\n", ""),
+    ("INDEX_LESS", "KA", "ended trap Index\n", ""),
+    ("UNSET", "KA", "ended trap NullCall\n", ""),
     (
-        "run S KS_4",
+        "S",
+        "KS_4",
         "out 30\nout 50\nout 48\nout 50\nended trap InputEnd\n",
         "",
     ),
-    ("run R KA", "out 256\nended halted\n", "end 1\n"),
-    ("run R_257 KA", "ended trap Depth\n", "end 1\n"),
+    ("R", "KA", "out 256\nended halted\n", "end 1\n"),
+    ("R_257", "KA", "ended trap Depth\n", "end 1\n"),
+    ("Q", "KA", "out 9\nout 0\nended trap Index\n", "end 1\n"),
 ];
 
 /// Programs that are refused, or their cases: the words, and what is said.
-const REFUSED: [(&str, &str); 11] = [
+const REFUSED: [(&str, &str); 13] = [
+    ("build NOWHERE", "refused NOWHERE 3 Unknown\n"),
+    ("build PLAIN", "refused PLAIN down more 0 OperationCall\n"),
     ("run GLOBL NOKEY", "refused GLOBL 1 Expected\n"),
     ("run NAME KA", "refused NAME 1 Token\n"),
     ("run LARGE KA", "refused LARGE 1 Number\n"),
@@ -157,9 +169,35 @@ fn expect_run(
 
 #[test]
 fn programs_are_run(rt: HostRuntime) -> Result<(), Fail> {
-    for (line, lines, path) in RAN {
+    for (program, case, lines, path) in RAN {
+        let line = format!(in rt.alloc(); "run {program} {case}")?;
         let text = format!(in rt.alloc(); "{lines}{path}")?;
-        expect_run(&rt, rt.alloc(), line, &[], (0, text.as_str(), ""))?;
+        expect_run(&rt, rt.alloc(), line.as_str(), &[], (0, text.as_str(), ""))?;
+    }
+    Ok(())
+}
+
+/// What a call puts on its first output.
+fn put_by(alloc: Global, line: &str, files: Vec<MemoryFile>) -> Result<Vec<u8>, AllocError> {
+    let mut files = MemoryFiles::new(files, Vec::new(alloc));
+    let mut out = MemorySink::new(4096, Vec::new(alloc));
+    let mut err = MemorySink::new(16, Vec::new(alloc));
+    call(alloc, line, &mut files, &mut out, &mut err)?;
+    Vec::from_slice(alloc, out.held())
+}
+
+/// The device puts, of the image that is built of a program, the run lines of the program's run.
+#[test]
+fn built_images_run_as_their_programs(rt: HostRuntime) -> Result<(), Fail> {
+    let alloc = rt.alloc();
+    for (program, case, lines, _) in RAN {
+        let build = format!(in alloc; "build {program}")?;
+        let image = put_by(alloc, build.as_str(), program_files(alloc)?)?;
+        let mut files = program_files(alloc)?;
+        files.push(file(alloc, "IMAGE", image.as_slice())?)?;
+        let device = format!(in alloc; "device IMAGE {case}")?;
+        let text = put_by(alloc, device.as_str(), files)?;
+        assert!(rt; text.as_slice().starts_with(lines.as_bytes()), "{program} {case}");
     }
     Ok(())
 }

@@ -1,0 +1,42 @@
+-- What the status of `build` says of the defined outcome (docs/PROMISES.md).
+use Rattle.std.specs.Prelude.{◌≡◌, ◌⊎◌, ℕ, List, [], ◌∷◌}
+use Rattle.oat_world.specs.Outside.{Contents}
+use Rattle.oat_image.specs.declared.image.Image.{Image}
+use Rattle.oat_image.specs.Grammar.{image_text}
+use Rattle.oat_ir.specs.declared.program.Program.{Program}
+use Rattle.oat_build.specs.Built.{IsImageOf}
+use Rattle.oat_tool.specs.declared.command.Command.TheVariants as commands
+use Rattle.oat_tool.specs.Outcome.{Outcome}
+use Rattle.oat_tool.specs.Answer.{Answer}
+use Rattle.oat_tool.specs.Loads.{File, AreLoaded}
+use Rattle.oat_tool.specs.Commands.{IsLine, files_of}
+use Rattle.oat_tool.specs.Programs.{IsCheckedText}
+use Rattle.oat_tool.specs.Defined.{Defined}
+use Rattle.oat_tool.specs.DefinedLaws.{IsOfWork}
+use Rattle.oat_tool.specs.Build.{Builds, ShowsImage}
+
+-- The file that the words name holds a checked program, and the outcome is the text of an image of it, with status 0.
+pub record IsBuiltImage (words : List (List ℕ)) (contents : Contents) (o : Outcome) : Type 0 where
+  pub program : File
+  pub held : AreLoaded contents (files_of words commands.Build) (program ∷ [])
+  pub p : Program
+  pub checked : IsCheckedText program.text p
+  pub image : Image
+  pub of_program : IsImageOf p image
+  pub is : o ≡ record { status = 0; out = image_text image; err = [] }
+
+-- A status of work is 0, and is that of an image of the program.
+abbrev pub BuildIsShown : Type 0
+BuildIsShown = (words : List (List ℕ)) (contents : Contents) (o : Outcome) → IsLine words commands.Build → Defined words contents o
+    → IsOfWork o.status → IsBuiltImage words contents o
+
+-- The file holds a checked program, and both answers are such as are shown of its image.
+pub record AreBuilt (file : File) (a b : Answer) : Type 0 where
+  pub p : Program
+  pub checked : IsCheckedText file.text p
+  pub one : ShowsImage file p a
+  pub other : ShowsImage file p b
+
+-- Of a file there is one answer, but for which image of a checked program it is.
+abbrev pub OneBuildRefusal : Type 0
+OneBuildRefusal = (file : File) (a b : Answer) → Builds (file ∷ []) a → Builds (file ∷ []) b → (a ≡ b) ⊎ AreBuilt file a b

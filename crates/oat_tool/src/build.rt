@@ -1,0 +1,40 @@
+ghost use Rattle.std.specs.Prelude.{◌≡◌, MatchResult, map};
+ghost use Rattle.oat_tool.specs.declared.command.Command.TheVariants as commands;
+ghost use Rattle.oat_tool.specs.Commands.{limits_of};
+ghost use Rattle.oat_tool.specs.Works.{Works, answer_in, StopsWith};
+ghost use Rattle.oat_tool.specs.Build.{Builds, ShowsImage};
+
+use crate::files::File;
+use crate::page::{Ended, Page, Stop};
+use crate::pieces::{Pieces, Whole};
+use crate::programs::checked_of;
+use crate::texts::too_large;
+use oat_build::{BuildFault, build};
+use oat_check::Checked;
+use oat_image::print_image;
+use std::alloc::Global;
+
+/// The text of an image of the program, or why there is none.
+fn image_page(alloc: Global, file: &File, checked: &Checked) -> Result<Page<Whole>, Stop>
+    ensures { Works ⟦<Whole as Pieces>⟧.text (ShowsImage file.now checked.now) result }
+{
+    match build(alloc, checked) {
+        Ok(shaped) => Ok(Page {
+            ended: Ended::Done,
+            pieces: Whole::of(print_image(alloc, shaped.image())?),
+            err: Vec::new(alloc),
+        }),
+        Err(BuildFault::CodeTooLarge(words)) => Err(too_large(alloc, file.name(), words)?),
+        Err(BuildFault::Memory) => Err(Stop::Starved),
+    }
+}
+
+/// Compiles the program of the file into an image.
+pub fn build_program(alloc: Global, files: &[File]) -> Result<Page<Whole>, Stop>
+    requires { map (λ file. file.limit) files.now ≡ limits_of commands.Build }
+    ensures { Works ⟦<Whole as Pieces>⟧.text (Builds files.now) result }
+{
+    let program = &files[0];
+    let checked = checked_of(alloc, program)?;
+    image_page(alloc, program, &checked)
+}
