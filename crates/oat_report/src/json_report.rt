@@ -81,14 +81,39 @@ fn members(alloc: Global, report: &Report) -> Result<Map<String, Value>, AllocEr
     ensures { IfOk result (λ members. members_view members.entries ≡ report_members report.now) }
 {
     let mut members = Map::new(alloc);
-    put(&mut members, alloc, "accepted", Value::from(is_accepted(&report.verdict)))?;
+    put(
+        &mut members,
+        alloc,
+        "accepted",
+        Value::from(is_accepted(&report.verdict)),
+    )?;
     if let Some(Verdict::Refuse(cause)) = &report.verdict {
         put(&mut members, alloc, "cause", cause_value(alloc, cause)?)?;
     }
-    put(&mut members, alloc, "end", plain_value(alloc, report.end.as_slice())?)?;
-    put(&mut members, alloc, "outputs", outputs_value(alloc, report.outputs.as_slice())?)?;
-    put(&mut members, alloc, "path", path_value(alloc, report.path.as_slice())?)?;
-    put(&mut members, alloc, "sealed", Value::from(report.verdict.is_some()))?;
+    put(
+        &mut members,
+        alloc,
+        "end",
+        plain_value(alloc, report.end.as_slice())?,
+    )?;
+    put(
+        &mut members,
+        alloc,
+        "outputs",
+        outputs_value(alloc, report.outputs.as_slice())?,
+    )?;
+    put(
+        &mut members,
+        alloc,
+        "path",
+        path_value(alloc, report.path.as_slice())?,
+    )?;
+    put(
+        &mut members,
+        alloc,
+        "sealed",
+        Value::from(report.verdict.is_some()),
+    )?;
     if let Some(serial) = report.serial {
         put(&mut members, alloc, "serial", Value::from(serial))?;
     }

@@ -111,7 +111,7 @@ fn replay(
 pub fn screen(shaped: &Shaped, session: &Session, blob: &BlobRef<'_>) -> Option<Cause>
     ensures { MatchOption result
         ((verdict : Verdict) → Replays (subject_of shaped.now session.now) blob.now.body verdict
-            → Judges (subject_of shaped.now session.now) blob.now.body blob.now.mac verdict)
+        → Judges (subject_of shaped.now session.now) blob.now.body blob.now.mac verdict)
         (λ cause. Judges (subject_of shaped.now session.now) blob.now.body blob.now.mac (Refuse cause)) }
 {
     let head = blob.head();

@@ -197,7 +197,10 @@ fn built_images_run_as_their_programs(rt: HostRuntime) -> Result<(), Fail> {
         files.push(file(alloc, "IMAGE", image.as_slice())?)?;
         let device = format!(in alloc; "device IMAGE {case}")?;
         let text = put_by(alloc, device.as_str(), files)?;
-        assert!(rt; text.as_slice().starts_with(lines.as_bytes()), "{program} {case}");
+        assert!(rt;
+            text.as_slice().starts_with(lines.as_bytes()),
+            "{program} {case}"
+        );
     }
     Ok(())
 }
