@@ -18,7 +18,7 @@ use Rattle.oat_blob.specs.Shown.{target_in, targets_in}
 use Rattle.oat_feed.specs.declared.places.RecordPlaces.{RecordPlaces}
 use Rattle.oat_feed.specs.RecordBytes.{bits_place, bits_size, targets_place, targets_size}
 use Rattle.oat_feed.specs.Counts.{IsCountAt}
-use Rattle.oat_feed.specs.RecordPlaces.{AreRecordPlaces, AreWithin, ShowsRecordPlaces, kept_bits, kept_targets}
+use Rattle.oat_feed.specs.RecordPlaces.{AreRecordPlaces, HoldsRecords, ShowsRecordPlaces, kept_bits, kept_targets}
 use Rattle.oat_feed.specs.Verdict.{AreRecordsOf, of_blob}
 use Rattle.oat_feed.proofs.PartsAt.{at_bit_count, at_bits, at_target_count, at_targets, bits_place_is, part_at}
 use Rattle.oat_feed.proofs.RoomLeft.{sizes}
@@ -96,7 +96,7 @@ slice_get-targets_in count bytes i below = slice_get-map-range (target_in bytes)
 
 -- the places of a whole blob, and what stands there
 pub record HasRecords (places : RecordPlaces) (bytes : List ℕ) (body : Body) : Type 0 where
-  pub within : AreWithin places bytes
+  pub within : HoldsRecords places bytes
   pub bits : kept_bits places bytes ≡ body.bits
   pub targets : kept_targets places bytes ≡ body.targets
 

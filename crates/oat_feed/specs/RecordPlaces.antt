@@ -34,6 +34,6 @@ abbrev pub kept_targets : RecordPlaces → List ℕ → List ℕ
 kept_targets places bytes = targets_in places.target_count (drop places.targets_at bytes)
 
 -- there are bytes for each record
-pub record AreWithin (places : RecordPlaces) (bytes : List ℕ) : Type 0 where
+pub record HoldsRecords (places : RecordPlaces) (bytes : List ℕ) : Type 0 where
   pub bits : places.bits_at + (places.bit_count + 7) / 8 ≤ length bytes
   pub targets : places.targets_at + places.target_count * 8 ≤ length bytes

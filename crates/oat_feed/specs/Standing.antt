@@ -10,9 +10,13 @@ use Rattle.oat_feed.specs.declared.intake.Intake.{Intake}
 use Rattle.oat_feed.specs.declared.feed.Feed.{Feed}
 use Rattle.oat_feed.specs.RecordPlaces.{records_before}
 
+-- the bytes of a blob that are no record bytes are at most 152, and at most 4096 are looked at together
+abbrev pub feed_room : ℕ
+feed_room = 4248
+
 -- beside the record bytes of the front there is room for all other bytes of a blob, and for a chunk
 abbrev pub KeepsRoom : List ℕ → ℕ → Type 0
-KeepsRoom front capacity = (body : Body) (mac rest : List ℕ) → IsBlob (front ++ rest) body mac → records_before body (length front) + 4248 ≤ capacity
+KeepsRoom front capacity = (body : Body) (mac rest : List ℕ) → IsBlob (front ++ rest) body mac → records_before body (length front) + feed_room ≤ capacity
 
 -- all bytes are in the front; or the next one is one that no blob has there
 abbrev pub KeepsFront : State → (came front : List ℕ) (capacity : ℕ) → Type 0

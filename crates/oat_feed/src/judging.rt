@@ -5,7 +5,7 @@ ghost use Rattle.oat_map.specs.Walk.{returns_of};
 ghost use Rattle.oat_blob.specs.Body.{Body};
 ghost use Rattle.oat_chain.specs.Standing.{StandsFor};
 ghost use Rattle.oat_verify.specs.Verdict.{subject_of, Judges, JudgesPath, Replays, CarriesSerial};
-ghost use Rattle.oat_feed.specs.RecordPlaces.{AreWithin, kept_bits, kept_targets};
+ghost use Rattle.oat_feed.specs.RecordPlaces.{HoldsRecords, kept_bits, kept_targets};
 ghost use Rattle.oat_feed.specs.Verdict.{IsFeedVerdict, AreRecordsOf, Tells};
 
 use crate::places::RecordPlaces;
@@ -91,7 +91,7 @@ pub fn judge_bytes(
     requires { IsSome (start shaped.now.map.rows session.now.op) }
     ensures verdict { IfOk result (λ judged. IsFeedVerdict (subject_of shaped.now session.now) bytes.now judged.verdict) }
     ensures serial { IfOk result (λ judged. CarriesSerial bytes.now judged.serial) }
-    ensures within { IfOk result (λ judged. AreWithin judged.places bytes.now) }
+    ensures within { IfOk result (λ judged. HoldsRecords judged.places bytes.now) }
     ensures records { IfOk result (λ judged. AreRecordsOf bytes.now (record { bits = kept_bits judged.places bytes.now; targets = kept_targets judged.places bytes.now })) }
 {
     match decode(bytes) {

@@ -12,21 +12,21 @@ pub struct Kept {
 
 impl Model for Kept {
     ghost use Rattle.oat_feed.specs.Verdict.{RecordLists};
-    ghost use Rattle.oat_feed.specs.RecordPlaces.{AreWithin, kept_bits, kept_targets};
+    ghost use Rattle.oat_feed.specs.RecordPlaces.{HoldsRecords, kept_bits, kept_targets};
 
     ghost Value = { RecordLists };
 
     ghost view = { λ kept. record { bits = kept_bits kept.places kept.bytes.items; targets = kept_targets kept.places kept.bytes.items } };
 
-    ghost invariant = { λ kept. AreWithin kept.places kept.bytes.items };
+    ghost invariant = { λ kept. HoldsRecords kept.places kept.bytes.items };
 }
 
 impl Kept {
     ghost use Rattle.std.specs.Prelude.{◌≡◌};
-    ghost use Rattle.oat_feed.specs.RecordPlaces.{AreWithin, kept_bits, kept_targets};
+    ghost use Rattle.oat_feed.specs.RecordPlaces.{HoldsRecords, kept_bits, kept_targets};
 
     pub(crate) fn at(places: RecordPlaces, bytes: Vec<u8>) -> Kept
-        requires { AreWithin places bytes.items }
+        requires { HoldsRecords places bytes.items }
         ensures bits { result.bits ≡ kept_bits places bytes.items }
         ensures targets { result.targets ≡ kept_targets places bytes.items }
     {

@@ -7,7 +7,7 @@ use Rattle.std.specs.declared.alloc.AllocError.{AllocError}
 use Rattle.oat_verify.specs.Verdict.{CarriesSerial, Subject}
 use Rattle.oat_feed.specs.declared.verdict.Settled.{Settled}
 use Rattle.oat_feed.specs.Verdict.{AreRecordsOf, IsFeedVerdict}
-use Rattle.oat_tool.specs.Settles.{Settles}
+use Rattle.oat_tool.specs.Settles.{SettlesBlob}
 use Rattle.oat_feed.specs.declared.feed.Feed.{Feed}
 use Rattle.oat_feed.specs.Standing.{HasBeenFed}
 use Rattle.oat_tool.specs.BlobText.{HasDigits, IsBlobText}
@@ -119,7 +119,7 @@ pub chunk_decoded : (digits first : List ℕ) (size : ℕ) → decode_pairs 0 di
 chunk_decoded digits first size is long = decode_sized-twice digits size long ∙ (decode_of-even digits (omega (arith, long)) ∙ is)
 
 pub settles_all : (s : Subject) (bytes : List ℕ) (result : Result Settled AllocError) → IfOk result (λ settled. IsFeedVerdict s bytes settled.verdict)
-    → IfOk result (λ settled. AreRecordsOf bytes settled.kept) → IfOk result (λ settled. CarriesSerial bytes settled.serial) → IfOk result (Settles s bytes)
+    → IfOk result (λ settled. AreRecordsOf bytes settled.kept) → IfOk result (λ settled. CarriesSerial bytes settled.serial) → IfOk result (SettlesBlob s bytes)
 settles_all s bytes (Ok settled) verdict kept serial = record { verdict = verdict; kept = kept; serial = serial }
 settles_all s bytes (Err starved) verdict kept serial = tt
 

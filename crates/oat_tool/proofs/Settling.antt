@@ -13,7 +13,7 @@ use Rattle.oat_feed.specs.declared.verdict.FeedVerdict.{FeedVerdict}
 use Rattle.oat_feed.specs.declared.verdict.FeedVerdict.TheVariants as feeds
 use Rattle.oat_feed.specs.declared.verdict.Settled.{Settled}
 use Rattle.oat_feed.specs.Verdict.{AreRecordsOf, RecordLists, of_blob, of_none, feed_verdict_of}
-use Rattle.oat_tool.specs.Settles.{HasPath, IsPathOf, Settles, TellsVerdict}
+use Rattle.oat_tool.specs.Settles.{HasPath, IsPathOf, SettlesBlob, TellsVerdict}
 
 -- the records that are kept of an accepted blob are those of its path
 kept_path : (s : Subject) (bytes : List ℕ) (kept : RecordLists) (path : List Edge) → AreRecordsOf bytes kept → Accepts s bytes path → IsPathOf s.map s.session.op kept path
@@ -23,7 +23,7 @@ kept_path s bytes kept path (of_blob body mac is bits targets) accepts =
     (subst (λ (xs : List ℕ). IsWalked s.map s.session.op accepts.body.bits xs path) (sym (targets ∙ ap (λ (b : Body). b.targets) one)) accepts.walked)
 kept_path s bytes kept path (of_none none bits targets) accepts = absurd (none accepts.body accepts.mac accepts.is_blob)
 
-pub tells : (s : Subject) (bytes : List ℕ) (settled : Settled) (settles : Settles s bytes settled) → TellsVerdict s.map s.session.op settled settles.verdict.verdict
+pub tells : (s : Subject) (bytes : List ℕ) (settled : Settled) (settles : SettlesBlob s bytes settled) → TellsVerdict s.map s.session.op settled settles.verdict.verdict
 tells s bytes settled settles = record {
   told = settles.verdict.told;
   walked = λ path is. kept_path s bytes settled.kept path settles.kept ((acceptance_at_once s bytes path).0 (subst (IsVerdict s bytes) is settles.verdict.right));
@@ -36,7 +36,7 @@ pub accepted : (v : Verdict) → feed_verdict_of v ≡ feeds.Accept → (path : 
 accepted (Accept path) same = (path, refl)
 accepted (Refuse cause) same = absurd (never cause same)
 
-pub has_path : (s : Subject) (bytes : List ℕ) (settled : Settled) → Settles s bytes settled → HasPath s.map s.session.op settled
+pub has_path : (s : Subject) (bytes : List ℕ) (settled : Settled) → SettlesBlob s bytes settled → HasPath s.map s.session.op settled
 has_path s bytes settled settles is =
     let found = accepted settles.verdict.verdict (sym settles.verdict.told ∙ is) in
     (found.0, (tells s bytes settled settles).walked found.0 found.1)

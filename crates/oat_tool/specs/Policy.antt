@@ -27,7 +27,7 @@ use Rattle.oat_tool.specs.BlobText.{HasDigits, IsBlobText}
 use Rattle.oat_tool.specs.Refusals.{RefusesBlob}
 use Rattle.oat_tool.specs.Admits.{Admits, AreAdmitted}
 use Rattle.oat_feed.specs.declared.verdict.Settled.{Settled}
-use Rattle.oat_tool.specs.Settles.{Settles}
+use Rattle.oat_tool.specs.Settles.{SettlesBlob}
 use Rattle.oat_tool.specs.Verify.{Concludes}
 
 -- ---- the policy's file
@@ -75,7 +75,7 @@ pub record ConcludesWith (subject : Subject) (rules : List PolicyRule) (bytes : 
 
 -- what was settled of a blob, and what the rules say of an accepted path
 pub record SettlesWith (subject : Subject) (rules : List PolicyRule) (bytes : List ℕ) (settled : Settled) (said : Option PolicyVerdict) : Type 0 where
-  pub settles : Settles subject bytes settled
+  pub settles : SettlesBlob subject bytes settled
   pub is_said : said ≡ said_of subject.map rules settles.verdict.verdict
 
 abbrev pub Polices : List File → Answer → Type 0

@@ -4,7 +4,7 @@ ghost use Rattle.oat_map.specs.Rows.{IsOperation};
 ghost use Rattle.oat_verify.specs.Verdict.{Subject, subject_of};
 ghost use Rattle.oat_feed.specs.Standing.{HasBeenFed};
 ghost use Rattle.oat_tool.specs.BlobText.{AreDigits};
-ghost use Rattle.oat_tool.specs.Settles.{Settles};
+ghost use Rattle.oat_tool.specs.Settles.{OnDigits, SettlesBlob};
 
 use oat_case::Session;
 use oat_feed::{Feed, Settled};
@@ -41,7 +41,7 @@ pub fn settle(
 ) -> Result<Settled, AllocError>
     requires operation { IsOperation shaped.now.map session.now.op }
     requires digits { AreDigits digits.now }
-    ensures { (bytes : List ℕ) → decode_of digits.now ≡ Ok bytes → IfOk result (Settles (subject_of shaped.now session.now) bytes) }
+    ensures { OnDigits digits.now (λ bytes. IfOk result (SettlesBlob (subject_of shaped.now session.now) bytes)) }
 {
     let mut feed = Feed::new(alloc, shaped, session)?;
     feed_digits(&mut feed, digits)?;

@@ -1,5 +1,4 @@
-ghost use Rattle.std.specs.Prelude.{◌≡◌, ◌≢◌, ◌<◌, ◌⊎◌, ◌++◌, ℕ, List, Ok, map, IfOk, IsSome, MatchResult};
-ghost use Rattle.hex.specs.Hex.{decode_of};
+ghost use Rattle.std.specs.Prelude.{◌≡◌, ◌≢◌, ◌<◌, ◌⊎◌, map, IfOk, IsSome, MatchResult};
 ghost use Rattle.oat_world.specs.Outside.{Rose};
 ghost use Rattle.oat_lines.specs.declared.fault.Fault.TheVariants.{Memory};
 ghost use Rattle.oat_lines.specs.FaultText.{fault_text};
@@ -14,9 +13,7 @@ ghost use Rattle.oat_tool.specs.Call.{put_of};
 ghost use Rattle.oat_tool.specs.Outcome.{line};
 ghost use Rattle.oat_tool.specs.Commands.{policy_limit, limits_of};
 ghost use Rattle.oat_tool.specs.Pieces.{turns_of_some};
-ghost use Rattle.oat_tool.specs.Puts.{PutsAll};
-ghost use Rattle.oat_tool.specs.Report.{report_text};
-ghost use Rattle.oat_tool.specs.Settles.{HasPath, TellsVerdict};
+ghost use Rattle.oat_tool.specs.Settles.{HasPath, OnDigits, PutsReport, ShowsOnDigits, TellsVerdict};
 ghost use Rattle.oat_tool.specs.Shows.{Shows};
 ghost use Rattle.oat_tool.specs.Works.{IsRefusal, StopsWith};
 ghost use Rattle.oat_tool.specs.Policy.{IsPolicyText, RefusesPolicy, said_of, policy_text, said_text, ended_by, ConcludesWith, IsOpenedWith, Polices, SettlesWith};
@@ -144,7 +141,7 @@ fn rule(
 ) -> Result<Ruled, AllocError>
     requires operation { IsOperation shaped.now.map session.now.op }
     requires digits { AreDigits digits.now }
-    ensures { (bytes : List ℕ) → decode_of digits.now ≡ Ok bytes → IfOk result (λ ruled. SettlesWith (subject_of shaped.now session.now) policy.now bytes ruled.settled ruled.said) }
+    ensures { OnDigits digits.now (λ bytes. IfOk result (λ ruled. SettlesWith (subject_of shaped.now session.now) policy.now bytes ruled.settled ruled.said)) }
 {
     let settled = settle(alloc, shaped, session, digits)?;
     let said = said_of(alloc, policy, shaped, session.op, &settled)?;
@@ -161,8 +158,7 @@ fn put_ruled<S: Sink>(
 ) -> Result<(), SinkFault>
     requires begun { IsSome (start shaped.now.map.rows op) }
     requires path { HasPath shaped.now.map op ruled.now.settled }
-    ensures { (verdict : Verdict) → TellsVerdict shaped.now.map op ruled.now.settled verdict
-        → PutsAll (report_text shaped.now.map ruled.now.settled.serial verdict ++ said_text ruled.now.said) (put_of S.told S.faults sink.old sink.new) result }
+    ensures { PutsReport shaped.now.map op ruled.now.settled (said_text ruled.now.said) (put_of S.told S.faults sink.old sink.new) result }
 {
     put_report(alloc, sink, shaped, op, &ruled.settled)?;
     put_pieces(alloc, sink, PolicyLine { said: ruled.said })
@@ -177,8 +173,7 @@ fn conclude_with<O: Sink, E: Sink>(
 ) -> u8
     requires operation { IsOperation opened.now.admitted.shaped.map opened.now.admitted.case.session.op }
     requires digits { AreDigits opened.now.digits.now }
-    ensures shows { (bytes : List ℕ) → decode_of opened.now.digits.now ≡ Ok bytes
-        → Shows (IsAnswered (ConcludesWith (subject_of opened.now.admitted.shaped opened.now.admitted.case.session) opened.now.rules bytes))
+    ensures shows { ShowsOnDigits opened.now.digits.now (ConcludesWith (subject_of opened.now.admitted.shaped opened.now.admitted.case.session) opened.now.rules)
         (put_of O.told O.faults out.old out.new) (put_of E.told E.faults err.old err.new) result }
     ensures write_fault { result ≡ 5 → Rose (O.faults out.old) (O.faults out.new) ⊎ Rose (E.faults err.old) (E.faults err.new) }
     ensures raised { (O.faults out.old < O.faults out.new) ⊎ (E.faults err.old < E.faults err.new) → result ≡ 5 }

@@ -8,7 +8,7 @@ ghost use Rattle.oat_tool.specs.Outcome.{line};
 ghost use Rattle.oat_tool.specs.Report.{path_text, report_text, ended_of};
 ghost use Rattle.oat_tool.specs.Puts.{PutsAll};
 ghost use Rattle.oat_tool.specs.Call.{put_of};
-ghost use Rattle.oat_tool.specs.Settles.{HasPath, IsPathOf, TellsVerdict};
+ghost use Rattle.oat_tool.specs.Settles.{HasPath, IsPathOf, PutsPath, TellsVerdict};
 
 use crate::page::Ended;
 use crate::put::put_all;
@@ -75,8 +75,7 @@ fn put_path<S: Sink>(
 ) -> Result<(), SinkFault>
     requires begun { IsSome (start shaped.now.map.rows op) }
     requires walked { (path : List Edge) × IsPathOf shaped.now.map op kept.now path }
-    ensures { (path : List Edge) → IsPathOf shaped.now.map op kept.now path
-        → PutsAll (path_text shaped.now.map path) (put_of S.told S.faults sink.old sink.new) result }
+    ensures { PutsPath shaped.now.map op kept.now (put_of S.told S.faults sink.old sink.new) result }
 {
     let map = &shaped.image().map;
     let Ok(mut replay) = Replay::new(alloc, map, op) else {

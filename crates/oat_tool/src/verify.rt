@@ -1,5 +1,4 @@
-ghost use Rattle.std.specs.Prelude.{◌≡◌, ◌≢◌, ◌<◌, ◌⊎◌, ℕ, List, Ok, map, MatchResult};
-ghost use Rattle.hex.specs.Hex.{decode_of};
+ghost use Rattle.std.specs.Prelude.{◌≡◌, ◌≢◌, ◌<◌, ◌⊎◌, map, MatchResult};
 ghost use Rattle.oat_world.specs.Outside.{Rose};
 ghost use Rattle.oat_map.specs.Rows.{IsOperation};
 ghost use Rattle.oat_verify.specs.Verdict.{subject_of};
@@ -8,6 +7,7 @@ ghost use Rattle.oat_tool.specs.Answer.{IsAnswered};
 ghost use Rattle.oat_tool.specs.BlobText.{AreDigits};
 ghost use Rattle.oat_tool.specs.Commands.{limits_of};
 ghost use Rattle.oat_tool.specs.Call.{put_of};
+ghost use Rattle.oat_tool.specs.Settles.{ShowsOnDigits};
 ghost use Rattle.oat_tool.specs.Shows.{Shows};
 ghost use Rattle.oat_tool.specs.Works.{StopsWith};
 ghost use Rattle.oat_tool.specs.Verify.{Concludes, IsOpened, Verifies};
@@ -55,8 +55,8 @@ fn conclude<O: Sink, E: Sink>(
 ) -> u8
     requires operation { IsOperation shaped.now.map session.now.op }
     requires digits { AreDigits digits.now }
-    ensures shows { (bytes : List ℕ) → decode_of digits.now ≡ Ok bytes
-        → Shows (IsAnswered (Concludes (subject_of shaped.now session.now) bytes)) (put_of O.told O.faults out.old out.new) (put_of E.told E.faults err.old err.new) result }
+    ensures shows { ShowsOnDigits digits.now (Concludes (subject_of shaped.now session.now))
+        (put_of O.told O.faults out.old out.new) (put_of E.told E.faults err.old err.new) result }
     ensures write_fault { result ≡ 5 → Rose (O.faults out.old) (O.faults out.new) ⊎ Rose (E.faults err.old) (E.faults err.new) }
     ensures raised { (O.faults out.old < O.faults out.new) ⊎ (E.faults err.old < E.faults err.new) → result ≡ 5 }
     ensures no_fault { result ≢ 4 }

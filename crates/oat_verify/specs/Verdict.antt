@@ -96,6 +96,11 @@ pub record Accepts (s : Subject) (bytes : List ℕ) (path : List Edge) : Type 0 
   pub hash : body.head.hash ≡ chain (head_of s body.head.serial) (returns_of path)
   pub clean : body.head.violation ≡ None
 
+-- what was looked at before the replay: the replay decides, or this cause stands
+abbrev pub Screens : Subject → Body → List ℕ → Option Cause → Type 0
+Screens s body mac found =
+    MatchOption found ((v : Verdict) → Replays s body v → Judges s body mac v) (λ cause. Judges s body mac (Refuse cause))
+
 -- the verdict on a path where nothing, or this cause, stands against it
 abbrev pub verdict_by : List Edge → Option Cause → Verdict
 verdict_by path None = Accept path

@@ -1,4 +1,4 @@
-ghost use Rattle.std.specs.Prelude.{◌≡◌, ◌↔◌, ◌++◌, ◌∷◌, [], ℕ, List, IsTrue, IfOk, MatchOption};
+ghost use Rattle.std.specs.Prelude.{◌≡◌, ◌↔◌, ◌++◌, ◌∷◌, [], ℕ, List, IsTrue, IfOk};
 ghost use Rattle.oat_hmac.specs.Hmac.{hmac};
 ghost use Rattle.oat_chain.specs.Chain.{chain};
 ghost use Rattle.oat_chain.specs.Standing.{StandsFor};
@@ -7,11 +7,9 @@ ghost use Rattle.oat_map.specs.Walk.{returns_of};
 ghost use Rattle.oat_blob.specs.Body.{Body};
 ghost use Rattle.oat_blob.specs.Layout.{covered_of};
 ghost use Rattle.oat_map.specs.Rows.{IsOperation};
-ghost use Rattle.oat_verify.specs.declared.verdict.Verdict.{Verdict};
-ghost use Rattle.oat_verify.specs.declared.verdict.Verdict.TheVariants.{Refuse};
-ghost use Rattle.oat_verify.specs.Verdict.{subject_of, FitsSession, Judges, JudgesPath, Replays, IsVerdict, CarriesSerial, verdict_by};
+ghost use Rattle.oat_verify.specs.Verdict.{subject_of, FitsSession, Judges, JudgesPath, Replays, Screens, IsVerdict, verdict_by};
 
-use crate::verdict::{Cause, Settled, Verdict};
+use crate::verdict::{Cause, Verdict};
 use oat_blob::{BlobRef, BodyHead, decode};
 use oat_case::Session;
 use oat_chain::{Chain, window_head};
@@ -109,10 +107,7 @@ fn replay(
 
 /// The first thing that stands against a blob before its replay: its MAC, nonce, serial number, operation or image.
 pub fn screen(shaped: &Shaped, session: &Session, blob: &BlobRef<'_>) -> Option<Cause>
-    ensures { MatchOption result
-        ((verdict : Verdict) → Replays (subject_of shaped.now session.now) blob.now.body verdict
-        → Judges (subject_of shaped.now session.now) blob.now.body blob.now.mac verdict)
-        (λ cause. Judges (subject_of shaped.now session.now) blob.now.body blob.now.mac (Refuse cause)) }
+    ensures { Screens (subject_of shaped.now session.now) blob.now.body blob.now.mac result }
 {
     let head = blob.head();
     if !has_right_mac(session, blob) {
@@ -149,32 +144,6 @@ fn judge(
     }
 }
 
-/// The verdict on a blob's bytes, in a session for one of the image's operations, and the serial
-/// number that they carry.
-///
-/// The error is want of memory.
-pub fn settle(
-    alloc: Global,
-    shaped: &Shaped,
-    session: &Session,
-    blob: &[u8],
-) -> Result<Settled, AllocError>
-    requires { IsOperation shaped.now.map session.now.op }
-    ensures verdict { IfOk result (λ settled. IsVerdict (subject_of shaped.now session.now) blob.now settled.verdict) }
-    ensures serial { IfOk result (λ settled. CarriesSerial blob.now settled.serial) }
-{
-    match decode(blob) {
-        Ok(blob) => Ok(Settled {
-            verdict: judge(alloc, shaped, session, &blob)?,
-            serial: blob.head().serial,
-        }),
-        Err(fault) => Ok(Settled {
-            verdict: Verdict::Refuse(Cause::Form(fault.offset)),
-            serial: None,
-        }),
-    }
-}
-
 /// The verdict on a blob's bytes, in a session for one of the image's operations.
 ///
 /// The error is want of memory.
@@ -187,6 +156,8 @@ pub fn verify(
     requires { IsOperation shaped.now.map session.now.op }
     ensures { IfOk result (IsVerdict (subject_of shaped.now session.now) blob.now) }
 {
-    let settled = settle(alloc, shaped, session, blob)?;
-    Ok(settled.verdict)
+    match decode(blob) {
+        Ok(blob) => judge(alloc, shaped, session, &blob),
+        Err(fault) => Ok(Verdict::Refuse(Cause::Form(fault.offset))),
+    }
 }
