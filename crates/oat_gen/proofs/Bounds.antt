@@ -95,9 +95,11 @@ func_among p ok places same f g at =
     subst (λ (ps : List GlobalPlace). IsFuncAmong ps g) (sym same) (record {
       program = p;
       is = func_formed p ok f g at;
-      slots = few_locals p ok f g at;
-      count = as_many 0 0 p.globals;
-      low = All-from_recursion HasLowWord (global_places p) (places_low 0 0 p.globals (omega (arith, rules.words)));
+      has = record {
+        slots = few_locals p ok f g at;
+        count = as_many 0 0 p.globals;
+        low = All-from_recursion HasLowWord (global_places p) (places_low 0 0 p.globals (omega (arith, rules.words)));
+      };
     })
 
 -- ---- what the loops ask

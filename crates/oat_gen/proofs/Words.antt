@@ -43,6 +43,7 @@ use Rattle.oat_gen.specs.Marked.{marked_start, marked_return, marked_call, marke
 use Rattle.oat_gen.specs.Code.{instruction_code, terminator_code, line_code, block_code, function_code}
 use Rattle.oat_gen.specs.Laws.{FunctionsHaveTheirCode, ProgramsHaveFewWords}
 use Rattle.oat_gen.proofs.Bounds.{few_locals}
+use Rattle.oat_gen.proofs.Building.{are_codes}
 use Rattle.oat_gen.proofs.Expanding.{marked_code_expands, other_code_stays}
 
 -- the words of code whose expansion is known
@@ -192,7 +193,7 @@ many_codes code f (g ∷ gs) = ap suc (many_codes code (f + 1) gs)
 pub programs_have_few_words : CodesAreOfTheProgram → FunctionsHaveTheirCode → ProgramsHaveFewWords
 programs_have_few_words codes functions p ok =
     let cs = codes_from (function_code p) 0 p.funcs in
-    let are = codes p (function_code p) (λ f func at. functions p f func ok at) in
+    let are = are_codes codes functions p ok in
     let total = codes_have (symbols_of p) (symbols_of p).functions (codes_of (function_code p) p) are in
     let low : main_at p < length cs = omega (arith, main_within p ok, many_codes (function_code p) 0 p.funcs) in
     let same = same_words (main_at p) cs low in

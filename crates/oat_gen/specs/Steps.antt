@@ -26,28 +26,28 @@ HasLowWord (Critical word cell len) = word ≤ 65536
 abbrev pub AreInSlots : List ℕ → Type 0
 AreInSlots args = (length args ≤ 4) × All (λ x. x < 255) args
 
--- an instruction of a function with slots for its locals, in a program with as many globals as there are places
+-- a function with slots for its locals, in a program with as many globals as there are places
+pub record HasSlotsAndPlaces (program : Program) (func : Func) (places : List GlobalPlace) : Type 0 where
+  pub slots : length func.locals ≤ 255
+  pub count : length program.globals ≡ length places
+  pub low : All HasLowWord places
+
+-- an instruction, a block, and all blocks of such a function
 pub record IsInstrAmong (places : List GlobalPlace) (instr : Instr) : Type 0 where
   pub program : Program
   pub func : Func
   pub is : IsInstr program func instr
-  pub slots : length func.locals ≤ 255
-  pub count : length program.globals ≡ length places
-  pub low : All HasLowWord places
+  pub has : HasSlotsAndPlaces program func places
 
 pub record IsBlockAmong (places : List GlobalPlace) (func : Func) (block : BlockIr) : Type 0 where
   pub program : Program
   pub is : IsBlockIr program func block
-  pub slots : length func.locals ≤ 255
-  pub count : length program.globals ≡ length places
-  pub low : All HasLowWord places
+  pub has : HasSlotsAndPlaces program func places
 
 pub record IsFuncAmong (places : List GlobalPlace) (func : Func) : Type 0 where
   pub program : Program
   pub is : IsFunc program func
-  pub slots : length func.locals ≤ 255
-  pub count : length program.globals ≡ length places
-  pub low : All HasLowWord places
+  pub has : HasSlotsAndPlaces program func places
 
 -- ---- functions
 

@@ -101,10 +101,7 @@ fn main_at(program: &Program) -> usize
     ensures within { result < length program.now.funcs }
 {
     let funcs = program.funcs.as_slice();
-    match find_main(funcs) {
-        Some(main) => main,
-        None => funcs.len(),
-    }
+    find_main(funcs).unwrap_or(funcs.len())
 }
 
 fn find_main(funcs: &[Func]) -> Option<usize>

@@ -17,3 +17,6 @@ mod moves;
 pub use fault::GenFault;
 pub use generation::generate;
 pub use globals::GlobalPlace;
+
+#[cfg(test)]
+mod tests;
