@@ -5,10 +5,10 @@ mod addresses;
 mod compiler;
 mod data;
 mod fault;
-mod references;
 mod image;
 pub mod laws;
 mod names;
+mod references;
 mod rows;
 mod symbols;
 
