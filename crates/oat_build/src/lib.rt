@@ -14,3 +14,6 @@ mod symbols;
 
 pub use compiler::build;
 pub use fault::BuildFault;
+
+#[cfg(test)]
+mod tests;
