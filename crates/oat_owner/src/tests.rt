@@ -159,6 +159,7 @@ fn calls_are_replied(rt: HostRuntime) -> Result<(), Fail> {
     laws::accepted_by_verdict();
     laws::calls_go_on();
     laws::accepted_is_issued();
+    laws::frames_tell();
     Ok(())
 }
 
