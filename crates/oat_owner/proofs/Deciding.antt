@@ -1,6 +1,9 @@
 -- The calls and replies before it leave one reply.
 use Rattle.std.proofs.Common.{◌≡◌, ℕ, ◌<◌, Bool, true, false, List, length, slice_get, Option, Some, None, Err, sym, ap, subst, ◌∙◌, inl, inr, arith}
+use Rattle.std.proofs.Common.{◌++◌, take, drop}
 use Rattle.std.proofs.lemmas.Bool.{cases_lt}
+use Rattle.std.proofs.lemmas.Nat.{from_be_bytes-to_be_bytes_2, from_be_bytes-to_be_bytes_4}
+use Rattle.std.specs.Int.{w16, w32, to_be_bytes, from_be_bytes}
 use Rattle.oat_first.specs.First.{IsOne, IsDecisive}
 use Rattle.oat_first.proofs.FirstLaws.{First-one, Tests-decisive}
 use Rattle.oat_verify.specs.Verdict.{subject_of}
@@ -17,19 +20,19 @@ use Rattle.oat_owner.specs.declared.call.OwnerReply.TheVariants as replies
 use Rattle.oat_owner.specs.Frames.{Delivery, IsAnswerFrame, IsFrameOffset}
 use Rattle.oat_owner.specs.Ledger.{Ledger, device_of, number_with, number_to}
 use Rattle.oat_owner.specs.Replies.{IssueReply, OrRefused, OrUsed, IsIssueReply, Asked, IsAsked, Judged, challenge_session, judged, IsAnswerReply}
-use Rattle.oat_owner.specs.Laws.{OneReply}
+use Rattle.oat_owner.specs.Laws.{OneReply, ChallengeFramesTell, AnswerFramesTell, OneFrameOffset}
 use Rattle.oat_owner.proofs.Answering.{only_delivery}
 
 -- ---- frames
 
-one_delivery : (bytes : List ℕ) → IsOne Delivery (IsAnswerFrame bytes)
+pub one_delivery : AnswerFramesTell
 one_delivery bytes d e is is' =
     only_delivery d.device d.nonce (length d.blob) is.device is.nonce is.few d.blob e (subst (λ (xs : List ℕ). IsAnswerFrame xs e) is.layout is')
 
 offset_above : (bytes : List ℕ) (one two : ℕ) → IsFrameOffset bytes one → IsFrameOffset bytes two → one < two → ⊥
 offset_above bytes one two first second below = first.longest two below second.within second.begins
 
-one_offset : (bytes : List ℕ) → IsOne ℕ (IsFrameOffset bytes)
+pub one_offset : OneFrameOffset
 one_offset bytes one two first second =
     elim (cases_lt one two) [
       | inl below ↦ absurd (offset_above bytes one two first second below)
@@ -38,6 +41,21 @@ one_offset bytes one two first second =
         | inr same ↦ omega (arith, above, same)
       ]
     ]
+
+pub challenge_frames_tell : ChallengeFramesTell
+challenge_frames_tell device op other_device other_op nonce other_nonce fits other_fits small other_small sixteen other_sixteen = (
+  (let count = sixteen.counted in omega (arith, count)),
+  λ same.
+      let behind_front : to_be_bytes w32 device ++ (to_be_bytes w16 op ++ nonce) ≡ to_be_bytes w32 other_device ++ (to_be_bytes w16 other_op ++ other_nonce) = ap (drop 5) same in
+      let devices : to_be_bytes w32 device ≡ to_be_bytes w32 other_device = ap (take 4) behind_front in
+      let behind_device : to_be_bytes w16 op ++ nonce ≡ to_be_bytes w16 other_op ++ other_nonce = ap (drop 4) behind_front in
+      let ops : to_be_bytes w16 op ≡ to_be_bytes w16 other_op = ap (take 2) behind_device in
+      let nonces : nonce ≡ other_nonce = ap (drop 2) behind_device in (
+        sym (from_be_bytes-to_be_bytes_4 device fits) ∙ ap (from_be_bytes w32) devices ∙ from_be_bytes-to_be_bytes_4 other_device other_fits,
+        sym (from_be_bytes-to_be_bytes_2 op small) ∙ ap (from_be_bytes w16) ops ∙ from_be_bytes-to_be_bytes_2 other_op other_small,
+        nonces,
+      ),
+)
 
 -- ---- a look-up that finds, or a fixed answer
 

@@ -1,5 +1,5 @@
 -- What an owner's replies are good for, in any order and number of calls.
-use Rattle.std.specs.Prelude.{◌≡◌, ◌<◌, ℕ, List, [], ◌∷◌, ◌++◌, length, slice_get, take, Some}
+use Rattle.std.specs.Prelude.{◌≡◌, ◌<◌, ◌^◌, ℕ, List, [], ◌∷◌, ◌++◌, length, slice_get, take, Some}
 use Rattle.oat_map.specs.declared.edge.Edge.{Edge}
 use Rattle.oat_verify.specs.declared.verdict.Verdict.TheVariants.{Accept}
 use Rattle.oat_verify.specs.Verdict.{subject_of, IsVerdict}
@@ -10,7 +10,8 @@ use Rattle.oat_owner.specs.declared.call.OwnerCall.{OwnerCall}
 use Rattle.oat_owner.specs.declared.call.OwnerCall.TheVariants as calls
 use Rattle.oat_owner.specs.declared.call.OwnerReply.{OwnerReply}
 use Rattle.oat_owner.specs.declared.call.OwnerReply.TheVariants as replies
-use Rattle.oat_owner.specs.Frames.{IsAnswerFrame}
+use Rattle.oat_blob.specs.Body.{AreBytes}
+use Rattle.oat_owner.specs.Frames.{Delivery, challenge_frame, IsAnswerFrame, IsFrameOffset}
 use Rattle.oat_owner.specs.Ledger.{Ledger, device_of}
 use Rattle.oat_owner.specs.Replies.{challenge_session, IsAnswerReply, behind_answer}
 use Rattle.oat_owner.specs.Exchanges.{Exchange, IsReply, behind, CallByCall, issued_by, owner_behind, AreReplies}
@@ -57,3 +58,20 @@ CallsGoOn = (l m : Ledger) (exchanges : List Exchange) (e : Exchange) → CallBy
 abbrev pub AcceptedIsIssued : Type 0
 AcceptedIsIssued = (l : Ledger) (frame : List ℕ) (number : ℕ) (path : List Edge) → IsAnswerReply l frame (Accepted number path)
     → number < length (behind_answer l (Accepted number path)).challenges
+
+-- ---- frames
+
+-- A challenge frame has 27 bytes, and tells its device, operation and nonce.
+abbrev pub ChallengeFramesTell : Type 0
+ChallengeFramesTell = (device op other_device other_op : ℕ) (nonce other_nonce : List ℕ) → device < 2 ^ 32 → other_device < 2 ^ 32 → op < 2 ^ 16 → other_op < 2 ^ 16
+    → AreBytes 16 nonce → AreBytes 16 other_nonce
+    → (length (challenge_frame device op nonce) ≡ 27)
+    × (challenge_frame device op nonce ≡ challenge_frame other_device other_op other_nonce → (device ≡ other_device) × (op ≡ other_op) × (nonce ≡ other_nonce))
+
+-- Bytes are the frame of one answer at most.
+abbrev pub AnswerFramesTell : Type 0
+AnswerFramesTell = (bytes : List ℕ) (d e : Delivery) → IsAnswerFrame bytes d → IsAnswerFrame bytes e → d ≡ e
+
+-- Bytes stop being an answer frame at one place.
+abbrev pub OneFrameOffset : Type 0
+OneFrameOffset = (bytes : List ℕ) (one two : ℕ) → IsFrameOffset bytes one → IsFrameOffset bytes two → one ≡ two

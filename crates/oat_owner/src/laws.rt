@@ -1,6 +1,6 @@
 //! Laws of an owner's replies, in any order and number of calls: each function's contract is the law.
 
-ghost use Rattle.oat_owner.specs.Laws.{AcceptedByVerdict, AcceptedIsIssued, AcceptedOnce, CallsGiveReplies, CallsGoOn, OneReply};
+ghost use Rattle.oat_owner.specs.Laws.{AcceptedByVerdict, AcceptedIsIssued, AcceptedOnce, AnswerFramesTell, CallsGiveReplies, CallsGoOn, ChallengeFramesTell, OneFrameOffset, OneReply};
 
 /// Each reply is the one that the calls and replies before it give.
 pub fn calls_give_replies()
@@ -30,4 +30,11 @@ pub fn calls_go_on()
 /// The number of an acceptance is that of an issued challenge.
 pub fn accepted_is_issued()
     ensures { AcceptedIsIssued }
+{}
+
+/// Frames tell what they bring.
+pub fn frames_tell()
+    ensures challenges { ChallengeFramesTell }
+    ensures answers { AnswerFramesTell }
+    ensures offsets { OneFrameOffset }
 {}

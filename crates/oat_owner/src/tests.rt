@@ -159,6 +159,7 @@ fn calls_are_replied(rt: HostRuntime) -> Result<(), Fail> {
     laws::accepted_by_verdict();
     laws::calls_go_on();
     laws::accepted_is_issued();
+    laws::frames_tell();
     Ok(())
 }
 
@@ -174,5 +175,16 @@ fn devices_have_ids_of_their_own(rt: HostRuntime) -> Result<(), Fail> {
         .err()
         .map(|refusal| refusal.fault);
     assert_eq!(rt; fault, Some(OwnerFault::Twice(3)));
+    Ok(())
+}
+
+#[test]
+fn a_challenge_has_its_devices_image(rt: HostRuntime) -> Result<(), Fail> {
+    let text = ONE_JUMP.as_bytes();
+    assert!(rt; text.len() <= 16_777_216);
+    let mut owner = owner(rt.alloc(), text)?;
+    owner.issue(rt.alloc(), 7, 1, NONCE)?;
+    let digest = owner.shaped(0).digest();
+    assert_eq!(rt; digest[0], 0xbf);
     Ok(())
 }
