@@ -5,6 +5,7 @@ mod bare;
 mod call;
 mod course;
 mod device;
+mod entry;
 pub mod laws;
 mod monitor;
 mod start;
@@ -12,5 +13,6 @@ mod writes;
 
 pub use call::call_numbered;
 pub use device::Device;
+pub use entry::Entry;
 pub use oat_journal::{DeviceEnd, StopKind};
 pub use oat_measure::MonitorCall;
