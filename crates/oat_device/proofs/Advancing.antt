@@ -22,13 +22,14 @@ use Rattle.oat_journal.specs.declared.end.DeviceEnd.TheVariants.{Halted, OutOfSt
 use Rattle.oat_journal.specs.Measured.{Run, dev, opening_of}
 use Rattle.oat_journal.specs.Progress.{Progress, call_told, measured_turn, progress_of_run, with_measurement}
 use Rattle.oat_journal.specs.Run.{Entry, Running, bare, ends_with, found, moves_on, told, turn, with_input, with_output}
+use Rattle.oat_journal.specs.Window.{made_call}
 use Rattle.oat_journal.proofs.RunLaws.{turns_are_the_run, turns_make_steps}
 use Rattle.oat_device.specs.Advancing.{HasEntry, HasNoEntry, end_by_now}
 use Rattle.oat_device.specs.declared.course.Course.{Course}
 use Rattle.oat_device.specs.declared.entry.Entry.{Entry as ShownEntry}
 use Rattle.oat_device.specs.DeviceRun.{DeviceRun, run_so_far}
 use Rattle.oat_device.specs.Standing.{HasMade, progress_of, turns_of}
-use Rattle.oat_device.proofs.Growing.{Adds, adds, goes, stays}
+use Rattle.oat_device.proofs.Growing.{Adds, adds, goes, next_entry, stays}
 use Rattle.oat_device.proofs.Runs.{Turned, run-next, turns-ended, turns-going}
 
 -- ---- an instruction that ends a run by itself makes no monitor call
@@ -149,6 +150,7 @@ module _ (now next : Course) (image : Image) (case : Case) (begin_at : ℕ) (s :
         ∙ ends-unmeasured now.bare.code.now now.bare.writes.now o (progress_of now) why going (sym (ap (λ (p : Progress). p.running.end) turned) ∙ ended) in
         record {
           ends = inr (subst IsSome (sym end) refl);
+          whole = turns-ended next why ended ∙ (t.steps ∙ s.steps);
           measured = ap (λ (r : Run). r.measurements) makes-next
               ∙ (sym (ap (λ (p : Progress). p.measurements) progress-next) ∙ (kept ∙ (ap (λ (p : Progress). p.measurements) progress-now
               ∙ ap (λ (n : ℕ). (run n).measurements) (sym (turns-going now going)))));
@@ -189,13 +191,16 @@ module _ (now next : Course) (image : Image) (case : Case) (begin_at : ℕ) (s :
       let a = added on in
       let both : Some a.adds.fetches.word ≡ Some word = sym (fetches-there a) ∙ at in
       let same : a.adds.fetches.word ≡ word = cc in
-      let entry : Entry = record { inst = a.adds.fetches.inst; found = found case.writes (bare image case.inputs case.writes now.bare.made); left = (bare image case.inputs case.writes (now.bare.made + 1)).machine.regs } in
+      let entry = next_entry image o case.inputs case.writes now.bare.made a.adds.fetches.inst in
       record {
         went_on = went_on;
         goes_on = a.ends_not;
+        counted = turns-going next on ∙ (t.made ∙ ap (λ (n : ℕ). n + 1) (sym (turns-going now going)));
         entry = entry;
         behind = ap (λ (r : Run). r.journal) makes-next
             ∙ (a.adds.journal_is ∙ ap (λ (n : ℕ). (run n).journal ++ entry ∷ []) (sym (turns-going now going)));
+        measured = ap (λ (n : ℕ). measured_on o (run n).measurements (made_call entry)) (turns-going now going)
+            ∙ (a.adds.measured ∙ ap (λ (r : Run). Ok r.measurements) (sym makes-next));
         shows = record {
           word = subst (Word a.adds.fetches.inst) same (word_from_inst a.adds.fetches.inst a.adds.fetches.word a.adds.fetches.is);
           pc = ap (λ (r : Regs). r.pc) a.found_at;

@@ -112,6 +112,36 @@ stops-behind o (call ∷ xs) ys m h = by (measured_on o m call) h (λ next g. st
   by (Ok next) g rest = let low = rest next g in omega (arith, low)
   by (Err why) g rest = absurd (let q : Some why ≡ None = g in cc)
 
+-- where no call brings a stop, the measurement goes on behind them
+record GoesOn (o : Opening) (m behind : Measurements) (all ys : Calls) : Type 0 where
+  measurements : (measures o m all).measurements ≡ (measures o behind ys).measurements
+  stop : (measures o m all).stop ≡ (measures o behind ys).stop
+
+measured-more : (o : Opening) (xs ys : Calls) (m : Measurements) → (measures o m xs).stop ≡ None → GoesOn o m (measures o m xs).measurements (xs ++ ys) ys
+unfolding measures
+measured-more o [] ys m h = record { measurements = refl; stop = refl }
+measured-more o (call ∷ xs) ys m h = by (measured_on o m call) refl h (λ next g. measured-more o xs ys next g) where
+  by : (r : Result Measurements StopKind) → measured_on o m call ≡ r → (with_rest m r (λ (next : Measurements). measures o next xs)).stop ≡ None
+      → ((next : Measurements) → (measures o next xs).stop ≡ None → GoesOn o next (measures o next xs).measurements (xs ++ ys) ys)
+      → GoesOn o m (with_rest m (measured_on o m call) (λ (next : Measurements). measures o next xs)).measurements (call ∷ (xs ++ ys)) ys
+  by (Ok next) was g rest =
+      let on = rest next g in
+      let first : measures o m (call ∷ (xs ++ ys)) ≡ with_rest m (Ok next) (λ (later : Measurements). measures o later (xs ++ ys)) = ap (λ (r : Result Measurements StopKind). with_rest m r (λ (later : Measurements). measures o later (xs ++ ys))) was in
+      let front : (measures o next xs).measurements ≡ (with_rest m (measured_on o m call) (λ (later : Measurements). measures o later xs)).measurements = ap (λ (r : Result Measurements StopKind). (with_rest m r (λ (later : Measurements). measures o later xs)).measurements) (sym was) in
+      record {
+        measurements = ap (λ (all : Measured). all.measurements) first ∙ (on.measurements ∙ ap (λ (behind : Measurements). (measures o behind ys).measurements) front);
+        stop = ap (λ (all : Measured). all.stop) first ∙ (on.stop ∙ ap (λ (behind : Measurements). (measures o behind ys).stop) front);
+      }
+  by (Err why) was g rest = absurd (let q : Some why ≡ None = g in cc)
+
+last-measured : (o : Opening) (m : Measurements) (call : Option MonitorCall) → (measures o m (call ∷ [])).stop ≡ None → measured_on o m call ≡ Ok (measures o m (call ∷ [])).measurements
+unfolding measures
+last-measured o m call h = by (measured_on o m call) refl h where
+  by : (r : Result Measurements StopKind) → measured_on o m call ≡ r → (with_rest m r (λ (next : Measurements). measures o next [])).stop ≡ None
+      → measured_on o m call ≡ Ok (with_rest m (measured_on o m call) (λ (next : Measurements). measures o next [])).measurements
+  by (Ok next) was g = was ∙ ap (λ (r : Result Measurements StopKind). Ok (with_rest m r (λ (later : Measurements). measures o later [])).measurements) (sym was)
+  by (Err why) was g = absurd (let q : Some why ≡ None = g in cc)
+
 length-map : {X Y : Type 0} (f : X → Y) (xs : List X) → length (map f xs) ≡ length xs
 length-map f [] = refl
 length-map f (x ∷ xs) = ap suc (length-map f xs)
@@ -203,10 +233,13 @@ module _ (image : Image) (o : Opening) (inputs : List ℤ) (writes : List Write)
   -- ---- the next instruction
 
   -- the instruction that a run makes next, where that doesn't end it, and its entry behind the others
+  abbrev pub next_entry : ℕ → Inst → Entry
+  next_entry n inst = record { inst = inst; found = found writes (bare image inputs writes n); left = (bare image inputs writes (n + 1)).machine.regs }
+
   pub record Adds (n : ℕ) : Type 0 where
     pub fetches : Fetched image.code (bare image inputs writes n).machine.regs.pc
-    pub journal_is : (run (n + 1)).journal ≡ (run n).journal
-        ++ record { inst = fetches.inst; found = found writes (bare image inputs writes n); left = (bare image inputs writes (n + 1)).machine.regs } ∷ []
+    pub journal_is : (run (n + 1)).journal ≡ (run n).journal ++ next_entry n fetches.inst ∷ []
+    pub measured : measured_on o (run n).measurements (made_call (next_entry n fetches.inst)) ≡ Ok (run (n + 1)).measurements
 
   journal-one : (s : Running) (e : Entry) → entry image.code writes s ≡ Some e → journal_from image.code writes 1 s ≡ e ∷ []
   unfolding journal_from
@@ -221,13 +254,22 @@ module _ (image : Image) (o : Opening) (inputs : List ℤ) (writes : List Write)
       sym ((turns_add image.code writes n 1 (started image inputs)).run ∙ one-turn image.code writes s) in
       let turned : (turn image.code writes s).end ≡ None = ap (λ (r : Running). r.end) behind ∙ h.end in
       let f = fetched image.code writes s g.end turned in
-      let first : entry image.code writes s ≡ Some (record { inst = f.inst; found = found writes s; left = (bare image inputs writes (n + 1)).machine.regs }) =
+      let e = next_entry n f.inst in
+      let first : entry image.code writes s ≡ Some e =
       noted image.code writes s g.end turned f ∙ ap (λ (r : Running). Some (record { inst = f.inst; found = found writes s; left = r.machine.regs })) behind in
+      let one : more n 1 ≡ e ∷ [] = journal-one s e first in
+      let start = at_start o (start_cells image) in
+      let calls = map made_call (journal image inputs writes n) in
+      let all : made (n + 1) ≡ measures o start (calls ++ made_call e ∷ []) = made-more n 1 ∙ ap (λ (es : List Entry). measures o start (calls ++ map made_call es)) one in
+      let on_from = measured-more o calls (made_call e ∷ []) start g.stop in
+      let last = last-measured o (made n).measurements (made_call e) (sym on_from.stop ∙ (sym (ap (λ (m : Measured). m.stop) all) ∙ h.stop)) in
       record {
         fetches = f;
         journal_is = ap (λ (r : Run). r.journal) h.run_is
-            ∙ (journal-more n 1 ∙ (ap (λ (es : List Entry). journal image inputs writes n ++ es) (journal-one s _ first)
-            ∙ ap (λ (es : List Entry). es ++ record { inst = f.inst; found = found writes s; left = (bare image inputs writes (n + 1)).machine.regs } ∷ []) (sym (ap (λ (r : Run). r.journal) g.run_is))));
+            ∙ (journal-more n 1 ∙ (ap (λ (es : List Entry). journal image inputs writes n ++ es) one
+            ∙ ap (λ (es : List Entry). es ++ e ∷ []) (sym (ap (λ (r : Run). r.journal) g.run_is))));
+        measured = ap (λ (r : Run). measured_on o r.measurements (made_call e)) g.run_is
+            ∙ (last ∙ ap Ok (sym on_from.measurements ∙ (sym (ap (λ (m : Measured). m.measurements) all) ∙ sym (ap (λ (r : Run). r.measurements) h.run_is))));
       }
 
 pub measured_runs_stay : MeasuredRunsStay

@@ -1,14 +1,16 @@
 -- What one instruction more makes of a device and shows of itself, and what holds of measured runs of more and more instructions (docs/DEFINITIONS.md, "Measured run").
-use Rattle.std.specs.Prelude.{◌≡◌, ◌+◌, ◌⊎◌, ℕ, ℤ, List, ◌∷◌, [], ◌++◌, nat_lt, if◌then◌else◌, Option, Some, None, IsSome}
+use Rattle.std.specs.Prelude.{◌≡◌, ◌+◌, ◌⊎◌, ℕ, ℤ, List, ◌∷◌, [], ◌++◌, nat_lt, if◌then◌else◌, Option, Some, None, IsSome, Ok}
 use Rattle.oat_a64.specs.Table.{Word}
 use Rattle.oat_case.specs.declared.case.Write.{Write}
 use Rattle.oat_image.specs.declared.image.Image.{Image}
 use Rattle.oat_measure.specs.declared.opening.Opening.{Opening}
 use Rattle.oat_measure.specs.Measurement.{measuring}
+use Rattle.oat_measure.specs.Shelving.{measured_on}
 use Rattle.oat_journal.specs.declared.end.DeviceEnd.{DeviceEnd}
 use Rattle.oat_journal.specs.declared.end.DeviceEnd.TheVariants.{OutOfSteps}
 use Rattle.oat_journal.specs.Measured.{Run, dev}
 use Rattle.oat_journal.specs.Run.{Entry, next_of, pc_of}
+use Rattle.oat_journal.specs.Window.{made_call}
 use Rattle.oat_device.specs.declared.entry.Entry.{Entry as ShownEntry}
 use Rattle.oat_device.specs.DeviceRun.{DeviceRun, run_so_far, window_opening}
 
@@ -37,17 +39,20 @@ pub record ShowsEntry (shown : ShownEntry) (e : Entry) : Type 0 where
   pub x10 : shown.x10 ≡ e.found.regs.x 10
   pub x30 : shown.x30 ≡ e.found.regs.x 30
 
--- The run went on, and this instruction didn't end it: its entry is shown, behind those of the others.
+-- The run went on, and this instruction didn't end it: its entry is shown, behind those of the others, and its monitor call is measured.
 pub record HasEntry (old new : DeviceRun) (shown : ShownEntry) : Type 0 where
   pub went_on : end_by_now old ≡ None
   pub goes_on : (run_so_far new).end ≡ None
+  pub counted : new.turns ≡ old.turns + 1
   pub entry : Entry
   pub behind : (run_so_far new).journal ≡ (run_so_far old).journal ++ entry ∷ []
+  pub measured : measured_on (window_opening old) (run_so_far old).measurements (made_call entry) ≡ Ok (run_so_far new).measurements
   pub shows : ShowsEntry shown entry
 
--- The run had ended, by itself or with its steps, or this instruction ends it by itself; it measured nothing.
+-- The run had ended, by itself or with its steps, or this instruction ends it by itself: it is whole, and nothing more was measured.
 pub record HasNoEntry (old new : DeviceRun) : Type 0 where
   pub ends : IsSome (end_by_now old) ⊎ IsSome (run_so_far new).end
+  pub whole : new.turns ≡ new.case.steps
   pub measured : (run_so_far new).measurements ≡ (run_so_far old).measurements
 
 -- ---- laws
