@@ -11,7 +11,6 @@ mod monitor;
 mod start;
 mod writes;
 
-pub use call::call_numbered;
 pub use device::Device;
 pub use entry::Entry;
 pub use oat_journal::{DeviceEnd, StopKind};
