@@ -15,3 +15,4 @@ pub use device::Device;
 pub use entry::Entry;
 pub use oat_journal::{DeviceEnd, StopKind};
 pub use oat_measure::MonitorCall;
+pub use start::first_words;

@@ -1,0 +1,6 @@
+mod Closing
+mod Staging
+mod Overs
+mod Targets
+mod Taking
+mod Using

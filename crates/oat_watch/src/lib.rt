@@ -1,0 +1,10 @@
+//! The run beside its verdict.
+#![tactic(auto)]
+
+mod cells;
+mod edge;
+mod rows;
+mod watched;
+mod window;
+
+pub use watched::{CheckedUse, Watched, WatchedWindow};
