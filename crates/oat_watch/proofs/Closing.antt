@@ -3,6 +3,7 @@ use Rattle.std.proofs.Common.{◌≡◌, ◌++◌, ◌∷◌, ◌∙◌, ◌+◌
 use Rattle.std.specs.Prelude.{◌||◌}
 use Rattle.std.specs.List.{list_any}
 use Rattle.oat_events.specs.Windows.{beyond, inside, is_closed, past, through, up_to}
+use Rattle.oat_watch.specs.Collecting.{is_opened}
 
 -- ---- one test
 
@@ -72,11 +73,6 @@ through-beyond t (y ∷ xs) = by (t y) (through-beyond t xs) where
 -- ---- windows
 
 module _ {X : Type 0} (opens seals : X → Bool) where
-  -- window s was opened
-  pub is_opened : ℕ → List X → Bool
-  is_opened zero xs = list_any opens xs
-  is_opened (suc s) xs = is_opened s (past opens seals xs)
-
   -- so many windows are closed
   abbrev pub AreClosed : ℕ → List X → Type 0
   AreClosed n xs = (s : ℕ) → s < n → is_closed opens seals s xs ≡ true
@@ -106,12 +102,12 @@ module _ {X : Type 0} (opens seals : X → Bool) where
   -- ---- no window is open
 
   pub record Opens (n : ℕ) (xs : List X) (x : X) : Type 0 where
-    pub opened : is_opened n (xs ++ x ∷ []) ≡ opens x
+    pub opened : is_opened opens seals n (xs ++ x ∷ []) ≡ opens x
     pub closed : is_closed opens seals n (xs ++ x ∷ []) ≡ false
     pub inside_is : inside opens seals n (xs ++ x ∷ []) ≡ []
     pub up_to_is : up_to opens seals n (xs ++ x ∷ []) ≡ xs ++ x ∷ []
 
-  pub opening : (n : ℕ) (xs : List X) (x : X) → AreClosed n xs → is_opened n xs ≡ false → Opens n xs x
+  pub opening : (n : ℕ) (xs : List X) (x : X) → AreClosed n xs → is_opened opens seals n xs ≡ false → Opens n xs x
   unfolding is_opened
   opening zero xs x closed none =
       let rest = beyond-last opens xs x none in
@@ -129,7 +125,7 @@ module _ {X : Type 0} (opens seals : X → Bool) where
       let two = ap (through seals) (beyond-more opens xs (x ∷ []) (opened-first xs first)) ∙ through-stays seals (beyond opens xs) (x ∷ []) first in
       let parts = ap (λ zs. through opens xs ++ zs) (through-beyond seals (beyond opens xs)) ∙ through-beyond opens xs in
       record {
-        opened = ap (is_opened n) past_is ∙ next.opened;
+        opened = ap (is_opened opens seals n) past_is ∙ next.opened;
         closed = ap (is_closed opens seals n) past_is ∙ next.closed;
         inside_is = ap (inside opens seals n) past_is ∙ next.inside_is;
         up_to_is = ap (λ zs. (zs ++ through seals (beyond opens (xs ++ x ∷ []))) ++ up_to opens seals n (past opens seals (xs ++ x ∷ []))) one
@@ -142,14 +138,14 @@ module _ {X : Type 0} (opens seals : X → Bool) where
   -- ---- one is
 
   pub record Goes (n : ℕ) (xs : List X) (x : X) : Type 0 where
-    pub opened : is_opened n (xs ++ x ∷ []) ≡ true
+    pub opened : is_opened opens seals n (xs ++ x ∷ []) ≡ true
     pub closed : is_closed opens seals n (xs ++ x ∷ []) ≡ seals x
     pub inside_is : inside opens seals n (xs ++ x ∷ []) ≡ inside opens seals n xs ++ x ∷ []
     pub up_to_is : up_to opens seals n (xs ++ x ∷ []) ≡ up_to opens seals n xs
     -- none is opened behind it
-    pub behind : is_opened (suc n) (xs ++ x ∷ []) ≡ false
+    pub behind : is_opened opens seals (suc n) (xs ++ x ∷ []) ≡ false
 
-  pub going : (n : ℕ) (xs : List X) (x : X) → AreClosed n xs → is_opened n xs ≡ true → is_closed opens seals n xs ≡ false → Goes n xs x
+  pub going : (n : ℕ) (xs : List X) (x : X) → AreClosed n xs → is_opened opens seals n xs ≡ true → is_closed opens seals n xs ≡ false → Goes n xs x
   unfolding is_opened
   going zero xs x closed some shut =
       let rest = beyond-more opens xs (x ∷ []) some in
@@ -167,11 +163,11 @@ module _ {X : Type 0} (opens seals : X → Bool) where
       let one = through-stays opens xs (x ∷ []) (opened-first xs first) in
       let two = ap (through seals) (beyond-more opens xs (x ∷ []) (opened-first xs first)) ∙ through-stays seals (beyond opens xs) (x ∷ []) first in
       record {
-        opened = ap (is_opened n) past_is ∙ next.opened;
+        opened = ap (is_opened opens seals n) past_is ∙ next.opened;
         closed = ap (is_closed opens seals n) past_is ∙ next.closed;
         inside_is = ap (inside opens seals n) past_is ∙ next.inside_is;
         up_to_is = ap (λ zs. (zs ++ through seals (beyond opens (xs ++ x ∷ []))) ++ up_to opens seals n (past opens seals (xs ++ x ∷ []))) one
             ∙ (ap (λ zs. (through opens xs ++ zs) ++ up_to opens seals n (past opens seals (xs ++ x ∷ []))) two
             ∙ ap (λ zs. (through opens xs ++ through seals (beyond opens xs)) ++ zs) (ap (up_to opens seals n) past_is ∙ next.up_to_is));
-        behind = ap (is_opened (suc n)) past_is ∙ next.behind;
+        behind = ap (is_opened opens seals (suc n)) past_is ∙ next.behind;
       }

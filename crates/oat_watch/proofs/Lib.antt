@@ -1,5 +1,7 @@
 mod Closing
 mod Staging
+mod Collecting
+mod Whole
 mod Overs
 mod Targets
 mod Taking

@@ -14,9 +14,9 @@ use Rattle.oat_journal.specs.Window.{is_made}
 -- how a session goes on from one stage to the next, with the call that it measures
 pub data Turn (o : Opening) (m next : Measurements) (call : Option MonitorCall) : Type 0 where
   stays_out : m.state.stage ≡ unmeasured → next.state.stage ≡ unmeasured → length next.shelved ≡ length m.shelved → is_made (opens o.op o.begin_at) call ≡ false → Turn o m next call
-  opens_one : m.state.stage ≡ unmeasured → next.state.stage ≡ measuring → length next.shelved ≡ length m.shelved → is_made (opens o.op o.begin_at) call ≡ true → Turn o m next call
+  opens_window : m.state.stage ≡ unmeasured → next.state.stage ≡ measuring → length next.shelved ≡ length m.shelved → is_made (opens o.op o.begin_at) call ≡ true → Turn o m next call
   stays_in : m.state.stage ≡ measuring → next.state.stage ≡ measuring → length next.shelved ≡ length m.shelved → is_made (seals o.op) call ≡ false → Turn o m next call
-  seals_one : m.state.stage ≡ measuring → next.state.stage ≡ unmeasured → length next.shelved ≡ length m.shelved + 1 → is_made (seals o.op) call ≡ true → Turn o m next call
+  seals_due : m.state.stage ≡ measuring → next.state.stage ≡ unmeasured → length next.shelved ≡ length m.shelved + 1 → is_made (seals o.op) call ≡ true → Turn o m next call
   seals_last : m.state.stage ≡ measuring → next.state.stage ≡ sealed → length next.shelved ≡ length m.shelved → is_due o next.state.serial ≡ false → is_made (seals o.op) call ≡ true → Turn o m next call
   stays_after : m.state.stage ≡ sealed → next.state.stage ≡ sealed → length next.shelved ≡ length m.shelved → is_due o next.state.serial ≡ is_due o m.state.serial → Turn o m next call
 
@@ -41,7 +41,7 @@ stays-unmeasured o m next call s was is none leaves =
 opens-now : (o : Opening) (m next : Measurements) (call : MonitorCall) (s : State) → m.state.stage ≡ unmeasured → s.stage ≡ measuring → is_made (opens o.op o.begin_at) (Some call) ≡ true → Leaves o m next s → Turn o m next (Some call)
 opens-now o m next call s was is one leaves =
     let same : record { shelved = m.shelved; state = s } ≡ next = sym (settled-by o (record { shelved = m.shelved; state = s }) measuring is) ∙ leaves in
-    opens_one was (ap (λ (n : Measurements). n.state.stage) (sym same) ∙ is) (ap (λ (n : Measurements). length n.shelved) (sym same)) one
+    opens_window was (ap (λ (n : Measurements). n.state.stage) (sym same) ∙ is) (ap (λ (n : Measurements). length n.shelved) (sym same)) one
 
 begins-turn : (o : Opening) (m next : Measurements) (call : MonitorCall) (b : Bool) (s : State) → m.state.stage ≡ unmeasured → s.stage ≡ measuring → is_made (opens o.op o.begin_at) (Some call) ≡ b
     → Leaves o m next (cond b s m.state) → Turn o m next (Some call)
@@ -68,7 +68,7 @@ seals-turn : (o : Opening) (m next : Measurements) (call : MonitorCall) (due : B
 seals-turn o m next call true s was is due one leaves =
     let here : Measurements = record { shelved = m.shelved; state = s } in
     let same : shelving o here ≡ next = sym (settled-by o here sealed is ∙ ap (λ (b : Bool). cond b (shelving o here) here) due) ∙ leaves in
-    seals_one was (ap (λ (n : Measurements). n.state.stage) (sym same)) (ap (λ (n : Measurements). length n.shelved) (sym same) ∙ length-append m.shelved (body_of o s ∷ [])) one
+    seals_due was (ap (λ (n : Measurements). n.state.stage) (sym same)) (ap (λ (n : Measurements). length n.shelved) (sym same) ∙ length-append m.shelved (body_of o s ∷ [])) one
 seals-turn o m next call false s was is due one leaves =
     let here : Measurements = record { shelved = m.shelved; state = s } in
     let same : here ≡ next = sym (settled-by o here sealed is ∙ ap (λ (b : Bool). cond b (shelving o here) here) due) ∙ leaves in

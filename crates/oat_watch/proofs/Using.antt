@@ -3,7 +3,7 @@ use Rattle.std.proofs.Common.{◌≡◌, ◌<◌, ℕ, zero, suc, List, [], ◌�
 use Rattle.std.specs.Prelude.{slice_get}
 use Rattle.oat_events.specs.Cells.{Cells}
 use Rattle.oat_journal.proofs.RunLaws.{held_is}
-use Rattle.oat_journal.specs.Uses.{CheckedUse, Held, defined_value, use_behind}
+use Rattle.oat_journal.specs.Uses.{CheckedUse, Held, define_of, defined_value, use_behind}
 use Rattle.oat_measure.specs.declared.call.MonitorCall.{MonitorCall}
 use Rattle.oat_measure.specs.declared.call.MonitorCall.TheVariants as svc
 
@@ -25,3 +25,13 @@ is-used words before cells cell found held =
       ≡ option_map (λ (word : ℕ). used-as cell found (defined_value word cell before)) o
   twice None = refl
   twice (Some word) = refl
+
+-- a call other than a define defines nothing
+pub no-define : (call : MonitorCall) → ((cell value : ℕ) → call ≡ svc.Define cell value → ⊥) → (j : ℕ) → define_of j (Some call) ≡ None
+no-define (svc.Define cell value) not j = absurd (not cell value refl)
+no-define (svc.Begin op at) not j = refl
+no-define (svc.End op) not j = refl
+no-define (svc.Bit value) not j = refl
+no-define (svc.Target address) not j = refl
+no-define (svc.Return address) not j = refl
+no-define (svc.Use cell value) not j = refl
