@@ -170,8 +170,8 @@ module _ (image : Image) (o : Opening) where
         stands = subst (λ (n : ℕ). Stands image o next (js ++ e ∷ []) n fresh) (sym long)
             (outside is (ap suc i.count_is ∙ (sym (plus-one (length m.shelved)) ∙ sym len)) t.behind none);
       } where
-    plus-one : (n : ℕ) → n + 1 ≡ suc n
-    plus-one n = omega arith
+        plus-one : (n : ℕ) → n + 1 ≡ suc n
+        plus-one n = omega arith
   closes m next js e cells windows present window fresh (seals_last was is len due one) at not held grows none c s =
       let i = inside-is m js (length windows) present at s in
       let t = taken-in m js e cells windows present window held grows c i in

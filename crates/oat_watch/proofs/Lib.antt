@@ -2,6 +2,7 @@ mod Closing
 mod Staging
 mod Collecting
 mod Whole
+mod Verdicts
 mod Overs
 mod Targets
 mod Taking

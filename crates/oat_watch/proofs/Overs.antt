@@ -69,30 +69,30 @@ module _ (image : Image) (l : IsLaid image) where
           let low = c.0 in
           absurd (omega (arith, beyond, at, low))
       | inl below ↦ elim (cases_lt j (behind - 1)) [
-          | inr last ↦
-              let same : j ≡ behind - 1 = omega (arith, below, last) in (
-                omega (arith, below),
-                subst (λ (i : ℕ). slice_get image.map.rows i ≡ Some row) same (slice_get-get_or image.map.rows j row within ∙ ap Some is),
-              )
-          | inl earlier ↦
-              let k = behind - 1 in
-              let q = get_or image.map.rows k row in
-              let inside : k < length image.map.rows = omega (arith, below, bound) in
-              let at_most = ltb-true _ _ (point.0 k row (omega arith) (omega (arith, below))) in
-              let many : k < length (map address_of image.map.rows) = rw length-map inside in
-              let rises = AllPairs-from_increasing (map address_of image.map.rows) l.ordered j k 0 earlier many in
-              let rises' : address_of (get_or image.map.rows j row) < address_of q = rw (get_or-map address_of image.map.rows j row 0 within, get_or-map address_of image.map.rows k row 0 inside) at rises in
-              let at : address_of (get_or image.map.rows j row) ≡ address_of row = ap address_of is in
-              let high = c.1 in
-              let some = some_words q in
-              let there : Contains image.map.rows q = (k, inside, get_or_default image.map.rows k q row inside) in
-              let first : row_over image.map.rows (address_of q) ≡ Some row = l.over row (address_of q) (j, within, is) (omega (arith, rises', at), omega (arith, at_most, high)) in
-              let second : row_over image.map.rows (address_of q) ≡ Some q = l.over q (address_of q) there (omega arith, omega (arith, some)) in
-              let both : Some q ≡ Some row = sym second ∙ first in
-              let same : q ≡ row = cc in
-              let equal : address_of q ≡ address_of row = ap address_of same in
-              absurd (omega (arith, equal, rises', at))
-        ]
+        | inr last ↦
+            let same : j ≡ behind - 1 = omega (arith, below, last) in (
+              omega (arith, below),
+              subst (λ (i : ℕ). slice_get image.map.rows i ≡ Some row) same (slice_get-get_or image.map.rows j row within ∙ ap Some is),
+            )
+        | inl earlier ↦
+            let k = behind - 1 in
+            let q = get_or image.map.rows k row in
+            let inside : k < length image.map.rows = omega (arith, below, bound) in
+            let at_most = ltb-true _ _ (point.0 k row (omega arith) (omega (arith, below))) in
+            let many : k < length (map address_of image.map.rows) = rw length-map inside in
+            let rises = AllPairs-from_increasing (map address_of image.map.rows) l.ordered j k 0 earlier many in
+            let rises' : address_of (get_or image.map.rows j row) < address_of q = rw (get_or-map address_of image.map.rows j row 0 within, get_or-map address_of image.map.rows k row 0 inside) at rises in
+            let at : address_of (get_or image.map.rows j row) ≡ address_of row = ap address_of is in
+            let high = c.1 in
+            let some = some_words q in
+            let there : Contains image.map.rows q = (k, inside, get_or_default image.map.rows k q row inside) in
+            let first : row_over image.map.rows (address_of q) ≡ Some row = l.over row (address_of q) (j, within, is) (omega (arith, rises', at), omega (arith, at_most, high)) in
+            let second : row_over image.map.rows (address_of q) ≡ Some q = l.over q (address_of q) there (omega arith, omega (arith, some)) in
+            let both : Some q ≡ Some row = sym second ∙ first in
+            let same : q ≡ row = cc in
+            let equal : address_of q ≡ address_of row = ap address_of same in
+            absurd (omega (arith, equal, rises', at))
+      ]
     ]
 
     -- no row lies at or below the address

@@ -21,10 +21,10 @@ pub is-used : (words : Cells) (before : List (Option MonitorCall)) (cells : Cell
     → option_map (used-as cell found) (cells cell) ≡ use_behind words before (Some (svc.Use cell found))
 is-used words before cells cell found held =
     ap (option_map (used-as cell found)) (held_is words before cells held cell) ∙ twice (words cell) where
-  twice : (o : Option ℕ) → option_map (used-as cell found) (option_map (λ (word : ℕ). defined_value word cell before) o)
-      ≡ option_map (λ (word : ℕ). used-as cell found (defined_value word cell before)) o
-  twice None = refl
-  twice (Some word) = refl
+      twice : (o : Option ℕ) → option_map (used-as cell found) (option_map (λ (word : ℕ). defined_value word cell before) o)
+          ≡ option_map (λ (word : ℕ). used-as cell found (defined_value word cell before)) o
+      twice None = refl
+      twice (Some word) = refl
 
 -- a call other than a define defines nothing
 pub no-define : (call : MonitorCall) → ((cell value : ℕ) → call ≡ svc.Define cell value → ⊥) → (j : ℕ) → define_of j (Some call) ≡ None

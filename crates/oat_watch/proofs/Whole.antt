@@ -46,11 +46,11 @@ bodies-at : (o : Opening) (m : Measurements) (stage : Stage) → m.state.stage �
     → length (sealed_bodies o m) ≡ length m.shelved + (elim stage as (λ _. ℕ) [ unmeasured ↦ 0 | measuring ↦ 0 | sealed ↦ 1 ])
 bodies-at o m stage is =
     ap (λ (g : Stage). length (m.shelved ++ elim g as (λ _. List Body) [ unmeasured ↦ [] | measuring ↦ [] | sealed ↦ body_of o m.state ∷ [] ])) is ∙ by stage where
-  by : (g : Stage) → length (m.shelved ++ elim g as (λ _. List Body) [ unmeasured ↦ [] | measuring ↦ [] | sealed ↦ body_of o m.state ∷ [] ])
-      ≡ length m.shelved + (elim g as (λ _. ℕ) [ unmeasured ↦ 0 | measuring ↦ 0 | sealed ↦ 1 ])
-  by unmeasured = length-append m.shelved []
-  by measuring = length-append m.shelved []
-  by sealed = length-append m.shelved (body_of o m.state ∷ [])
+      by : (g : Stage) → length (m.shelved ++ elim g as (λ _. List Body) [ unmeasured ↦ [] | measuring ↦ [] | sealed ↦ body_of o m.state ∷ [] ])
+          ≡ length m.shelved + (elim g as (λ _. ℕ) [ unmeasured ↦ 0 | measuring ↦ 0 | sealed ↦ 1 ])
+      by unmeasured = length-append m.shelved []
+      by measuring = length-append m.shelved []
+      by sealed = length-append m.shelved (body_of o m.state ∷ [])
 
 count-is : (image : Image) (o : Opening) (m : Measurements) (js : List Entry) (count : ℕ) (present : Window) → Stands image o m js count present → count ≡ length (sealed_bodies o m)
 count-is image o m js count present (outside at is shut holds) = let all = bodies-at o m unmeasured at in omega (arith, all, is)
@@ -96,10 +96,10 @@ pub goes : (image : Image) (device : DeviceRun) (collection : Collection) (made 
 goes image device collection made c on = elim c.stands [
   | inr whole ↦ let below = left device on in absurd (omega (arith, below, whole))
   | inl way ↦ record {
-      turns = way.0;
-      collects = subst (λ (all : List Entry). Collects image (window_opening device) (run_so_far device).measurements all collection)
-          (sym (c.journal_is ∙ (ap (λ (later : List Entry). c.journal ++ later) way.1 ∙ append-nil c.journal))) c.collects;
-    }
+    turns = way.0;
+    collects = subst (λ (all : List Entry). Collects image (window_opening device) (run_so_far device).measurements all collection)
+        (sym (c.journal_is ∙ (ap (λ (later : List Entry). c.journal ++ later) way.1 ∙ append-nil c.journal))) c.collects;
+  }
 ]
 
 -- the same device, behind another number of instructions

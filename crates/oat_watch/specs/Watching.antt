@@ -10,9 +10,11 @@ use Rattle.oat_image.specs.declared.image.Image.{Image}
 use Rattle.oat_map.specs.declared.edge.Edge.{Edge}
 use Rattle.oat_map.specs.Rows.{BeginsAt}
 use Rattle.oat_map.specs.Walk.{returns_of}
+use Rattle.oat_device.specs.DeviceRun.{DeviceRun}
 use Rattle.oat_measure.specs.declared.opening.Opening.{Opening}
 use Rattle.oat_measure.specs.Shelving.{serial_of}
 use Rattle.oat_journal.specs.Measured.{Run, dev, opening_of, uses_of, window_of}
+use Rattle.oat_journal.specs.Run.{AreGiven}
 use Rattle.oat_journal.specs.Window.{executed_path, returns_of_run}
 use Rattle.oat_verify.specs.declared.verdict.Verdict.{Verdict}
 use Rattle.oat_verify.specs.declared.verdict.Verdict.TheVariants.{Accept, Refuse}
@@ -22,12 +24,15 @@ use Rattle.oat_watch.specs.declared.watched.CheckedUse.{CheckedUse as ShownUse}
 use Rattle.oat_watch.specs.declared.watched.WatchedWindow.{WatchedWindow}
 use Rattle.oat_watch.specs.Shown.{use_of}
 
+-- the run of a case on an image, whose windows open there
+abbrev pub run_of : Image → Case → ℕ → Run
+run_of image case begin_at = dev image (opening_of image case.session begin_at) case.inputs case.writes case.steps
+
 -- what is claimed of the run of a case on an image, whose windows open where its operation begins
 abbrev pub OfItsRun : Image → Case → (ℕ → Opening → Run → Type 0) → Type 0
 OfItsRun image case claim =
     (begin_at : ℕ) → BeginsAt image.map case.session.op begin_at
-    → let o = opening_of image case.session begin_at in
-    claim begin_at o (dev image o case.inputs case.writes case.steps)
+    → claim begin_at (opening_of image case.session begin_at) (run_of image case begin_at)
 
 -- what is claimed of each window, by its number
 abbrev pub OfEach : List WatchedWindow → (ℕ → WatchedWindow → Type 0) → Type 0
@@ -68,3 +73,17 @@ FoundDefined used = used.found ≡ used.defined
 abbrev pub AgreesWithVerdict : WatchedWindow → Type 0
 AgreesWithVerdict shown =
     (path : List Edge) → shown.verdict ≡ Accept path → shown.apart ≡ None → (shown.path ≡ path) × All FoundDefined shown.uses.items
+
+-- All this of a window of the run of a case on an image, whose windows open there.
+pub record IsWatched (image : Image) (case : Case) (begin_at : ℕ) (s : ℕ) (shown : WatchedWindow) : Type 0 where
+  pub shows : ShowsWindow image (opening_of image case.session begin_at) (run_of image case begin_at) s shown
+  pub judged : IsJudged image case.session begin_at (run_of image case begin_at) s shown.verdict
+  pub parts : Parts image case.session (opening_of image case.session begin_at) (run_of image case begin_at) s shown
+  pub agrees : AreGiven case.inputs case.writes → AgreesWithVerdict shown
+
+-- A device has made the whole run of a case on an image.
+pub record IsWhole (device : DeviceRun) (image : Image) (case : Case) : Type 0 where
+  pub image_is : device.image ≡ image
+  pub case_is : device.case ≡ case
+  pub begins : BeginsAt image.map case.session.op device.begin_at
+  pub turns_are : device.turns ≡ case.steps
