@@ -1,10 +1,10 @@
 -- What one more instruction makes of the windows that are collected of a run.
-use Rattle.std.proofs.Common.{◌≡◌, ◌++◌, ◌∷◌, ◌∙◌, ◌+◌, ◌<◌, ◌≤◌, ℕ, zero, suc, Bool, true, false, List, [], append-nil, append_assoc, length, length-append, map, Option, Some, None, slice_get, inl, inr, refl, sym, ap, subst, arith}
+use Rattle.std.proofs.Common.{◌≡◌, ◌++◌, ◌∷◌, ◌∙◌, ◌+◌, ◌<◌, ℕ, zero, suc, Bool, true, false, List, [], append-nil, append_assoc, length, length-append, map, Option, Some, slice_get, inl, inr, refl, sym, ap, subst, arith}
 use Rattle.std.specs.Prelude.{◌⊎◌}
 use Rattle.std.proofs.lemmas.Bool.{cases_lt}
 use Rattle.std.proofs.lemmas.List.{map-append}
 use Rattle.oat_events.specs.Cells.{Cells}
-use Rattle.oat_events.specs.Windows.{inside, is_closed, up_to}
+use Rattle.oat_events.specs.Windows.{is_closed}
 use Rattle.oat_events.proofs.WindowLaws.{closed_stays, inside_stays, up_to_stays}
 use Rattle.oat_image.specs.declared.image.Image.{Image}
 use Rattle.oat_measure.specs.declared.call.MonitorCall.{MonitorCall}

@@ -1,12 +1,10 @@
 -- What a monitor call makes of the stage of a session: whether it opens a window or seals one.
-use Rattle.std.proofs.Common.{◌≡◌, ◌∙◌, ◌+◌, ℕ, Bool, true, false, cond, eqb, List, ◌++◌, ◌∷◌, [], length, length-append, Option, Some, None, Result, Ok, Err, refl, sym, ap, subst, arith}
-use Rattle.std.specs.Prelude.{◌&&◌}
-use Rattle.oat_blob.specs.Body.{Body}
+use Rattle.std.proofs.Common.{◌≡◌, ◌∙◌, ◌+◌, ℕ, Bool, true, false, cond, eqb, ◌∷◌, [], length, length-append, Option, Some, None, Result, Ok, Err, refl, sym, ap}
 use Rattle.oat_measure.specs.declared.call.MonitorCall.{MonitorCall}
 use Rattle.oat_measure.specs.declared.call.MonitorCall.TheVariants as svc
 use Rattle.oat_measure.specs.declared.opening.Opening.{Opening}
 use Rattle.oat_measure.specs.declared.stop.StopKind.{StopKind}
-use Rattle.oat_measure.specs.Measurement.{Stage, State, after_window, before_window, inside_window, measured, measuring, sealed, unmeasured}
+use Rattle.oat_measure.specs.Measurement.{Stage, State, after_window, before_window, inside_window, measuring, sealed, unmeasured}
 use Rattle.oat_measure.specs.Monitor.{opens, seals}
 use Rattle.oat_measure.specs.Shelving.{Measurements, body_of, is_due, measured_on, settled, shelving, with_state}
 use Rattle.oat_journal.specs.Window.{is_made}

@@ -30,13 +30,13 @@ use Rattle.oat_shape.proofs.Laid.{opens_once}
 use Rattle.oat_shape.specs.Shape.{IsShaped}
 use Rattle.oat_verify.proofs.OneVerdict.{acceptance_at_once}
 use Rattle.oat_verify.specs.declared.verdict.Verdict.{Verdict}
-use Rattle.oat_verify.specs.declared.verdict.Verdict.TheVariants.{Accept, Refuse}
+use Rattle.oat_verify.specs.declared.verdict.Verdict.TheVariants.{Accept}
 use Rattle.oat_verify.specs.Verdict.{Accepts, IsVerdict, head_of, subject_of}
 use Rattle.oat_watch.specs.declared.watched.CheckedUse.{CheckedUse as ShownUse}
 use Rattle.oat_watch.specs.declared.watched.WatchedWindow.{WatchedWindow}
 use Rattle.oat_watch.specs.declared.window.Window.{Window}
 use Rattle.oat_watch.specs.Shown.{Holds, use_of}
-use Rattle.oat_watch.specs.Watching.{AreClash, FoundDefined, IsWatched, IsWhole, OfEach, PartsFrom, run_of}
+use Rattle.oat_watch.specs.Watching.{FoundDefined, IsWatched, IsWhole, OfEach, PartsFrom, run_of}
 
 -- ---- the clash
 

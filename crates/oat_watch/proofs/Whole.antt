@@ -1,9 +1,7 @@
 -- The windows of a whole run are those that were collected of it.
-use Rattle.std.proofs.Common.{◌≡◌, ◌++◌, ◌∷◌, ◌∙◌, ◌+◌, ◌-◌, ◌<◌, ◌≤◌, ℕ, zero, suc, Bool, true, false, cond, ltb, List, [], append-nil, length, length-append, map, Option, Some, None, slice_get, inl, inr, refl, sym, ap, subst, arith}
-use Rattle.std.specs.Prelude.{◌⊎◌, IsSome}
-use Rattle.std.proofs.lemmas.Bool.{ltb-true, false≢true}
+use Rattle.std.proofs.Common.{◌≡◌, ◌++◌, ◌∷◌, ◌∙◌, ◌+◌, ◌-◌, ◌<◌, ℕ, zero, suc, Bool, true, false, cond, ltb, List, [], append-nil, length, length-append, map, Option, Some, None, slice_get, inl, inr, refl, sym, ap, subst, arith}
+use Rattle.std.proofs.lemmas.Bool.{ltb-true}
 use Rattle.oat_blob.specs.Body.{Body}
-use Rattle.oat_case.specs.declared.case.Case.{Case}
 use Rattle.oat_device.proofs.DeviceLaws.{journals_grow}
 use Rattle.oat_device.specs.Advancing.{HasEntry, HasNoEntry, end_by_now}
 use Rattle.oat_device.specs.declared.entry.Entry.{Entry as ShownEntry}
@@ -12,13 +10,12 @@ use Rattle.oat_events.proofs.WindowLaws.{inside_stays, up_to_stays}
 use Rattle.oat_image.specs.declared.image.Image.{Image}
 use Rattle.oat_journal.specs.declared.end.DeviceEnd.{DeviceEnd}
 use Rattle.oat_journal.specs.declared.end.DeviceEnd.TheVariants.{OutOfSteps}
-use Rattle.oat_journal.specs.Measured.{Run, dev, start_cells, window_of}
+use Rattle.oat_journal.specs.Measured.{dev, start_cells}
 use Rattle.oat_journal.specs.Run.{Entry, journal_from}
 use Rattle.oat_journal.specs.Window.{made_call}
 use Rattle.oat_measure.specs.declared.opening.Opening.{Opening}
 use Rattle.oat_measure.specs.Measurement.{Stage, measuring, sealed, unmeasured}
 use Rattle.oat_measure.specs.Shelving.{Measurements, at_start, body_of, measures, sealed_bodies}
-use Rattle.oat_attest.specs.Headline.{calls_before}
 use Rattle.oat_watch.specs.Collecting.{AreWindows, Collects, IsCollected, Stands, made_before, made_in, opens_one, seals_one}
 use Rattle.oat_watch.specs.Collecting.Stands.{finished, outside, within}
 use Rattle.oat_watch.specs.declared.collection.Collection.{Collection}

@@ -1,7 +1,6 @@
 -- What is shown of a window while its run goes on (docs/DEFINITIONS.md, "The run beside its verdict").
-use Rattle.std.specs.Prelude.{◌≡◌, ◌++◌, ℕ, List, [], ◌∷◌, Option, map}
+use Rattle.std.specs.Prelude.{◌≡◌, ℕ, List, Option, map}
 use Rattle.oat_image.specs.declared.image.Image.{Image}
-use Rattle.oat_map.specs.declared.edge.Edge.{Edge}
 use Rattle.oat_measure.specs.declared.call.MonitorCall.{MonitorCall}
 use Rattle.oat_journal.specs.Measured.{start_cells}
 use Rattle.oat_journal.specs.Run.{Entry}

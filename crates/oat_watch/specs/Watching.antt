@@ -1,5 +1,5 @@
 -- The run beside its verdict: what is shown of each window of a run that sealed, and what the verdict on its blob says of it (docs/DEFINITIONS.md, "The run beside its verdict").
-use Rattle.std.specs.Prelude.{◌≡◌, ◌≢◌, ◌⊎◌, ℕ, List, Option, Some, None, map, slice_get}
+use Rattle.std.specs.Prelude.{◌≡◌, ℕ, List, Option, Some, None, map, slice_get}
 use Rattle.std.specs.List.{All}
 use Rattle.oat_blob.specs.Body.{Body}
 use Rattle.oat_case.specs.declared.case.Case.{Case}

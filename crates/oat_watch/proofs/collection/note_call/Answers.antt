@@ -1,4 +1,4 @@
-use Rattle.std.proofs.Common.{◌≡◌, ◌++◌, ◌∷◌, List, [], Option, None, refl, sym, subst}
+use Rattle.std.proofs.Common.{◌++◌, ◌∷◌, [], Option, None, refl, sym, subst}
 use Rattle.oat_journal.proofs.RunLaws.{held_other}
 use Rattle.oat_journal.specs.Uses.{Held}
 use Rattle.oat_measure.specs.declared.call.MonitorCall.{MonitorCall}

@@ -1,9 +1,6 @@
-use Rattle.std.proofs.Common.{◌≡◌, ◌∙◌, ℕ, Bool, true, false, cond, List, Option, Some, None, sym, ap}
-use Rattle.std.specs.List.{list_any}
-use Rattle.oat_map.specs.declared.edge.Edge.{Edge}
+use Rattle.std.proofs.Common.{◌≡◌, ◌∙◌, Bool, true, false, cond, Some, sym, ap}
 use Rattle.oat_map.specs.declared.edge.Edge.TheVariants as edges
 use Rattle.oat_map.specs.declared.row.Row.{Row}
-use Rattle.oat_map.specs.Rows.{is_called_at}
 use Rattle.oat_journal.specs.Window.{edge_over}
 use Rattle.oat_watch.proofs.Targets.{no-target}
 use Rattle.oat_watch.proofs.edge.edge_over.Goals as goal

@@ -1,14 +1,12 @@
-use Rattle.std.proofs.Common.{◌≡◌, ◌∙◌, ℕ, List, Some, None, Option, slice_get, refl, sym, ap, subst}
+use Rattle.std.proofs.Common.{◌≡◌, ◌∙◌, ℕ, List, sym, ap, subst}
 use Rattle.oat_blob.specs.Layout.{IsBlobOf}
 use Rattle.oat_case.specs.declared.case.Case.{Case}
 use Rattle.oat_chain.specs.Chain.{chain, window_head}
-use Rattle.oat_map.specs.declared.edge.Edge.{Edge}
 use Rattle.oat_map.specs.Walk.{returns_of}
 use Rattle.oat_journal.specs.Measured.{opening_of, window_of}
 use Rattle.oat_journal.specs.Window.{returns_of_run}
 use Rattle.oat_measure.specs.Shelving.{serial_of}
 use Rattle.oat_verify.proofs.OneVerdict.{acceptance_at_once}
-use Rattle.oat_verify.specs.declared.verdict.Verdict.{Verdict}
 use Rattle.oat_verify.specs.Verdict.{IsVerdict, head_of, subject_of}
 use Rattle.oat_watch.specs.Watching.{PartsFrom, run_of}
 use Rattle.oat_watch.proofs.Verdicts.{body-of, body-there, holds-there, is-watched, number-is, one-chain}

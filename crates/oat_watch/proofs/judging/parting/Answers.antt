@@ -1,10 +1,4 @@
-use Rattle.std.proofs.Common.{◌≡◌, ◌∙◌, ℕ, List, Option, Some, None, refl, sym, ap, subst}
-use Rattle.std.specs.Prelude.{IfSome, IsNone, ◌↔◌}
-use Rattle.sha2.specs.Sha256.{sha256}
-use Rattle.oat_chain.specs.Chain.{DiffersAt, messages}
-use Rattle.oat_chain.specs.Clash.{bytes_of}
-use Rattle.oat_chain.specs.declared.message.Clash.{Clash}
-use Rattle.oat_map.specs.declared.edge.Edge.{Edge}
+use Rattle.std.proofs.Common.{◌≡◌, ◌∙◌, sym, subst}
 use Rattle.oat_map.specs.Walk.{returns_of}
 use Rattle.oat_verify.specs.declared.verdict.Verdict.{Verdict}
 use Rattle.oat_watch.specs.Watching.{PartsFrom}

@@ -1,7 +1,6 @@
-use Rattle.std.proofs.Common.{◌≡◌, ◌-◌, ◌<◌, Bool, false, eqb, ℕ, sym, ap, subst, ◌∙◌, None, Some, arith}
+use Rattle.std.proofs.Common.{◌≡◌, ◌-◌, Bool, eqb, ℕ, sym, ap, ◌∙◌, None, Some, arith}
 use Rattle.std.specs.Prelude.{◌&&◌}
-use Rattle.oat_map.specs.declared.row.Row.{Row}
-use Rattle.oat_map.specs.Rows.{after, is_call, is_returned_to, row_over}
+use Rattle.oat_map.specs.Rows.{after, row_over}
 use Rattle.oat_watch.proofs.Overs.{site-is, site-low, site-none}
 use Rattle.oat_watch.proofs.rows.is_return_site.Goals as goal
 

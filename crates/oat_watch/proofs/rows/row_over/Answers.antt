@@ -1,4 +1,4 @@
-use Rattle.std.proofs.Common.{◌≡◌, ◌+◌, ◌-◌, ◌<◌, ◌≤◌, ℕ, Bool, false, true, List, length, None, Some, refl, sym, ap, subst, ◌∙◌, of_calls, rules, arith}
+use Rattle.std.proofs.Common.{◌≡◌, ◌+◌, ◌-◌, ◌<◌, ◌≤◌, ℕ, false, true, List, length, Some, refl, sym, subst, ◌∙◌, of_calls, rules, arith}
 use Rattle.std.specs.Prelude.{nat_lt, slice_get}
 use Rattle.std.specs.List.Sorted.{IsPartitionPoint}
 use Rattle.std.proofs.lemmas.Bool.{ltb-true}
@@ -6,7 +6,7 @@ use Rattle.std.proofs.lemmas.List.Sorted.{IsPartitionPoint-from_clause}
 use Rattle.std.proofs.lemmas.Option.{slice_get_read}
 use Rattle.oat_map.proofs.RowLemmas.{rows_parted}
 use Rattle.oat_map.specs.declared.row.Row.{Row}
-use Rattle.oat_map.specs.Rows.{IsOrdered, address_of, row_over}
+use Rattle.oat_map.specs.Rows.{IsOrdered, address_of}
 use Rattle.oat_watch.proofs.Overs.{over-none, over-other, over-some}
 use Rattle.oat_watch.proofs.rows.row_over.Goals as goal
 

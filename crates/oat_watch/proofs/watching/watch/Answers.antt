@@ -1,4 +1,4 @@
-use Rattle.std.proofs.Common.{◌≡◌, ◌∙◌, ℕ, List, length, sym, ap, subst}
+use Rattle.std.proofs.Common.{◌∙◌, ℕ, List, length, ap, subst}
 use Rattle.oat_blob.specs.Body.{Body}
 use Rattle.oat_journal.specs.Measured.{Run, end_of, opening_of}
 use Rattle.oat_watch.specs.Watching.{IsJudged, IsWhole, Parts, ShowsWindow, run_of}

@@ -1,4 +1,4 @@
-use Rattle.std.proofs.Common.{◌≡◌, ◌∙◌, ◌<◌, ◌≤◌, ℕ, length, Option, Some, None, option_map, sym, ap, arith}
+use Rattle.std.proofs.Common.{◌∙◌, option_map, sym, ap, arith}
 use Rattle.oat_measure.specs.Monitored.{cells_of}
 use Rattle.oat_watch.proofs.Using.{is-cell, is-used, used-as}
 use Rattle.oat_watch.proofs.window.use_found.Goals as goal

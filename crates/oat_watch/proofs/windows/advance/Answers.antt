@@ -1,4 +1,3 @@
-use Rattle.std.proofs.Common.{◌≡◌, ◌+◌, ℕ, sym, ap, subst, ◌∙◌}
 use Rattle.std.proofs.lemmas.Result.{on_ok_weaker}
 use Rattle.oat_device.specs.DeviceRun.{run_so_far, window_opening}
 use Rattle.oat_watch.proofs.Whole.{goes, with-entry, without-entry}

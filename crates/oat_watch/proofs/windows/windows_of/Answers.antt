@@ -1,4 +1,4 @@
-use Rattle.std.proofs.Common.{◌≡◌, ◌+◌, [], refl, sym, ap, subst, ◌∙◌}
+use Rattle.std.proofs.Common.{◌+◌, [], refl, sym, ap, subst, ◌∙◌}
 use Rattle.oat_case.specs.declared.case.Case.{Case}
 use Rattle.oat_device.specs.DeviceRun.{DeviceRun}
 use Rattle.oat_image.specs.declared.image.Image.{Image}

@@ -1,4 +1,4 @@
-use Rattle.std.proofs.Common.{◌≡◌, ◌<◌, ◌≤◌, ◌∙◌, ℕ, List, [], Some, length, slice_get, refl, sym, ap, subst, arith}
+use Rattle.std.proofs.Common.{[], sym, subst}
 use Rattle.oat_events.specs.Cells.{Cells}
 use Rattle.oat_journal.proofs.RunLaws.{held_first}
 use Rattle.oat_journal.specs.Measured.{start_cells}
