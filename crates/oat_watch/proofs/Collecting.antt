@@ -15,8 +15,8 @@ use Rattle.oat_journal.specs.Measured.{start_cells}
 use Rattle.oat_journal.specs.Run.{Entry}
 use Rattle.oat_journal.specs.Uses.{Held}
 use Rattle.oat_journal.specs.Window.{made_call}
-use Rattle.oat_watch.specs.Collecting.{AreClosedWindows, Stands, is_opened, made_before, made_in, opens_one, seals_one}
-use Rattle.oat_watch.specs.Collecting.Stands.{finished, outside, within}
+use Rattle.oat_watch.specs.Collecting.{AreClosedWindows, RunStands, is_opened, made_before, made_in, opens_one, seals_one}
+use Rattle.oat_watch.specs.Collecting.RunStands.{finished, outside, within}
 use Rattle.oat_watch.specs.declared.window.Window.{Window}
 use Rattle.oat_watch.specs.Shown.{Holds}
 use Rattle.oat_watch.proofs.Closing.{going, opening}
@@ -53,7 +53,7 @@ module _ (image : Image) (o : Opening) where
   -- ---- before a window
 
   pub out-more : (m next : Measurements) (js : List Entry) (e : Entry) (windows : List Window) (present : Window) → Turn o m next (made_call e) → (m.state.stage ≡ measuring → ⊥)
-      → AreClosedWindows image o js windows → Stands image o m js (length windows) present → Stands image o next (js ++ e ∷ []) (length windows) present
+      → AreClosedWindows image o js windows → RunStands image o m js (length windows) present → RunStands image o next (js ++ e ∷ []) (length windows) present
   out-more m next js e windows present (stays_out was is len none) not c (outside at count shut holds) =
       let n = opening (opens_one o) (seals_one o) (length windows) js e c.closed shut in
       outside is (count ∙ sym len) (n.opened ∙ none) holds
@@ -80,7 +80,7 @@ module _ (image : Image) (o : Opening) where
     whole : made_before o count js ++ made_in o count js ≡ js
     holds : Holds image o.op (map made_call (made_before o count js)) (made_in o count js) present
 
-  inside-is : (m : Measurements) (js : List Entry) (count : ℕ) (present : Window) → m.state.stage ≡ measuring → Stands image o m js count present → Inside m js count present
+  inside-is : (m : Measurements) (js : List Entry) (count : ℕ) (present : Window) → m.state.stage ≡ measuring → RunStands image o m js count present → Inside m js count present
   inside-is m js count present was (within at count_is opened shut whole holds) = record { count_is = count_is; opened = opened; shut = shut; whole = whole; holds = holds }
   inside-is m js count present was (outside at count_is shut holds) = absurd (let q : unmeasured ≡ measuring = sym at ∙ was in cc)
   inside-is m js count present was (finished at count_is last) = absurd (let q : sealed ≡ measuring = sym at ∙ was in cc)
@@ -112,7 +112,7 @@ module _ (image : Image) (o : Opening) where
 
   pub in-more : (m next : Measurements) (js : List Entry) (e : Entry) (cells : Cells) (windows : List Window) (present later : Window) → Turn o m next (made_call e) → m.state.stage ≡ measuring → next.state.stage ≡ measuring
       → Held (start_cells image) (map made_call js) cells → Grows e cells present later
-      → AreClosedWindows image o js windows → Stands image o m js (length windows) present → Stands image o next (js ++ e ∷ []) (length windows) later
+      → AreClosedWindows image o js windows → RunStands image o m js (length windows) present → RunStands image o next (js ++ e ∷ []) (length windows) later
   in-more m next js e cells windows present later (stays_in was is len none) at there held grows c s =
       let i = inside-is m js (length windows) present at s in
       let t = taken-in m js e cells windows present later held grows c i in
@@ -156,18 +156,18 @@ module _ (image : Image) (o : Opening) where
 
   pub record Closes (next : Measurements) (js : List Entry) (e : Entry) (windows : List Window) (window fresh : Window) : Type 0 where
     pub closed : AreClosedWindows image o (js ++ e ∷ []) (windows ++ window ∷ [])
-    pub stands : Stands image o next (js ++ e ∷ []) (length (windows ++ window ∷ [])) fresh
+    pub stands : RunStands image o next (js ++ e ∷ []) (length (windows ++ window ∷ [])) fresh
 
   pub closes : (m next : Measurements) (js : List Entry) (e : Entry) (cells : Cells) (windows : List Window) (present window fresh : Window) → Turn o m next (made_call e) → m.state.stage ≡ measuring → (next.state.stage ≡ measuring → ⊥)
       → Held (start_cells image) (map made_call js) cells → Grows e cells present window → ((before : List (Option MonitorCall)) → Holds image o.op before [] fresh)
-      → AreClosedWindows image o js windows → Stands image o m js (length windows) present → Closes next js e windows window fresh
+      → AreClosedWindows image o js windows → RunStands image o m js (length windows) present → Closes next js e windows window fresh
   closes m next js e cells windows present window fresh (seals_due was is len one) at not held grows none c s =
       let i = inside-is m js (length windows) present at s in
       let t = taken-in m js e cells windows present window held grows c i in
       let long : length (windows ++ window ∷ []) ≡ suc (length windows) = length-append windows (window ∷ []) ∙ plus-one (length windows) in
       record {
         closed = close js e windows window one c t;
-        stands = subst (λ (n : ℕ). Stands image o next (js ++ e ∷ []) n fresh) (sym long)
+        stands = subst (λ (n : ℕ). RunStands image o next (js ++ e ∷ []) n fresh) (sym long)
             (outside is (ap suc i.count_is ∙ (sym (plus-one (length m.shelved)) ∙ sym len)) t.behind none);
       } where
         plus-one : (n : ℕ) → n + 1 ≡ suc n
@@ -186,7 +186,7 @@ module _ (image : Image) (o : Opening) where
   closes m next js e cells windows present window fresh (stays_after was is len due) at not held grows none c s = absurd (let q : sealed ≡ measuring = sym was ∙ at in cc)
 
   -- behind the last window none is due
-  pub last-one : (m : Measurements) (js : List Entry) (count : ℕ) (present : Window) → Stands image o m js count present → m.state.stage ≡ sealed → is_due o m.state.serial ≡ false
+  pub last-one : (m : Measurements) (js : List Entry) (count : ℕ) (present : Window) → RunStands image o m js count present → m.state.stage ≡ sealed → is_due o m.state.serial ≡ false
   last-one m js count present (finished at count_is last) was = last
   last-one m js count present (outside at count_is shut holds) was = absurd (let q : unmeasured ≡ sealed = sym at ∙ was in cc)
   last-one m js count present (within at count_is opened shut whole holds) was = absurd (let q : measuring ≡ sealed = sym at ∙ was in cc)
@@ -208,7 +208,7 @@ unfolding is_opened
 none-opened o = refl
 
 pub starts : (image : Image) (o : Opening) (windows : List Window) (present : Window) → windows ≡ [] → ((before : List (Option MonitorCall)) → Holds image o.op before [] present)
-    → AreClosedWindows image o [] windows × Stands image o (at_start o (start_cells image)) [] (length windows) present
+    → AreClosedWindows image o [] windows × RunStands image o (at_start o (start_cells image)) [] (length windows) present
 starts image o windows present none holds =
-    subst (λ (ws : List Window). AreClosedWindows image o [] ws × Stands image o (at_start o (start_cells image)) [] (length ws) present) (sym none)
+    subst (λ (ws : List Window). AreClosedWindows image o [] ws × RunStands image o (at_start o (start_cells image)) [] (length ws) present) (sym none)
     (record { closed = λ s below. absurd (omega (arith, below)); holds = λ s window at. absurd (cc) }, outside refl refl (none-opened o) holds)

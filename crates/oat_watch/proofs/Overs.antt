@@ -81,7 +81,7 @@ module _ (image : Image) (l : IsLaid image) where
             let at_most = ltb-true _ _ (point.0 k row (omega arith) (omega (arith, below))) in
             let many : k < length (map address_of image.map.rows) = rw length-map inside in
             let rises = AllPairs-from_increasing (map address_of image.map.rows) l.ordered j k 0 earlier many in
-            let rises' : address_of (get_or image.map.rows j row) < address_of q = rw (get_or-map address_of image.map.rows j row 0 within, get_or-map address_of image.map.rows k row 0 inside) at rises in
+            let rises' : address_of (get_or image.map.rows j row) < address_of q = rw (get_or-map address_of image.map.rows j row zero within, get_or-map address_of image.map.rows k row zero inside) at rises in
             let at : address_of (get_or image.map.rows j row) ≡ address_of row = ap address_of is in
             let high = c.1 in
             let some = some_words q in

@@ -16,8 +16,8 @@ use Rattle.oat_journal.specs.Window.{made_call}
 use Rattle.oat_measure.specs.declared.opening.Opening.{Opening}
 use Rattle.oat_measure.specs.Measurement.{Stage, measuring, sealed, unmeasured}
 use Rattle.oat_measure.specs.Shelving.{Measurements, at_start, body_of, measures, sealed_bodies}
-use Rattle.oat_watch.specs.Collecting.{AreWindows, Collects, IsCollected, Stands, made_before, made_in, opens_one, seals_one}
-use Rattle.oat_watch.specs.Collecting.Stands.{finished, outside, within}
+use Rattle.oat_watch.specs.Collecting.{AreWindows, Collects, IsCollected, RunStands, made_before, made_in, opens_one, seals_one}
+use Rattle.oat_watch.specs.Collecting.RunStands.{finished, outside, within}
 use Rattle.oat_watch.specs.declared.collection.Collection.{Collection}
 use Rattle.oat_watch.specs.declared.window.Window.{Window}
 use Rattle.oat_watch.specs.Shown.{Holds}
@@ -49,7 +49,7 @@ bodies-at o m stage is =
       by measuring = length-append m.shelved []
       by sealed = length-append m.shelved (body_of o m.state ∷ [])
 
-count-is : (image : Image) (o : Opening) (m : Measurements) (js : List Entry) (count : ℕ) (present : Window) → Stands image o m js count present → count ≡ length (sealed_bodies o m)
+count-is : (image : Image) (o : Opening) (m : Measurements) (js : List Entry) (count : ℕ) (present : Window) → RunStands image o m js count present → count ≡ length (sealed_bodies o m)
 count-is image o m js count present (outside at is shut holds) = let all = bodies-at o m unmeasured at in omega (arith, all, is)
 count-is image o m js count present (within at is opened shut whole holds) = let all = bodies-at o m measuring at in omega (arith, all, is)
 count-is image o m js count present (finished at is last) = let all = bodies-at o m sealed at in omega (arith, all, is)

@@ -1,5 +1,5 @@
 -- What has been collected of a run while it goes on: its windows that have closed, and the present one (docs/DEFINITIONS.md, "The run beside its verdict").
-use Rattle.std.specs.Prelude.{◌≡◌, ◌+◌, ◌++◌, ◌<◌, ◌≤◌, ◌⊎◌, ℕ, zero, suc, Bool, true, false, List, [], Option, Some, length, map, slice_get}
+use Rattle.std.specs.Prelude.{◌≡◌, ◌+◌, ◌++◌, ◌<◌, ◌≤◌, ◌⊎◌, ℕ, zero, suc, Bool, true, false, List, [], ◌∷◌, ◌↔◌, IsTrue, Ok, Option, Some, length, map, slice_get}
 use Rattle.std.specs.List.{list_any}
 use Rattle.oat_events.specs.Windows.{inside, is_closed, past, up_to}
 use Rattle.oat_image.specs.declared.image.Image.{Image}
@@ -7,11 +7,13 @@ use Rattle.oat_measure.specs.declared.call.MonitorCall.{MonitorCall}
 use Rattle.oat_measure.specs.declared.opening.Opening.{Opening}
 use Rattle.oat_measure.specs.Measurement.{measuring, sealed, unmeasured}
 use Rattle.oat_measure.specs.Monitored.{cells_of}
-use Rattle.oat_measure.specs.Shelving.{Measurements, is_due, sealed_bodies}
+use Rattle.oat_measure.specs.Shelving.{Measurements, is_due, measured_on, sealed_bodies}
 use Rattle.oat_journal.specs.Measured.{Run, start_cells, window_of}
 use Rattle.oat_journal.specs.Run.{Entry}
 use Rattle.oat_journal.specs.Uses.{Held}
 use Rattle.oat_journal.specs.Window.{made_call, opens_window, seals_window}
+use Rattle.oat_device.specs.Advancing.{ShowsEntry}
+use Rattle.oat_device.specs.declared.entry.Entry.{Entry as ShownEntry}
 use Rattle.oat_device.specs.DeviceRun.{DeviceRun, run_so_far, window_opening}
 use Rattle.oat_attest.specs.Headline.{calls_before}
 use Rattle.oat_watch.specs.declared.collection.Collection.{Collection}
@@ -42,20 +44,32 @@ pub record AreClosedWindows (image : Image) (o : Opening) (js : List Entry) (win
   pub holds : (s : ℕ) (window : Window) → slice_get windows s ≡ Some window → Holds image o.op (map made_call (made_before o s js)) (made_in o s js) window
 
 -- Where the run stands behind so many windows: before the next one, inside it, or behind the session's last one.
-pub data Stands (image : Image) (o : Opening) (m : Measurements) (js : List Entry) (count : ℕ) (present : Window) : Type 0 where
+pub data RunStands (image : Image) (o : Opening) (m : Measurements) (js : List Entry) (count : ℕ) (present : Window) : Type 0 where
   outside : m.state.stage ≡ unmeasured → count ≡ length m.shelved → is_opened (opens_one o) (seals_one o) count js ≡ false
-      → ((before : List (Option MonitorCall)) → Holds image o.op before [] present) → Stands image o m js count present
+      → ((before : List (Option MonitorCall)) → Holds image o.op before [] present) → RunStands image o m js count present
   within : m.state.stage ≡ measuring → count ≡ length m.shelved → is_opened (opens_one o) (seals_one o) count js ≡ true
       → is_closed (opens_one o) (seals_one o) count js ≡ false → made_before o count js ++ made_in o count js ≡ js
-      → Holds image o.op (map made_call (made_before o count js)) (made_in o count js) present → Stands image o m js count present
-  finished : m.state.stage ≡ sealed → count ≡ length m.shelved + 1 → is_due o m.state.serial ≡ false → Stands image o m js count present
+      → Holds image o.op (map made_call (made_before o count js)) (made_in o count js) present → RunStands image o m js count present
+  finished : m.state.stage ≡ sealed → count ≡ length m.shelved + 1 → is_due o m.state.serial ≡ false → RunStands image o m js count present
 
 -- Of a run with this journal, which has measured so much.
 pub record Collects (image : Image) (o : Opening) (m : Measurements) (js : List Entry) (collection : Collection) : Type 0 where
   pub cells : Held (start_cells image) (map made_call js) (cells_of collection.cells.words.items)
   pub few : length collection.cells.words.items ≤ 65536
   pub closed : AreClosedWindows image o js collection.closed.items
-  pub stands : Stands image o m js (length collection.closed.items) collection.present
+  pub stands : RunStands image o m js (length collection.closed.items) collection.present
+
+-- What one more instruction adds to a collection, by whether a window was open before it and is open behind it.
+abbrev pub CollectsEntry : Image → ℕ → ShownEntry → (was_inside is_inside : Bool) → Collection → Collection → Type 0
+CollectsEntry image op shown was_inside is_inside old new =
+    (o : Opening) (m next : Measurements) (js : List Entry) (e : Entry) → ShowsEntry shown e → o.op ≡ op → measured_on o m (made_call e) ≡ Ok next
+    → (IsTrue was_inside ↔ (m.state.stage ≡ measuring)) → (IsTrue is_inside ↔ (next.state.stage ≡ measuring))
+    → Collects image o m js old → Collects image o next (js ++ e ∷ []) new
+
+-- What is held of a window of a device's run.
+abbrev pub HoldsThere : Image → ℕ → DeviceRun → ℕ → Window → Type 0
+HoldsThere image op device s window =
+    Holds image op (calls_before (window_opening device) s (run_so_far device)) (window_of (window_opening device) s (run_so_far device)) window
 
 -- All windows of a run that sealed.
 pub record AreWindows (image : Image) (o : Opening) (run : Run) (windows : List Window) : Type 0 where

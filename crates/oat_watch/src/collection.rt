@@ -13,7 +13,7 @@ ghost use Rattle.oat_measure.specs.Measurement.{measuring};
 ghost use Rattle.oat_measure.specs.Monitored.{cells_of};
 ghost use Rattle.oat_measure.specs.Shelving.{Measurements, at_start, measured_on};
 ghost use Rattle.oat_shape.specs.Laid.{IsLaid};
-ghost use Rattle.oat_watch.specs.Collecting.{Collects};
+ghost use Rattle.oat_watch.specs.Collecting.{Collects, CollectsEntry};
 
 use crate::cells::CellTable;
 use crate::window::Window;
@@ -74,9 +74,7 @@ impl Collection {
     ) -> Result<(), AllocError>
         requires laid { IsLaid image.now }
         requires few { length self.old.cells.words.items ≤ 65536 }
-        ensures more { OnOk result ((o : Opening) (m next : Measurements) (js : List JournalEntry) (e : JournalEntry) → ShowsEntry entry.now e → o.op ≡ op
-            → measured_on o m (made_call e) ≡ Ok next → (IsTrue was_inside ↔ (m.state.stage ≡ measuring)) → (IsTrue is_inside ↔ (next.state.stage ≡ measuring))
-            → Collects image.now o m js self.old → Collects image.now o next (js ++ e ∷ []) self.new) }
+        ensures more { OnOk result (CollectsEntry image.now op entry.now was_inside is_inside self.old self.new) }
         ensures few { length self.new.cells.words.items ≡ length self.old.cells.words.items }
     {
         let call = entry.call();

@@ -2,14 +2,12 @@
 ghost use Rattle.std.specs.Prelude.{◌≡◌, ◌<◌, List, IfOk, length};
 ghost use Rattle.std.specs.Option.{option_map};
 ghost use Rattle.oat_chain.specs.Chain.{chain};
-ghost use Rattle.oat_device.specs.DeviceRun.{bodies_so_far, run_so_far, window_opening};
-ghost use Rattle.oat_attest.specs.Headline.{calls_before};
-ghost use Rattle.oat_journal.specs.Measured.{window_of};
+ghost use Rattle.oat_device.specs.DeviceRun.{bodies_so_far};
 ghost use Rattle.oat_map.specs.declared.edge.Edge.{Edge as ItsEdge};
 ghost use Rattle.oat_map.specs.Walk.{return_of, returns_of};
 ghost use Rattle.oat_verify.specs.declared.verdict.Verdict.TheVariants.{Accept};
-ghost use Rattle.oat_watch.specs.Shown.{Holds};
-ghost use Rattle.oat_watch.specs.Watching.{IsWatched, IsWhole, PartsFrom};
+ghost use Rattle.oat_watch.specs.Collecting.{HoldsThere};
+ghost use Rattle.oat_watch.specs.Watching.{IsWatched, HasWholeRun, PartsFrom};
 
 use crate::watched::WatchedWindow;
 use crate::window::Window;
@@ -76,9 +74,9 @@ pub fn judged(
     serial: u32,
     window: &Window,
 ) -> Result<WatchedWindow, AllocError>
-    requires whole { IsWhole device.now shaped.now case.now }
+    requires whole { HasWholeRun device.now shaped.now case.now }
     requires sealed { serial < length (bodies_so_far device.now) }
-    requires holds { Holds shaped.now case.now.session.op (calls_before (window_opening device.now) serial (run_so_far device.now)) (window_of (window_opening device.now) serial (run_so_far device.now)) window.now }
+    requires holds { HoldsThere shaped.now case.now.session.op device.now serial window.now }
     ensures { IfOk result (IsWatched shaped.now case.now device.now.begin_at serial) }
 {
     let _image = shaped.image();

@@ -6,7 +6,7 @@ ghost use Rattle.oat_journal.specs.Run.{AreGiven};
 ghost use Rattle.oat_map.specs.Rows.{IsOperation};
 ghost use Rattle.oat_measure.specs.Shelving.{sealed_bodies};
 ghost use Rattle.oat_watch.specs.Collecting.{AreWindows};
-ghost use Rattle.oat_watch.specs.Watching.{AgreesWithVerdict, IsJudged, IsWatched, IsWhole, OfEach, OfItsRun, Parts, ShowsWindow};
+ghost use Rattle.oat_watch.specs.Watching.{AgreesWithVerdict, HasItsVerdict, IsWatched, HasWholeRun, OfEach, OfItsRun, Parts, ShowsWindow};
 
 use crate::judging::judged;
 use crate::watched::{Watched, WatchedWindow};
@@ -24,7 +24,7 @@ fn judged_windows(
     device: &Device<'_>,
     windows: &[Window],
 ) -> Result<Vec<WatchedWindow>, AllocError>
-    requires whole { IsWhole device.now shaped.now case.now }
+    requires whole { HasWholeRun device.now shaped.now case.now }
     requires windows { AreWindows shaped.now (window_opening device.now) (run_so_far device.now) windows.now }
     ensures counted { IfOk result (λ shown. length shown.items ≡ length (bodies_so_far device.now)) }
     ensures watched { IfOk result (λ shown. OfEach shown.items (IsWatched shaped.now case.now device.now.begin_at)) }
@@ -46,7 +46,7 @@ pub fn watch(alloc: Global, shaped: &Shaped, case: &Case) -> Result<Watched, All
     ensures counted { IfOk result (λ watched. OfItsRun shaped.now case.now (λ begin_at o run. length watched.windows.items ≡ length (sealed_bodies o run.measurements))) }
     ensures shown { IfOk result (λ watched. OfItsRun shaped.now case.now (λ begin_at o run. OfEach watched.windows.items (ShowsWindow shaped.now o run))) }
     ensures judged { IfOk result (λ watched. OfItsRun shaped.now case.now (λ begin_at o run.
-        OfEach watched.windows.items (λ s shown. IsJudged shaped.now case.now.session begin_at run s shown.verdict))) }
+        OfEach watched.windows.items (λ s shown. HasItsVerdict shaped.now case.now.session begin_at run s shown.verdict))) }
     ensures parted { IfOk result (λ watched. OfItsRun shaped.now case.now (λ begin_at o run. OfEach watched.windows.items (Parts shaped.now case.now.session o run))) }
     ensures agrees { IfOk result (λ watched. AreGiven case.now.inputs case.now.writes → OfEach watched.windows.items (λ s shown. AgreesWithVerdict shown)) }
 {

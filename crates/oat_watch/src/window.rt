@@ -1,19 +1,16 @@
 //! A window of a run while it is open.
-ghost use Rattle.std.specs.Prelude.{◌≡◌, ◌++◌, ◌∷◌, ◌≤◌, ℕ, List, [], Option, Some, OnOk, length, map};
+ghost use Rattle.std.specs.Prelude.{◌≡◌, ◌++◌, ◌≤◌, ℕ, List, [], Option, Some, OnOk, length};
 ghost use Rattle.std.specs.List.{cons_option};
 ghost use Rattle.std.specs.Option.{option_map};
 ghost use Rattle.oat_events.specs.Cells.{Cells};
 ghost use Rattle.oat_image.specs.declared.image.Image.{Image as OfImage};
-ghost use Rattle.oat_journal.specs.Measured.{start_cells};
-ghost use Rattle.oat_journal.specs.Run.{Entry as JournalEntry};
 ghost use Rattle.oat_journal.specs.Uses.{Held, use_behind};
-ghost use Rattle.oat_journal.specs.Window.{made_call, returned};
-ghost use Rattle.oat_device.specs.Advancing.{ShowsEntry};
+ghost use Rattle.oat_journal.specs.Window.{returned};
 ghost use Rattle.oat_measure.specs.declared.call.MonitorCall.{MonitorCall as Call};
 ghost use Rattle.oat_measure.specs.declared.call.MonitorCall.TheVariants.{Use};
 ghost use Rattle.oat_measure.specs.Monitored.{cells_of};
 ghost use Rattle.oat_shape.specs.Laid.{IsLaid};
-ghost use Rattle.oat_watch.specs.Shown.{Holds, use_of};
+ghost use Rattle.oat_watch.specs.Shown.{AddsEntry, Holds, use_of};
 
 use crate::cells::CellTable;
 use crate::edge::shown_edge;
@@ -96,9 +93,7 @@ impl Window {
     ) -> Result<(), AllocError>
         requires laid { IsLaid image.now }
         requires few { length cells.now.words.items ≤ 65536 }
-        ensures { OnOk result ((before : List (Option Call)) (made : List JournalEntry) (e : JournalEntry) → ShowsEntry entry.now e
-            → Held (start_cells image.now) (before ++ map made_call made) (cells_of cells.now.words.items)
-            → Holds image.now op before made self.old → Holds image.now op before (made ++ e ∷ []) self.new) }
+        ensures { OnOk result (AddsEntry image.now op entry.now cells.now.words.items self.old self.new) }
     {
         let call = entry.call();
         push_some(&mut self.path, shown_edge(image, op, entry))?;

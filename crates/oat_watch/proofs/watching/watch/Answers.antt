@@ -1,7 +1,7 @@
 use Rattle.std.proofs.Common.{◌∙◌, ℕ, List, length, ap, subst}
 use Rattle.oat_blob.specs.Body.{Body}
 use Rattle.oat_journal.specs.Measured.{Run, end_of, opening_of}
-use Rattle.oat_watch.specs.Watching.{IsJudged, IsWhole, Parts, ShowsWindow, run_of}
+use Rattle.oat_watch.specs.Watching.{HasItsVerdict, HasWholeRun, Parts, ShowsWindow, case_run}
 use Rattle.oat_watch.proofs.Verdicts.{bodies-are, made-whole, opens-there, run-is}
 use Rattle.oat_watch.proofs.watching.watch.Goals as goal
 
@@ -11,7 +11,7 @@ returns-clause-end c =
     let case = c.args.case.now in
     let device = c.run-end.new.self in
     let shaped = c.image-image.ensures.shaped in
-    let w : IsWhole device image case = made-whole image case c.in_ok-device.device c.windows_of.new.device device c.in_ok-device.ensures c.in_ok-windows.ensures.whole c.run-end.ensures.whole in
+    let w : HasWholeRun device image case = made-whole image case c.in_ok-device.device c.windows_of.new.device device c.in_ok-device.ensures c.in_ok-windows.ensures.whole c.run-end.ensures.whole in
     λ begin_at begins.
     c.run-end.ensures.ended ∙ ap end_of (run-is image case device shaped w begin_at begins)
 
@@ -21,7 +21,7 @@ returns-clause-outputs c =
     let case = c.args.case.now in
     let device = c.run-end.new.self in
     let shaped = c.image-image.ensures.shaped in
-    let w : IsWhole device image case = made-whole image case c.in_ok-device.device c.windows_of.new.device device c.in_ok-device.ensures c.in_ok-windows.ensures.whole c.run-end.ensures.whole in
+    let w : HasWholeRun device image case = made-whole image case c.in_ok-device.device c.windows_of.new.device device c.in_ok-device.ensures c.in_ok-windows.ensures.whole c.run-end.ensures.whole in
     λ begin_at begins.
     c.in_ok-outputs.ensures.items ∙ (c.outputs.ensures ∙ ap (λ (run : Run). run.running.outputs) (run-is image case device shaped w begin_at begins))
 
@@ -31,7 +31,7 @@ returns-clause-counted c =
     let case = c.args.case.now in
     let device = c.run-end.new.self in
     let shaped = c.image-image.ensures.shaped in
-    let w : IsWhole device image case = made-whole image case c.in_ok-device.device c.windows_of.new.device device c.in_ok-device.ensures c.in_ok-windows.ensures.whole c.run-end.ensures.whole in
+    let w : HasWholeRun device image case = made-whole image case c.in_ok-device.device c.windows_of.new.device device c.in_ok-device.ensures c.in_ok-windows.ensures.whole c.run-end.ensures.whole in
     λ begin_at begins.
     c.in_ok-windows-2.ensures.counted ∙ ap (λ (bodies : List Body). length bodies) (bodies-are image case device shaped w begin_at begins)
 
@@ -41,11 +41,11 @@ returns-clause-shown c =
     let case = c.args.case.now in
     let device = c.run-end.new.self in
     let shaped = c.image-image.ensures.shaped in
-    let w : IsWhole device image case = made-whole image case c.in_ok-device.device c.windows_of.new.device device c.in_ok-device.ensures c.in_ok-windows.ensures.whole c.run-end.ensures.whole in
+    let w : HasWholeRun device image case = made-whole image case c.in_ok-device.device c.windows_of.new.device device c.in_ok-device.ensures c.in_ok-windows.ensures.whole c.run-end.ensures.whole in
     λ begin_at begins s shown is.
     let there = opens-there image case device shaped w begin_at begins in
     let watched = c.in_ok-windows-2.ensures.watched s shown is in
-    subst (λ (b : ℕ). ShowsWindow image (opening_of image case.session b) (run_of image case b) s shown) there watched.shows
+    subst (λ (b : ℕ). ShowsWindow image (opening_of image case.session b) (case_run image case b) s shown) there watched.shows
 
 pub returns-clause-judged : goal.returns-clause-judged
 returns-clause-judged c =
@@ -53,11 +53,11 @@ returns-clause-judged c =
     let case = c.args.case.now in
     let device = c.run-end.new.self in
     let shaped = c.image-image.ensures.shaped in
-    let w : IsWhole device image case = made-whole image case c.in_ok-device.device c.windows_of.new.device device c.in_ok-device.ensures c.in_ok-windows.ensures.whole c.run-end.ensures.whole in
+    let w : HasWholeRun device image case = made-whole image case c.in_ok-device.device c.windows_of.new.device device c.in_ok-device.ensures c.in_ok-windows.ensures.whole c.run-end.ensures.whole in
     λ begin_at begins s shown is.
     let there = opens-there image case device shaped w begin_at begins in
     let watched = c.in_ok-windows-2.ensures.watched s shown is in
-    subst (λ (b : ℕ). IsJudged image case.session b (run_of image case b) s shown.verdict) there watched.judged
+    subst (λ (b : ℕ). HasItsVerdict image case.session b (case_run image case b) s shown.verdict) there watched.judged
 
 pub returns-clause-parted : goal.returns-clause-parted
 returns-clause-parted c =
@@ -65,11 +65,11 @@ returns-clause-parted c =
     let case = c.args.case.now in
     let device = c.run-end.new.self in
     let shaped = c.image-image.ensures.shaped in
-    let w : IsWhole device image case = made-whole image case c.in_ok-device.device c.windows_of.new.device device c.in_ok-device.ensures c.in_ok-windows.ensures.whole c.run-end.ensures.whole in
+    let w : HasWholeRun device image case = made-whole image case c.in_ok-device.device c.windows_of.new.device device c.in_ok-device.ensures c.in_ok-windows.ensures.whole c.run-end.ensures.whole in
     λ begin_at begins s shown is.
     let there = opens-there image case device shaped w begin_at begins in
     let watched = c.in_ok-windows-2.ensures.watched s shown is in
-    subst (λ (b : ℕ). Parts image case.session (opening_of image case.session b) (run_of image case b) s shown) there watched.parts
+    subst (λ (b : ℕ). Parts image case.session (opening_of image case.session b) (case_run image case b) s shown) there watched.parts
 
 pub returns-clause-agrees : goal.returns-clause-agrees
 returns-clause-agrees c = λ given s shown is. (c.in_ok-windows-2.ensures.watched s shown is).agrees given

@@ -4,7 +4,7 @@ use Rattle.oat_journal.specs.Measured.{start_cells}
 use Rattle.oat_journal.specs.Window.{made_call}
 use Rattle.oat_measure.specs.Monitored.{cells_of}
 use Rattle.oat_watch.proofs.Collecting.{Grows, closed-more, closes, grows-by, held-next, in-more, last-one, out-more}
-use Rattle.oat_watch.specs.Collecting.{AreClosedWindows, Stands}
+use Rattle.oat_watch.specs.Collecting.{AreClosedWindows, RunStands}
 use Rattle.oat_watch.specs.Shown.{Holds}
 use Rattle.oat_watch.proofs.Staging.{turned}
 use Rattle.oat_watch.proofs.collection.Collection.take.Goals as goal
@@ -62,5 +62,5 @@ returns-clause-more c = λ o m next js e shows op measured was is col.
       cells = held;
       few = omega (arith, fewer, few);
       closed = subst (λ ws. AreClosedWindows image o (js ++ e ∷ []) ws) (sym c.in_ok-push.ensures.items) closing.closed;
-      stands = subst (λ ws. Stands image o next (js ++ e ∷ []) (length ws) c.replace-closed.new.dest) (sym c.in_ok-push.ensures.items) closing.stands;
+      stands = subst (λ ws. RunStands image o next (js ++ e ∷ []) (length ws) c.replace-closed.new.dest) (sym c.in_ok-push.ensures.items) closing.stands;
     }
