@@ -36,7 +36,7 @@ use Rattle.oat_watch.specs.declared.watched.CheckedUse.{CheckedUse as ShownUse}
 use Rattle.oat_watch.specs.declared.watched.WatchedWindow.{WatchedWindow}
 use Rattle.oat_watch.specs.declared.window.Window.{Window}
 use Rattle.oat_watch.specs.Shown.{Holds, use_of}
-use Rattle.oat_watch.specs.Watching.{FoundDefined, IsWatched, HasWholeRun, OfEach, PartsFrom, case_run}
+use Rattle.oat_watch.specs.Watching.{FoundDefined, IsWatched, HasWholeRun, OfEach, PartsFrom, watched_run}
 
 -- ---- the clash
 
@@ -72,13 +72,13 @@ module _ (image : Image) (case : Case) (begin_at : ℕ) (s : ℕ) (body : Body) 
   o = opening_of image case.session begin_at
 
   abbrev has_body : Type 0
-  has_body = HasBody o (case_run image case begin_at) s body
+  has_body = HasBody o (watched_run image case begin_at) s body
 
   abbrev head : Option ℕ → List ℕ
   head number = head_of (subject_of image case.session) number
 
   abbrev run_returns : List ℕ
-  run_returns = returns_of_run (window_of o s (case_run image case begin_at))
+  run_returns = returns_of_run (window_of o s (watched_run image case begin_at))
 
   -- the hash of an accepted blob is the chain of both lists of returns
   pub one-chain : (bytes : List ℕ) (path : List Edge) → has_body → IsBlobOf body case.session.key bytes → Accepts (subject_of image case.session) bytes path
@@ -93,7 +93,7 @@ module _ (image : Image) (case : Case) (begin_at : ℕ) (s : ℕ) (body : Body) 
   module _ (formed : IsWellFormedImage image) (shaped : IsShaped image) (begins : BeginsAt image.map case.session.op begin_at)
       (has : has_body) (bytes : List ℕ) (blob : IsBlobOf body case.session.key bytes) where
     abbrev window_shown : Window → Type 0
-    window_shown window = Holds image o.op (calls_before o s (case_run image case begin_at)) (window_of o s (case_run image case begin_at)) window
+    window_shown window = Holds image o.op (calls_before o s (watched_run image case begin_at)) (window_of o s (watched_run image case begin_at)) window
 
     all-sound : (uses : List ShownUse) → All IsSound (map use_of uses) → All FoundDefined uses
     all-sound uses sound k d below =
@@ -136,12 +136,12 @@ body-of device s below = let b = bodied (bodies_so_far device) s below in record
 
 -- the same of the device as of the run
 pub body-there : (device : DeviceRun) (image : Image) (case : Case) (s : ℕ) (body : Body) → HasWholeRun device image case → slice_get (bodies_so_far device) s ≡ Some body
-    → HasBody (opening_of image case.session device.begin_at) (case_run image case device.begin_at) s body
+    → HasBody (opening_of image case.session device.begin_at) (watched_run image case device.begin_at) s body
 body-there device image case s body w has = subst (λ (d : DeviceRun). slice_get (bodies_so_far d) s ≡ Some body) (whole-is device image case w) has
 
 pub holds-there : (device : DeviceRun) (image : Image) (case : Case) (s op : ℕ) (window : Window) → HasWholeRun device image case
     → Holds image op (calls_before (window_opening device) s (run_so_far device)) (window_of (window_opening device) s (run_so_far device)) window
-    → Holds image op (calls_before (opening_of image case.session device.begin_at) s (case_run image case device.begin_at)) (window_of (opening_of image case.session device.begin_at) s (case_run image case device.begin_at)) window
+    → Holds image op (calls_before (opening_of image case.session device.begin_at) s (watched_run image case device.begin_at)) (window_of (opening_of image case.session device.begin_at) s (watched_run image case device.begin_at)) window
 holds-there device image case s op window w holds =
     subst (λ (d : DeviceRun). Holds image op (calls_before (window_opening d) s (run_so_far d)) (window_of (window_opening d) s (run_so_far d)) window) (whole-is device image case w) holds
 
@@ -158,14 +158,14 @@ made-whole image case start once twice at one two = record {
 pub opens-there : (image : Image) (case : Case) (device : DeviceRun) → IsShaped image → HasWholeRun device image case → (begin_at : ℕ) → BeginsAt image.map case.session.op begin_at → device.begin_at ≡ begin_at
 opens-there image case device shaped w begin_at begins = sym (opens_once image.map case.session.op device.begin_at begin_at shaped.paired w.begins begins)
 
-pub run-is : (image : Image) (case : Case) (device : DeviceRun) → IsShaped image → HasWholeRun device image case → (begin_at : ℕ) → BeginsAt image.map case.session.op begin_at → run_so_far device ≡ case_run image case begin_at
-run-is image case device shaped w begin_at begins = ap run_so_far (whole-is device image case w) ∙ ap (case_run image case) (opens-there image case device shaped w begin_at begins)
+pub run-is : (image : Image) (case : Case) (device : DeviceRun) → IsShaped image → HasWholeRun device image case → (begin_at : ℕ) → BeginsAt image.map case.session.op begin_at → run_so_far device ≡ watched_run image case begin_at
+run-is image case device shaped w begin_at begins = ap run_so_far (whole-is device image case w) ∙ ap (watched_run image case) (opens-there image case device shaped w begin_at begins)
 
 pub bodies-are : (image : Image) (case : Case) (device : DeviceRun) → IsShaped image → HasWholeRun device image case → (begin_at : ℕ) → BeginsAt image.map case.session.op begin_at
-    → bodies_so_far device ≡ sealed_bodies (opening_of image case.session begin_at) (case_run image case begin_at).measurements
+    → bodies_so_far device ≡ sealed_bodies (opening_of image case.session begin_at) (watched_run image case begin_at).measurements
 bodies-are image case device shaped w begin_at begins =
     ap bodies_so_far (whole-is device image case w)
-    ∙ ap (λ (b : ℕ). sealed_bodies (opening_of image case.session b) (case_run image case b).measurements) (opens-there image case device shaped w begin_at begins)
+    ∙ ap (λ (b : ℕ). sealed_bodies (opening_of image case.session b) (watched_run image case b).measurements) (opens-there image case device shaped w begin_at begins)
 
 -- ---- one window more
 

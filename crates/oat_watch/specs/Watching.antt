@@ -25,14 +25,14 @@ use Rattle.oat_watch.specs.declared.watched.WatchedWindow.{WatchedWindow}
 use Rattle.oat_watch.specs.Shown.{use_of}
 
 -- the run of a case on an image, whose windows open there
-abbrev pub case_run : Image → Case → ℕ → Run
-case_run image case begin_at = dev image (opening_of image case.session begin_at) case.inputs case.writes case.steps
+abbrev pub watched_run : Image → Case → ℕ → Run
+watched_run image case begin_at = dev image (opening_of image case.session begin_at) case.inputs case.writes case.steps
 
 -- what is claimed of the run of a case on an image, whose windows open where its operation begins
 abbrev pub OfItsRun : Image → Case → (ℕ → Opening → Run → Type 0) → Type 0
 OfItsRun image case claim =
     (begin_at : ℕ) → BeginsAt image.map case.session.op begin_at
-    → claim begin_at (opening_of image case.session begin_at) (case_run image case begin_at)
+    → claim begin_at (opening_of image case.session begin_at) (watched_run image case begin_at)
 
 -- what is claimed of each window, by its number
 abbrev pub OfEach : List WatchedWindow → (ℕ → WatchedWindow → Type 0) → Type 0
@@ -45,11 +45,11 @@ pub record ShowsWindow (image : Image) (o : Opening) (run : Run) (s : ℕ) (show
   pub uses : map use_of shown.uses.items ≡ uses_of image o s run
 
 -- The verdict is that on the blob of the window's body.
-pub record HasItsVerdict (image : Image) (session : Session) (begin_at : ℕ) (run : Run) (s : ℕ) (verdict : Verdict) : Type 0 where
+pub record HasItsVerdict (image : Image) (session : Session) (begin_at : ℕ) (run : Run) (s : ℕ) (shown : WatchedWindow) : Type 0 where
   pub body : Body
   pub bytes : List ℕ
   pub reported : IsReported image session begin_at run s body bytes
-  pub judged : IsVerdict (subject_of image session) bytes verdict
+  pub judged : IsVerdict (subject_of image session) bytes shown.verdict
 
 -- The two messages are the clash of the returns and those of a path.
 abbrev pub AreClash : (head returns : List ℕ) → List Edge → Clash → Type 0
@@ -76,9 +76,9 @@ AgreesWithVerdict shown =
 
 -- All this of a window of the run of a case on an image, whose windows open there.
 pub record IsWatched (image : Image) (case : Case) (begin_at : ℕ) (s : ℕ) (shown : WatchedWindow) : Type 0 where
-  pub shows : ShowsWindow image (opening_of image case.session begin_at) (case_run image case begin_at) s shown
-  pub judged : HasItsVerdict image case.session begin_at (case_run image case begin_at) s shown.verdict
-  pub parts : Parts image case.session (opening_of image case.session begin_at) (case_run image case begin_at) s shown
+  pub shows : ShowsWindow image (opening_of image case.session begin_at) (watched_run image case begin_at) s shown
+  pub judged : HasItsVerdict image case.session begin_at (watched_run image case begin_at) s shown
+  pub parts : Parts image case.session (opening_of image case.session begin_at) (watched_run image case begin_at) s shown
   pub agrees : AreGiven case.inputs case.writes → AgreesWithVerdict shown
 
 -- A device has made the whole run of a case on an image.

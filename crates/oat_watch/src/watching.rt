@@ -45,8 +45,7 @@ pub fn watch(alloc: Global, shaped: &Shaped, case: &Case) -> Result<Watched, All
     ensures outputs { IfOk result (λ watched. OfItsRun shaped.now case.now (λ begin_at o run. watched.outputs.items ≡ run.running.outputs)) }
     ensures counted { IfOk result (λ watched. OfItsRun shaped.now case.now (λ begin_at o run. length watched.windows.items ≡ length (sealed_bodies o run.measurements))) }
     ensures shown { IfOk result (λ watched. OfItsRun shaped.now case.now (λ begin_at o run. OfEach watched.windows.items (ShowsWindow shaped.now o run))) }
-    ensures judged { IfOk result (λ watched. OfItsRun shaped.now case.now (λ begin_at o run.
-        OfEach watched.windows.items (λ s shown. HasItsVerdict shaped.now case.now.session begin_at run s shown.verdict))) }
+    ensures judged { IfOk result (λ watched. OfItsRun shaped.now case.now (λ begin_at o run. OfEach watched.windows.items (HasItsVerdict shaped.now case.now.session begin_at run))) }
     ensures parted { IfOk result (λ watched. OfItsRun shaped.now case.now (λ begin_at o run. OfEach watched.windows.items (Parts shaped.now case.now.session o run))) }
     ensures agrees { IfOk result (λ watched. AreGiven case.now.inputs case.now.writes → OfEach watched.windows.items (λ s shown. AgreesWithVerdict shown)) }
 {

@@ -8,7 +8,7 @@ use Rattle.oat_journal.specs.Window.{returns_of_run}
 use Rattle.oat_measure.specs.Shelving.{serial_of}
 use Rattle.oat_verify.proofs.OneVerdict.{acceptance_at_once}
 use Rattle.oat_verify.specs.Verdict.{IsVerdict, head_of, subject_of}
-use Rattle.oat_watch.specs.Watching.{PartsFrom, case_run}
+use Rattle.oat_watch.specs.Watching.{PartsFrom, watched_run}
 use Rattle.oat_watch.proofs.Verdicts.{body-of, body-there, holds-there, is-watched, number-is, one-chain}
 use Rattle.oat_watch.proofs.judging.judged.Goals as goal
 
@@ -20,7 +20,7 @@ parting-requires c =
     let w = c.requires.whole in
     let s = c.args.serial in
     let o = opening_of image case.session device.begin_at in
-    let run = case_run image case device.begin_at in
+    let run = watched_run image case device.begin_at in
     let b = body-of device s c.requires.sealed in
     let has = body-there device image case s b.body w b.has in
     let holds = holds-there device image case s case.session.op c.args.window.now w c.requires.holds in
@@ -50,7 +50,7 @@ returns c =
     let w = c.requires.whole in
     let s = c.args.serial in
     let o = opening_of image case.session device.begin_at in
-    let run = case_run image case device.begin_at in
+    let run = watched_run image case device.begin_at in
     let b = body-of device s c.requires.sealed in
     let has = body-there device image case s b.body w b.has in
     let holds = holds-there device image case s case.session.op c.args.window.now w c.requires.holds in

@@ -1,7 +1,7 @@
 use Rattle.std.proofs.Common.{◌∙◌, ℕ, List, length, ap, subst}
 use Rattle.oat_blob.specs.Body.{Body}
 use Rattle.oat_journal.specs.Measured.{Run, end_of, opening_of}
-use Rattle.oat_watch.specs.Watching.{HasItsVerdict, HasWholeRun, Parts, ShowsWindow, case_run}
+use Rattle.oat_watch.specs.Watching.{HasItsVerdict, HasWholeRun, Parts, ShowsWindow, watched_run}
 use Rattle.oat_watch.proofs.Verdicts.{bodies-are, made-whole, opens-there, run-is}
 use Rattle.oat_watch.proofs.watching.watch.Goals as goal
 
@@ -45,7 +45,7 @@ returns-clause-shown c =
     λ begin_at begins s shown is.
     let there = opens-there image case device shaped w begin_at begins in
     let watched = c.in_ok-windows-2.ensures.watched s shown is in
-    subst (λ (b : ℕ). ShowsWindow image (opening_of image case.session b) (case_run image case b) s shown) there watched.shows
+    subst (λ (b : ℕ). ShowsWindow image (opening_of image case.session b) (watched_run image case b) s shown) there watched.shows
 
 pub returns-clause-judged : goal.returns-clause-judged
 returns-clause-judged c =
@@ -57,7 +57,7 @@ returns-clause-judged c =
     λ begin_at begins s shown is.
     let there = opens-there image case device shaped w begin_at begins in
     let watched = c.in_ok-windows-2.ensures.watched s shown is in
-    subst (λ (b : ℕ). HasItsVerdict image case.session b (case_run image case b) s shown.verdict) there watched.judged
+    subst (λ (b : ℕ). HasItsVerdict image case.session b (watched_run image case b) s shown) there watched.judged
 
 pub returns-clause-parted : goal.returns-clause-parted
 returns-clause-parted c =
@@ -69,7 +69,7 @@ returns-clause-parted c =
     λ begin_at begins s shown is.
     let there = opens-there image case device shaped w begin_at begins in
     let watched = c.in_ok-windows-2.ensures.watched s shown is in
-    subst (λ (b : ℕ). Parts image case.session (opening_of image case.session b) (case_run image case b) s shown) there watched.parts
+    subst (λ (b : ℕ). Parts image case.session (opening_of image case.session b) (watched_run image case b) s shown) there watched.parts
 
 pub returns-clause-agrees : goal.returns-clause-agrees
 returns-clause-agrees c = λ given s shown is. (c.in_ok-windows-2.ensures.watched s shown is).agrees given
