@@ -6,4 +6,7 @@ mod Runs
 pub mod Whole
 mod Telling
 mod Bodies
+mod Growing
+mod Advancing
+pub mod DeviceLaws
 pub mod Counting

@@ -75,17 +75,17 @@ pub record Turned (now next : Course) : Type 0 where
   pub writes : DoesFrom next.bare.made next.bare.writes.now now.bare.writes.now
   pub ready : IsReady next
 
-turns-going : (device : Course) → device.bare.end ≡ None → turns_of device ≡ device.bare.made
+pub turns-going : (device : Course) → device.bare.end ≡ None → turns_of device ≡ device.bare.made
 turns-going device going = ap (λ (e : Option DeviceEnd). elim e as (λ _. ℕ) [ None ↦ device.bare.made | Some why ↦ device.steps ]) going
 
-turns-ended : (device : Course) (why : DeviceEnd) → device.bare.end ≡ Some why → turns_of device ≡ device.steps
+pub turns-ended : (device : Course) (why : DeviceEnd) → device.bare.end ≡ Some why → turns_of device ≡ device.steps
 turns-ended device why ended = ap (λ (e : Option DeviceEnd). elim e as (λ _. ℕ) [ None ↦ device.bare.made | Some why ↦ device.steps ]) ended
 
 abbrev made-by : Image → Case → ℕ → ℕ → Progress
 made-by image case begin_at n = after_turns image.code case.writes (opening_of image case.session begin_at) n (first_of image (opening_of image case.session begin_at) case.inputs)
 
 -- the run behind one more turn
-run-next : (now next : Course) (image : Image) (case : Case) (begin_at : ℕ) → HasMade now image case begin_at → Turned now next → now.bare.end ≡ None
+pub run-next : (now next : Course) (image : Image) (case : Case) (begin_at : ℕ) → HasMade now image case begin_at → Turned now next → now.bare.end ≡ None
     → progress_of next ≡ made-by image case begin_at (now.bare.made + 1)
 run-next now next image case begin_at s t going =
     let o = opening_of image case.session begin_at in

@@ -1,4 +1,5 @@
 pub mod DeviceRun
+pub mod Advancing
 pub mod Telling
 pub mod Standing
 pub mod Records

@@ -1,47 +1,27 @@
 ghost use Rattle.std.specs.Prelude.{◌≡◌};
-ghost use Rattle.oat_cpu.specs.Processor.{regs_of};
+ghost use Rattle.oat_a64.specs.Step.{Regs};
 ghost use Rattle.oat_measure.specs.Monitor.{call_numbered};
 
-use oat_cpu::Cpu;
 use oat_measure::MonitorCall;
 
-/// The call with this number, as the registers stand before it.
-pub fn call_numbered(number: u16, found: &Cpu) -> Option<MonitorCall>
-    ensures { result ≡ call_numbered number (regs_of found.now) }
+/// The call with this number, where an instruction at `pc` found these words in X9, X10 and X30.
+pub fn call_numbered(number: u16, pc: u64, x9: u64, x10: u64, x30: u64) -> Option<MonitorCall>
+    ensures { (r : Regs) → r.pc ≡ pc → r.x 9 ≡ x9 → r.x 10 ≡ x10 → r.x 30 ≡ x30 → result ≡ call_numbered number r }
 {
-    let x9 = found.x[9];
-    let x10 = found.x[10];
-    if number == 1 {
-        return Some(MonitorCall::Begin {
-            op: x9,
-            at: found.pc,
-        });
-    }
-    if number == 2 {
-        return Some(MonitorCall::End { op: x9 });
-    }
-    if number == 3 {
-        return Some(MonitorCall::Bit { value: x9 });
-    }
-    if number == 4 {
-        return Some(MonitorCall::Target { address: x9 });
-    }
-    if number == 5 {
-        return Some(MonitorCall::Return {
-            address: found.x[30],
-        });
-    }
-    if number == 6 {
-        return Some(MonitorCall::Define {
+    match number {
+        1 => Some(MonitorCall::Begin { op: x9, at: pc }),
+        2 => Some(MonitorCall::End { op: x9 }),
+        3 => Some(MonitorCall::Bit { value: x9 }),
+        4 => Some(MonitorCall::Target { address: x9 }),
+        5 => Some(MonitorCall::Return { address: x30 }),
+        6 => Some(MonitorCall::Define {
             cell: x9,
             value: x10,
-        });
-    }
-    if number == 7 {
-        return Some(MonitorCall::Use {
+        }),
+        7 => Some(MonitorCall::Use {
             cell: x9,
             value: x10,
-        });
+        }),
+        _ => None,
     }
-    None
 }

@@ -29,7 +29,9 @@ fn call_told(event: Event, found: &Cpu) -> Option<MonitorCall>
     ensures { result ≡ call_told event (regs_of found.now) }
 {
     match event {
-        Event::Svc(number) => call_numbered(number, found),
+        Event::Svc(number) => {
+            call_numbered(number, found.pc, found.x[9], found.x[10], found.x[30])
+        }
         _ => None,
     }
 }

@@ -1,17 +1,20 @@
-ghost use Rattle.std.specs.Prelude.{◌≡◌, ◌<◌, length, slice_get, IfOk, MatchOption, Some};
+ghost use Rattle.std.specs.Prelude.{◌≡◌, ◌↔◌, ◌<◌, length, slice_get, IfOk, IsSome, IsTrue, MatchOption, None, Some};
 ghost use Rattle.oat_blob.specs.Body.{Body};
 ghost use Rattle.oat_blob.specs.Layout.{IsBlobOf};
 ghost use Rattle.oat_case.specs.Limits.{IsWellFormedCase};
 ghost use Rattle.oat_measure.specs.declared.engine.Engine.TheVariants as EngineState;
-ghost use Rattle.oat_measure.specs.Measurement.{sealed};
+ghost use Rattle.oat_measure.specs.Measurement.{measuring, sealed};
 ghost use Rattle.oat_map.specs.Rows.{IsOperation};
 ghost use Rattle.oat_journal.specs.Measured.{end_of};
+ghost use Rattle.oat_device.specs.Advancing.{HasEntry, HasNoEntry, IsInside, end_by_now, run_after_next};
 ghost use Rattle.oat_device.specs.DeviceRun.{BodiesAreTrue, IsAtStart, IsSealed, ReportsItsBody, bodies_so_far, run_so_far};
 ghost use Rattle.oat_device.specs.Standing.{state_of};
 
 use crate::bare::BareRun;
 use crate::course::Course;
+use crate::entry::Entry;
 use crate::start::{opening, start_cells, start_memory};
+use oat_a64::word_at;
 use oat_blob::encode;
 use oat_case::Case;
 use oat_cpu::Cpu;
@@ -27,6 +30,15 @@ fn sealed_in(engine: &Option<Engine>) -> Option<&Sealed>
     match engine {
         Some(Engine::After(sealed)) => Some(sealed),
         _ => None,
+    }
+}
+
+fn is_measuring(engine: &Option<Engine>) -> bool
+    ensures { IsTrue result ↔ ((state_of engine.now).stage ≡ measuring) }
+{
+    match engine {
+        Some(Engine::Inside(_)) => true,
+        _ => false,
     }
 }
 
@@ -107,6 +119,52 @@ impl<'a> Device<'a> {
             self.course.turn();
         }
         self.course.bare.end.unwrap_or(DeviceEnd::OutOfSteps)
+    }
+
+    /// Makes the writes that are due and the next instruction, with its monitor call, and answers its entry where that doesn't end the run.
+    pub fn advance(&mut self) -> Option<Entry>
+        ensures same { self.new ≡ record self.old { turns = self.new.turns } }
+        ensures rests { IsSome (end_by_now self.old) → self.new ≡ self.old }
+        ensures makes { end_by_now self.old ≡ None → run_so_far self.new ≡ run_after_next self.old }
+        ensures answers { MatchOption result (HasNoEntry self.old self.new) (HasEntry self.old self.new) }
+    {
+        if self.end().is_some() {
+            return None;
+        }
+        let found = self.course.bare.cpu;
+        self.course.turn();
+        let ended = self.course.bare.end.is_some();
+        if ended {
+            return None;
+        }
+        Some(Entry {
+            word: word_at(self.course.bare.code, found.pc).unwrap(),
+            pc: found.pc,
+            next: self.course.bare.cpu.pc,
+            x9: found.x[9],
+            x10: found.x[10],
+            x30: found.x[30],
+        })
+    }
+
+    /// How the run ended: None exactly while it goes on.
+    pub fn end(&self) -> Option<DeviceEnd>
+        ensures end { result ≡ end_by_now self.now }
+        ensures whole { IsSome result → self.now.turns ≡ self.now.case.steps }
+    {
+        let end = self.course.bare.end;
+        if self.course.bare.made < self.course.steps {
+            end
+        } else {
+            Some(end.unwrap_or(DeviceEnd::OutOfSteps))
+        }
+    }
+
+    /// Whether a window is open.
+    pub fn inside(&self) -> bool
+        ensures { IsTrue result ↔ IsInside (run_so_far self.now) }
+    {
+        is_measuring(&self.course.engine)
     }
 
     /// The outputs so far.

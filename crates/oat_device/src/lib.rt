@@ -5,12 +5,14 @@ mod bare;
 mod call;
 mod course;
 mod device;
+mod entry;
 pub mod laws;
 mod monitor;
 mod start;
 mod writes;
 
-pub use call::call_numbered;
 pub use device::Device;
+pub use entry::Entry;
 pub use oat_journal::{DeviceEnd, StopKind};
 pub use oat_measure::MonitorCall;
+pub use start::first_words;

@@ -41,6 +41,16 @@ pub fn start_cells(alloc: Global, image: &Image, memory: &Memory) -> Result<Vec<
     Ok(cells)
 }
 
+/// The first words of the critical cells of an image.
+pub fn first_words(alloc: Global, image: &Image) -> Result<Vec<u64>, AllocError>
+    requires { IsWellFormedImage image.now }
+    ensures words { IfOk result (λ cells. cells_of cells.items ≡ start_cells image.now) }
+    ensures few { IfOk result (λ cells. length cells.items ≤ 65536) }
+{
+    let memory = start_memory(alloc, image)?;
+    start_cells(alloc, image, &memory)
+}
+
 /// What the first window of a session is opened for.
 pub fn opening(shaped: &Shaped, session: &Session) -> Opening
     requires { IsOperation shaped.now.map session.now.op }

@@ -2,6 +2,7 @@ pub mod PathLine
 pub mod Counting
 pub mod SameLines
 pub mod VerdictLine
+pub mod TraceLine
 pub mod WorkedLines
 pub mod SourceLine
 pub mod JsonLine

@@ -7,6 +7,7 @@ mod line;
 mod place;
 mod source;
 mod text;
+mod trace;
 mod verdict;
 
 pub use json_report::{Report, json_line};
@@ -14,4 +15,5 @@ pub use line::{call_of, path_line};
 pub use place::{block_at, function_at, last_below, number_in_place, place_at_or_below};
 pub use source::source_line;
 pub use text::without_zeros;
+pub use trace::{apart_line, use_line};
 pub use verdict::verdict_line;

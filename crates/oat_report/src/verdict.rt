@@ -11,14 +11,14 @@ use oat_replay::ReplayCause;
 use oat_verify::{Cause, Verdict};
 use std::alloc::{AllocError, Global};
 
-fn put_value(out: &mut Vec<u8>, value: u64) -> Result<(), AllocError>
+pub fn put_value(out: &mut Vec<u8>, value: u64) -> Result<(), AllocError>
     ensures { OnOk result (out.new.items ≡ out.old.items ++ value_text value) }
 {
     let digits = format!(in *out.allocator(); "{}", value.cast_signed())?;
     out.extend_from_slice(digits.as_bytes())
 }
 
-fn put_counted(out: &mut Vec<u8>, keyword: &[u8], count: u32) -> Result<(), AllocError>
+pub fn put_counted(out: &mut Vec<u8>, keyword: &[u8], count: u32) -> Result<(), AllocError>
     ensures { OnOk result (out.new.items ≡ out.old.items ++ (keyword.now ++ decimal count)) }
 {
     out.extend_from_slice(keyword)?;

@@ -1,0 +1,9 @@
+mod Closing
+mod Staging
+mod Collecting
+mod Whole
+mod Verdicts
+mod Overs
+mod Targets
+mod Taking
+mod Using
