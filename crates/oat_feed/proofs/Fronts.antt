@@ -1,6 +1,5 @@
 -- Fronts of bytes that begin a blob, and the offset at which bytes stop being one.
 use Rattle.std.proofs.Common.{◌≡◌, ℕ, suc, ◌<◌, ◌≤◌, ◌^◌, List, [], ◌++◌, None, length, take, drop, replicate, refl, ap, sym, subst, ◌∙◌, arith, append_assoc}
-use Rattle.std.specs.List.{All}
 use Rattle.std.proofs.lemmas.List.Elements.{All-nil, All-replicate}
 use Rattle.std.proofs.lemmas.List.{append-nil, length-replicate, take-append-drop, take-take, take_all}
 use Rattle.oat_blob.specs.Body.{AreBytes, Body, IsBody}

@@ -1,5 +1,5 @@
 -- The places of a blob's records, by its counts, and the records that stand there.
-use Rattle.std.proofs.Common.{◌≡◌, ℕ, ◌+◌, ◌*◌, ◌/◌, ◌<◌, ◌≤◌, ◌^◌, Bool, List, [], ◌∷◌, ◌++◌, length, take, drop, map, refl, ap, sym, subst, ◌∙◌, arith, append_assoc, length-append, inl, inr}
+use Rattle.std.proofs.Common.{◌≡◌, ℕ, ◌+◌, ◌*◌, ◌/◌, ◌<◌, ◌≤◌, ◌^◌, List, [], ◌∷◌, ◌++◌, length, take, drop, map, refl, ap, sym, subst, ◌∙◌, arith, length-append, inl, inr}
 use Rattle.std.proofs.lemmas.Bool.{cases_lt}
 use Rattle.std.proofs.lemmas.List.{append-nil, drop-drop, drop_at}
 use Rattle.std.proofs.lemmas.List.FromFn.{length-map-range_with_len}
@@ -12,14 +12,13 @@ use Rattle.oat_bits.specs.Packed.{packed}
 use Rattle.oat_bits.specs.Bits.{bits_in}
 use Rattle.oat_bits.proofs.PackedForm.{bits_in-packed, length-packed, slice_get-map-range}
 use Rattle.oat_blob.specs.Body.{Body}
-use Rattle.oat_blob.specs.Layout.{IsBlob, bits_part, targets_part}
+use Rattle.oat_blob.specs.Layout.{IsBlob, bits_part}
 use Rattle.oat_blob.specs.Parts.{addresses_part, head_part}
 use Rattle.oat_blob.specs.Shown.{target_in, targets_in}
 use Rattle.oat_feed.specs.declared.places.RecordPlaces.{RecordPlaces}
-use Rattle.oat_feed.specs.RecordBytes.{bits_place, bits_size, targets_place, targets_size}
+use Rattle.oat_feed.specs.RecordBytes.{bits_place, bits_size}
 use Rattle.oat_feed.specs.Counts.{IsCountAt}
 use Rattle.oat_feed.specs.RecordPlaces.{AreRecordPlaces, HoldsRecords, ShowsRecordPlaces, kept_bits, kept_targets}
-use Rattle.oat_feed.specs.Verdict.{AreRecordsOf, of_blob}
 use Rattle.oat_feed.proofs.PartsAt.{at_bit_count, at_bits, at_target_count, at_targets, bits_place_is, part_at}
 use Rattle.oat_feed.proofs.RoomLeft.{sizes}
 

@@ -1,5 +1,5 @@
 -- What a feed settles of the bytes that came, by the front that it keeps.
-use Rattle.std.proofs.Common.{◌≡◌, ℕ, List, length, take, sym, subst, ◌∙◌}
+use Rattle.std.proofs.Common.{◌≡◌, ℕ, List, length, sym, subst, ◌∙◌}
 use Rattle.oat_blob.specs.Layout.{IsBlob}
 use Rattle.oat_blob.specs.Faults.{BeginsBlob, IsFormOffset}
 use Rattle.oat_feed.specs.declared.intake.State.TheVariants.{Broken}

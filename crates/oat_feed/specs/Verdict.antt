@@ -1,5 +1,5 @@
 -- The verdict of a feed: that on the whole of the bytes that came, but for the path; and what is kept of the bytes.
-use Rattle.std.specs.Prelude.{◌≡◌, ℕ, Bool, None, Some, Option, List, []}
+use Rattle.std.specs.Prelude.{◌≡◌, ℕ, Bool, List, []}
 use Rattle.oat_blob.specs.Body.{Body}
 use Rattle.oat_blob.specs.Layout.{IsBlob}
 use Rattle.oat_verify.specs.declared.verdict.Verdict.{Verdict}

@@ -1,12 +1,12 @@
 -- The lines of a path that is found again in its records.
-use Rattle.std.proofs.Common.{◌≡◌, ℕ, Bool, List, [], ◌∷◌, ◌++◌, length, Option, Result, Ok, Err, refl, sym, ap, subst, ◌∙◌, append_assoc, append-nil}
+use Rattle.std.proofs.Common.{◌≡◌, ℕ, Bool, List, [], ◌∷◌, ◌++◌, length, Option, ap, ◌∙◌, append_assoc, append-nil}
 use Rattle.std.proofs.lemmas.Grind.{flat_map-append}
 use Rattle.std.proofs.lemmas.List.Elements.{filter_map-append}
 use Rattle.oat_map.specs.declared.edge.Edge.{Edge}
 use Rattle.oat_map.specs.declared.map.Map.{Map}
 use Rattle.oat_map.specs.Walk.{Step, passed, moved, edge_of, path_of}
 use Rattle.oat_replay.specs.declared.replay.Replay.{Replay}
-use Rattle.oat_replay.specs.Replay.{FollowsRecords, IsWalked}
+use Rattle.oat_replay.specs.Replay.{IsWalked}
 use Rattle.oat_replay.specs.StandsBehind.{StandsBehind}
 use Rattle.oat_replay.proofs.ReplayLemmas.{followers_are_fronts, one_path}
 use Rattle.oat_world.specs.Outside.{Adds}

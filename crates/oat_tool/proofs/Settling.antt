@@ -9,7 +9,6 @@ use Rattle.oat_verify.specs.declared.verdict.Verdict.TheVariants.{Accept, Refuse
 use Rattle.oat_verify.specs.declared.verdict.Cause.{Cause}
 use Rattle.oat_verify.specs.Verdict.{Accepts, Subject, IsVerdict}
 use Rattle.oat_verify.proofs.OneVerdict.{acceptance_at_once}
-use Rattle.oat_feed.specs.declared.verdict.FeedVerdict.{FeedVerdict}
 use Rattle.oat_feed.specs.declared.verdict.FeedVerdict.TheVariants as feeds
 use Rattle.oat_feed.specs.declared.verdict.Settled.{Settled}
 use Rattle.oat_feed.specs.Verdict.{AreRecordsOf, RecordLists, of_blob, of_none, feed_verdict_of}

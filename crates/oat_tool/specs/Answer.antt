@@ -21,8 +21,8 @@ as_outcome (shows ended out err) = record { status = status_of ended; out = out;
 as_outcome (refuses text) = says 2 text
 
 -- the outcome of work that was done
-abbrev pub IsShown : Ended → (out err : List ℕ) → Outcome → Type 0
-IsShown ended out err o = o ≡ as_outcome (shows ended out err)
+abbrev pub IsWorkOutcome : Ended → (out err : List ℕ) → Outcome → Type 0
+IsWorkOutcome ended out err o = o ≡ as_outcome (shows ended out err)
 
 abbrev pub refused : List ℕ → List ℕ → Answer
 refused file reason = refuses (refusal file reason)

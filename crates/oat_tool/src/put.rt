@@ -2,7 +2,7 @@ ghost use Rattle.std.specs.Prelude.{◌≡◌, ◌≢◌, ◌<◌, ◌⊎◌, �
 ghost use Rattle.oat_world.specs.Outside.{Rose};
 ghost use Rattle.oat_tool.specs.Outcome.{says};
 ghost use Rattle.oat_tool.specs.Texts.{starved};
-ghost use Rattle.oat_tool.specs.Answer.{IsShown};
+ghost use Rattle.oat_tool.specs.Answer.{IsWorkOutcome};
 ghost use Rattle.oat_tool.specs.Puts.{PutsAll, SaysLast};
 ghost use Rattle.oat_tool.specs.Shows.{Put, HasFailed, Shows};
 ghost use Rattle.oat_tool.specs.Call.{put_of};
@@ -77,7 +77,7 @@ pub fn say_starved<E: Sink>(err: &mut E) -> u8
 /// Says the last text behind a text that was put as far as it went, and answers the call's status.
 pub fn close<E: Sink>(put: Result<(), SinkFault>, ended: Ended, said: &[u8], err: &mut E) -> u8
     ensures shows { (text : List ℕ) (out : Put) → PutsAll text out put
-        → Shows (IsShown ended text said.now) out (put_of E.told E.faults err.old err.new) result }
+        → Shows (IsWorkOutcome ended text said.now) out (put_of E.told E.faults err.old err.new) result }
     ensures write_fault { (text : List ℕ) (out : Put) → PutsAll text out put → result ≡ 5 → HasFailed out ⊎ Rose (E.faults err.old) (E.faults err.new) }
     ensures raised { (text : List ℕ) (out : Put) → PutsAll text out put → (out.before < out.after) ⊎ (E.faults err.old < E.faults err.new) → result ≡ 5 }
     ensures no_fault { result ≢ 4 }
@@ -111,7 +111,7 @@ fn put_page<P: Pieces + Drop, O: Sink, E: Sink>(
     out: &mut O,
     err: &mut E,
 ) -> u8
-    ensures shows { Shows (IsShown page.ended (P.text page.pieces) page.err.items)
+    ensures shows { Shows (IsWorkOutcome page.ended (P.text page.pieces) page.err.items)
         (put_of O.told O.faults out.old out.new) (put_of E.told E.faults err.old err.new) result }
     ensures write_fault { result ≡ 5 → Rose (O.faults out.old) (O.faults out.new) ⊎ Rose (E.faults err.old) (E.faults err.new) }
     ensures raised { (O.faults out.old < O.faults out.new) ⊎ (E.faults err.old < E.faults err.new) → result ≡ 5 }

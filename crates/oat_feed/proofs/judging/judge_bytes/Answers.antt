@@ -1,4 +1,4 @@
-use Rattle.std.proofs.Common.{ap, refl, arith}
+use Rattle.std.proofs.Common.{ap, refl}
 use Rattle.oat_blob.specs.declared.body.BodyHead.{BodyHead}
 use Rattle.oat_verify.specs.Verdict.{blob, form, carried}
 use Rattle.oat_feed.specs.Verdict.{of_blob, of_none}

@@ -1,4 +1,4 @@
-use Rattle.std.proofs.Common.{◌≡◌, ◌+◌, ◌++◌, ◌∷◌, [], ℕ, List, refl, sym, ap, subst, ◌∙◌, arith, length-append}
+use Rattle.std.proofs.Common.{◌+◌, ◌++◌, ◌∷◌, [], ℕ, List, refl, sym, ap, subst, ◌∙◌, length-append}
 use Rattle.oat_chain.specs.declared.Chain.{Chain}
 use Rattle.oat_chain.specs.Standing.{StandsFor}
 use Rattle.oat_map.specs.Walk.{moved, passed, path_of, returns_of}

@@ -1,6 +1,5 @@
-use Rattle.std.proofs.Common.{◌≡◌, ◌+◌, ◌≤◌, ◌<◌, ◌∷◌, [], ◌++◌, refl, ap, sym, ◌∙◌, arith, length}
+use Rattle.std.proofs.Common.{◌++◌, refl, ap, sym, ◌∙◌, arith}
 use Rattle.std.specs.Prelude.{is_some}
-use Rattle.oat_blob.specs.Laws.{flag_place}
 use Rattle.oat_feed.proofs.PartsAt.{behind_flag, flag_in, flagged, has_flag, length-version_part, one_byte, version_in}
 use Rattle.oat_feed.proofs.places.head_size.Goals as goal
 

@@ -1,4 +1,3 @@
-use Rattle.std.proofs.Common.{refl}
 use Rattle.oat_tool.proofs.Digits.{settles_all}
 use Rattle.oat_tool.proofs.feeding.settle.Goals as goal
 

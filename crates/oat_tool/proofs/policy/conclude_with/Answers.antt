@@ -1,10 +1,10 @@
-use Rattle.std.proofs.Common.{◌≡◌, ◌∙◌, ◌++◌, [], ap, refl, Option}
+use Rattle.std.proofs.Common.{◌∙◌, ◌++◌, [], ap, refl, Option}
 use Rattle.oat_shape.proofs.Laid.{starts}
 use Rattle.oat_verify.specs.Verdict.{subject_of}
 use Rattle.oat_policy.specs.declared.verdict.PolicyVerdict.{PolicyVerdict}
 use Rattle.oat_tool.specs.declared.page.Ended.{Ended}
 use Rattle.oat_tool.specs.Answer.{as_outcome, shows}
-use Rattle.oat_tool.specs.Policy.{ended_by, said_of, said_text, with_policy}
+use Rattle.oat_tool.specs.Policy.{said_of, said_text, with_policy}
 use Rattle.oat_tool.specs.Report.{report_of, report_text}
 use Rattle.oat_tool.specs.Shows.{at_once}
 use Rattle.oat_tool.specs.Texts.{starved}

@@ -1,4 +1,4 @@
-use Rattle.std.proofs.Common.{◌≡◌, ◌∙◌, ℕ, List, Some, Option, ap, refl, sym, subst}
+use Rattle.std.proofs.Common.{◌≡◌, ◌∙◌, ℕ, Some, ap, sym, subst}
 use Rattle.oat_image.specs.declared.image.Image.{Image}
 use Rattle.oat_replay.specs.declared.cause.ReplayCause.{ReplayCause}
 use Rattle.oat_replay.specs.declared.cause.WalkFault.{WalkFault}

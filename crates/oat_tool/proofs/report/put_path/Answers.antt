@@ -1,4 +1,4 @@
-use Rattle.std.proofs.Common.{◌≡◌, ◌∙◌, ◌+◌, ◌++◌, ◌∷◌, [], ℕ, List, ap, refl, sym, subst, arith, length, length-append}
+use Rattle.std.proofs.Common.{◌≡◌, ◌∙◌, ◌+◌, ◌++◌, ◌∷◌, [], ℕ, List, ap, refl, sym, subst, length-append}
 use Rattle.std.proofs.lemmas.Result.{err_from_is_err_and}
 use Rattle.oat_world.specs.Outside.{Adds}
 use Rattle.oat_image.specs.declared.image.Image.{Image}
@@ -8,7 +8,7 @@ use Rattle.oat_shape.proofs.Laid.{laid}
 use Rattle.oat_tool.specs.Call.{put_of}
 use Rattle.oat_tool.specs.Puts.{PutsAll}
 use Rattle.oat_tool.specs.Report.{path_text}
-use Rattle.oat_tool.proofs.Putting.{Adds-nothing, Adds-then, PutsAll-behind, PutsAll-starved, PutsAll-then}
+use Rattle.oat_tool.proofs.Putting.{Adds-nothing, Adds-then, PutsAll-behind, PutsAll-then}
 use Rattle.oat_tool.proofs.Retracing.{is_last, is_next, text_moved, text_passed}
 use Rattle.oat_tool.proofs.report.put_path.Goals as goal
 use Rattle.oat_tool.proofs.report.put_path.Goals.{in-Moved+in_ok-put_edge-in-Moved, in-Passed}

@@ -1,11 +1,11 @@
-use Rattle.std.proofs.Common.{◌≡◌, ◌∙◌, ◌++◌, ℕ, List, ap, refl, sym, subst}
+use Rattle.std.proofs.Common.{◌≡◌, ◌∙◌, ◌++◌, ℕ, List, ap, sym, subst}
 use Rattle.std.proofs.lemmas.Result.{err_from_is_err_and}
 use Rattle.oat_report.specs.VerdictLine.{verdict_text}
 use Rattle.oat_verify.specs.declared.verdict.Verdict.{Verdict}
 use Rattle.oat_tool.specs.Outcome.{line}
 use Rattle.oat_tool.specs.Call.{put_of}
 use Rattle.oat_tool.specs.Puts.{PutsAll}
-use Rattle.oat_tool.specs.Report.{path_in, path_text, report_text}
+use Rattle.oat_tool.specs.Report.{path_in, path_text}
 use Rattle.oat_tool.proofs.Putting.{PutsAll-front, PutsAll-then}
 use Rattle.oat_tool.proofs.Settling.{accepted}
 use Rattle.oat_tool.proofs.report.put_report.Goals as goal

@@ -1,8 +1,7 @@
-use Rattle.std.proofs.Common.{◌≡◌, ◌∙◌, ap, sym, subst, refl, length}
+use Rattle.std.proofs.Common.{◌∙◌, ap, sym, subst, refl}
 use Rattle.std.specs.Prelude.{vec_capacity}
 use Rattle.oat_verify.specs.Verdict.{form, no_blob}
 use Rattle.oat_feed.specs.declared.intake.State.{State}
-use Rattle.oat_feed.specs.declared.intake.State.TheVariants.{Open, Broken}
 use Rattle.oat_feed.specs.RecordPlaces.{kept_bits, kept_targets}
 use Rattle.oat_feed.specs.Standing.{KeepsFront}
 use Rattle.oat_feed.specs.Verdict.{of_none}

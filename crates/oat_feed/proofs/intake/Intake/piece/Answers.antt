@@ -1,4 +1,4 @@
-use Rattle.std.proofs.Common.{◌≡◌, ◌+◌, ◌-◌, ◌≤◌, ◌++◌, ℕ, List, length, take, drop, arith, ap, sym, subst, ◌∙◌, append_assoc}
+use Rattle.std.proofs.Common.{◌-◌, ◌≤◌, ◌++◌, ℕ, List, take, drop, arith, ap, subst, ◌∙◌, append_assoc}
 use Rattle.oat_feed.specs.Standing.{TakesIn}
 use Rattle.oat_feed.proofs.Extending.{chunk_byte, chunk_joined, on_an_err}
 use Rattle.oat_feed.proofs.intake.Intake.piece.Goals as goal

@@ -1,4 +1,4 @@
-use Rattle.std.proofs.Common.{◌≡◌, ◌∙◌, ◌<◌, ◌+◌, ◌-◌, ◌/◌, ◌%◌, ◌^◌, List, ℕ, Some, ap, arith, length, sym, subst, take, drop, bit_and}
+use Rattle.std.proofs.Common.{◌≡◌, ◌∙◌, ◌<◌, ◌+◌, ◌-◌, ◌/◌, ◌%◌, ◌^◌, List, ℕ, Some, ap, arith, length, sym, take, drop, bit_and}
 use Rattle.std.specs.Prelude.{slice_get, slice_index, ◌==◌}
 use Rattle.oat_bits.specs.Bits.{bits_in}
 use Rattle.oat_bits.proofs.PackedForm.{length-bits_in, slice_get-bits_in}

@@ -1,4 +1,4 @@
-use Rattle.std.proofs.Common.{◌≡◌, ◌∙◌, ◌<◌, ◌≤◌, ◌+◌, ◌*◌, ℕ, List, Option, None, Some, ap, arith, length, refl, subst, sym, take, drop}
+use Rattle.std.proofs.Common.{◌≡◌, ◌∙◌, ◌<◌, ◌+◌, ◌*◌, ℕ, List, Option, None, Some, ap, arith, length, refl, subst, sym, take, drop}
 use Rattle.std.specs.Prelude.{slice_get, MatchOption, IsSome}
 use Rattle.std.specs.Int.{w64, from_be_bytes}
 use Rattle.std.proofs.lemmas.List.{drop-drop}
