@@ -30,7 +30,7 @@ pub fn no_operation(alloc: Global, file: &str, op: u16) -> Result<Stop, AllocErr
 }
 
 /// A program is refused, for code of so many words.
-pub fn too_large(alloc: Global, file: &str, words: usize) -> Result<Stop, AllocError>
+pub fn too_large(alloc: Global, file: &str, words: u64) -> Result<Stop, AllocError>
     ensures { IsRefusal file.now (codes "CodeTooLarge " ++ decimal words) result }
 {
     let line = format!(in alloc; "refused {file} CodeTooLarge {words}\n")?;
