@@ -57,8 +57,8 @@ impl Command {
 /// The commands of the program.
 pub const COMMANDS: [Command; 5] = [
     Command::Run,
-    Command::Build,
     Command::Verify,
     Command::Device,
     Command::Policy,
+    Command::Build,
 ];
