@@ -9,34 +9,34 @@ use Rattle.oat_policy.specs.declared.policy.PathRule.TheVariants.{Never, Before,
 use Rattle.oat_policy.specs.declared.policy.PolicyRule.{PolicyRule}
 use Rattle.oat_policy.specs.declared.rule.Standing.{Standing}
 use Rattle.oat_policy.specs.declared.watch.Watch.{Watch}
-use Rattle.oat_policy.specs.EdgeWords.{matches}
+use Rattle.oat_policy.specs.EdgeWords.{edge_words, meets_each}
 use Rattle.oat_policy.specs.Rules.{first_forbidden}
 
--- the pattern at this place, if there is one, is matched
-abbrev pub matches_some : Map → Option (List TextWord) → Edge → Bool
-matches_some flow None edge = false
-matches_some flow (Some pattern) edge = matches flow pattern edge
+-- the pattern at this place, if there is one, is met by these words
+abbrev pub meets_some : Option (List TextWord) → List TextWord → Bool
+meets_some None words = false
+meets_some (Some pattern) words = meets_each pattern words
 
--- Behind so many edges that count, this one counts: for an order, where it matches the next pattern.
-abbrev pub counts : Map → PathRule → ℕ → Edge → Bool
-counts flow (Never pattern) count edge = false
-counts flow (Before first second) count edge = matches flow first edge
-counts flow (Most limit pattern) count edge = matches flow pattern edge
-counts flow (Order patterns) count edge = matches_some flow (slice_get patterns count) edge
+-- Behind so many edges that count, one of these words counts: for an order, where it matches the next pattern.
+abbrev pub counts : PathRule → ℕ → List TextWord → Bool
+counts (Never pattern) count words = false
+counts (Before first second) count words = meets_each first words
+counts (Most limit pattern) count words = meets_each pattern words
+counts (Order patterns) count words = meets_some (slice_get patterns count) words
 
 abbrev pub counted_next : Map → PathRule → ℕ → Edge → ℕ
-counted_next flow rule count edge = if counts flow rule count edge then count + 1 else count
+counted_next flow rule count edge = if counts rule count (edge_words flow edge) then count + 1 else count
 
 -- how many edges of the path count
 unfoldable pub counted : Map → PathRule → List Edge → ℕ
 counted flow rule path = fold (counted_next flow rule) 0 path
 
--- the rule forbids an edge behind so many that count
-abbrev pub forbids_behind : Map → PathRule → ℕ → Edge → Bool
-forbids_behind flow (Never pattern) count edge = matches flow pattern edge
-forbids_behind flow (Before first second) count edge = matches flow second edge && count == 0
-forbids_behind flow (Most limit pattern) count edge = matches flow pattern edge && count == limit
-forbids_behind flow (Order patterns) count edge = false
+-- the rule forbids an edge of these words behind so many that count
+abbrev pub forbids_behind : PathRule → ℕ → List TextWord → Bool
+forbids_behind (Never pattern) count words = meets_each pattern words
+forbids_behind (Before first second) count words = meets_each second words && count == 0
+forbids_behind (Most limit pattern) count words = meets_each pattern words && count == limit
+forbids_behind (Order patterns) count words = false
 
 -- how one rule stands behind a path
 abbrev pub standing : Map → List Edge → PathRule → Standing

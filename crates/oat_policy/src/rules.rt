@@ -1,24 +1,26 @@
 //! How the rules of a policy stand while the edges of a path come in.
 
-ghost use Rattle.std.specs.Prelude.{◌≡◌, ℕ, ◌+◌, ◌≤◌, List, [], ◌∷◌, ◌++◌, length};
+ghost use Rattle.std.specs.Prelude.{◌≡◌, ℕ, ◌+◌, ◌≤◌, List, [], ◌∷◌, ◌++◌, length, map};
 ghost use Rattle.oat_map.specs.declared.map.Map.{Map};
 ghost use Rattle.oat_map.specs.declared.edge.Edge.{Edge};
+ghost use Rattle.oat_policy.specs.EdgeWords.{edge_words};
+ghost use Rattle.oat_policy.specs.Pieces.{path_word};
 ghost use Rattle.oat_policy.specs.Standing.{standings};
 ghost use Rattle.oat_policy.specs.Verdict.{verdict_of};
 
 use crate::policy::PolicyRule;
 use crate::rule::Standing;
 use crate::verdict::PolicyVerdict;
-use oat_map::{Edge, Map};
+use crate::words::PathWord;
 
-/// Each rule's standing behind one more edge.
-pub fn follow(rules: &[PolicyRule], map: &Map, place: u64, edge: &Edge, states: &mut [Standing])
-    ensures { (path : List Edge) → place ≡ length path + 1 → states.old ≡ standings map.now path rules.now
-        → states.new ≡ standings map.now (path ++ edge.now ∷ []) rules.now }
+/// Each rule's standing behind one more edge, of these words.
+pub fn follow(rules: &[PolicyRule], place: u64, words: &[PathWord<'_>], states: &mut [Standing])
+    ensures { (flow : Map) (path : List Edge) (edge : Edge) → map path_word words.now ≡ edge_words flow edge → place ≡ length path + 1
+        → states.old ≡ standings flow path rules.now → states.new ≡ standings flow (path ++ edge ∷ []) rules.now }
 {
     let end = rules.len().min(states.len());
     for i in 0..end {
-        states[i] = states[i].behind(&rules[i].rule, map, place, edge);
+        states[i] = states[i].behind(&rules[i].rule, place, words);
     }
 }
 
