@@ -28,17 +28,17 @@ unchanged : (found : Option (List ℕ)) → option_and_then (λ text. Some text)
 unchanged None = refl
 unchanged (Some text) = refl
 
-in_turn : (sign piece : List ℕ) (found : Option (List ℕ))
+regrouped : (sign piece : List ℕ) (found : Option (List ℕ))
     → option_and_then (λ text. option_and_then (rest_behind piece) (rest_behind sign text)) found ≡ option_and_then (rest_behind piece) (option_and_then (rest_behind sign) found)
-in_turn sign piece None = refl
-in_turn sign piece (Some text) = refl
+regrouped sign piece None = refl
+regrouped sign piece (Some text) = refl
 
 further : (front sign : List ℕ) (piece : Option (List ℕ)) (text : List ℕ)
     → option_and_then (rest_behind_sign sign piece) (rest_behind front text) ≡ rest_behind (with_piece front sign piece) text
 further front sign None text = unchanged (rest_behind front text)
-further front sign (Some piece) text = in_turn sign piece (rest_behind front text) ∙ three front sign piece text
+further front sign (Some piece) text = regrouped sign piece (rest_behind front text) ∙ three front sign piece text
 
-pub by_pieces : (word : PathWord) (text : List ℕ) → rest_behind_word word text ≡ rest_behind (path_word word) text
+by_pieces : (word : PathWord) (text : List ℕ) → rest_behind_word word text ≡ rest_behind (path_word word) text
 by_pieces word text =
     ap (option_and_then (rest_behind_sign (35 ∷ []) (option_copied word.number))) (further word.place.name.now (46 ∷ []) (option_copied word.place.label) text)
     ∙ further (place_word word.place) (35 ∷ []) (option_copied word.number) text

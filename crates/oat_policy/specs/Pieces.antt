@@ -17,5 +17,5 @@ place_word place = with_piece place.name.now (codes ".") (option_copied place.la
 abbrev pub path_word : PathWord → TextWord
 path_word word = with_piece (place_word word.place) (codes "#") (option_copied word.number)
 
-abbrev pub words_in : EdgeWords → List TextWord
-words_in edge = map path_word (take (min edge.count 4) edge.words)
+abbrev pub path_words : EdgeWords → List TextWord
+path_words edge = map path_word (take (min edge.count 4) edge.words)

@@ -45,6 +45,10 @@ standing flow path rule = record { count = counted flow rule path; broken = firs
 abbrev pub standings : Map → List Edge → List PolicyRule → List Standing
 standings flow path policy = map (λ rule. standing flow path rule.rule) policy
 
+-- behind the path comes this edge, at this place and with these words
+abbrev pub IsNext : Map → List Edge → Edge → ℕ → List TextWord → Type 0
+IsNext flow path edge place words = (place ≡ length path + 1) × (words ≡ edge_words flow edge)
+
 pub record HasSeen (watch : Watch) (policy : List PolicyRule) (flow : Map) (path : List Edge) : Type 0 where
   pub same_policy : watch.policy.now ≡ policy
   pub same_map : watch.map.now ≡ flow

@@ -4,10 +4,9 @@ ghost use Rattle.std.specs.Prelude.{◌≡◌, ℕ, ◌+◌, ◌^◌, ◌<◌, �
 ghost use Rattle.std.specs.Option.{option_or};
 ghost use Rattle.oat_map.specs.declared.map.Map.{Map};
 ghost use Rattle.oat_map.specs.declared.edge.Edge.{Edge};
-ghost use Rattle.oat_policy.specs.EdgeWords.{edge_words};
 ghost use Rattle.oat_policy.specs.Pieces.{path_word};
 ghost use Rattle.oat_policy.specs.Rules.{broken_at};
-ghost use Rattle.oat_policy.specs.Standing.{counts, forbids_behind, standing};
+ghost use Rattle.oat_policy.specs.Standing.{counts, forbids_behind, standing, IsNext};
 
 use crate::matching::meets_each;
 use crate::policy::PathRule;
@@ -85,7 +84,7 @@ impl Standing {
 
     /// How the rule stands behind an edge of these words at this place, counted from 1.
     pub fn behind(self, rule: &PathRule, place: u64, words: &[PathWord<'_>]) -> Standing
-        ensures { (flow : Map) (path : List Edge) (edge : Edge) → map path_word words.now ≡ edge_words flow edge → place ≡ length path + 1
+        ensures { (flow : Map) (path : List Edge) (edge : Edge) → IsNext flow path edge place (map path_word words.now)
             → self ≡ standing flow path rule.now → result ≡ standing flow (path ++ edge ∷ []) rule.now }
     {
         let is_counted = counts(rule, self.count, words);

@@ -3,9 +3,8 @@
 ghost use Rattle.std.specs.Prelude.{◌≡◌, ℕ, ◌+◌, ◌≤◌, List, [], ◌∷◌, ◌++◌, length, map};
 ghost use Rattle.oat_map.specs.declared.map.Map.{Map};
 ghost use Rattle.oat_map.specs.declared.edge.Edge.{Edge};
-ghost use Rattle.oat_policy.specs.EdgeWords.{edge_words};
 ghost use Rattle.oat_policy.specs.Pieces.{path_word};
-ghost use Rattle.oat_policy.specs.Standing.{standings};
+ghost use Rattle.oat_policy.specs.Standing.{standings, IsNext};
 ghost use Rattle.oat_policy.specs.Verdict.{verdict_of};
 
 use crate::policy::PolicyRule;
@@ -15,7 +14,7 @@ use crate::words::PathWord;
 
 /// Each rule's standing behind one more edge, of these words.
 pub fn follow(rules: &[PolicyRule], place: u64, words: &[PathWord<'_>], states: &mut [Standing])
-    ensures { (flow : Map) (path : List Edge) (edge : Edge) → map path_word words.now ≡ edge_words flow edge → place ≡ length path + 1
+    ensures { (flow : Map) (path : List Edge) (edge : Edge) → IsNext flow path edge place (map path_word words.now)
         → states.old ≡ standings flow path rules.now → states.new ≡ standings flow (path ++ edge ∷ []) rules.now }
 {
     let end = rules.len().min(states.len());

@@ -7,7 +7,7 @@ ghost use Rattle.oat_map.specs.declared.map.Map.{Map};
 ghost use Rattle.oat_map.specs.EdgeName.{place_name, block_name, function_below, site, call_site};
 ghost use Rattle.oat_report.specs.PathLine.{place_text, site_text, bit_text, address_digits};
 ghost use Rattle.oat_policy.specs.EdgeWords.{edge_words};
-ghost use Rattle.oat_policy.specs.Pieces.{place_word, path_word, words_in};
+ghost use Rattle.oat_policy.specs.Pieces.{place_word, path_word, path_words};
 
 use itoa::Buffer;
 use oat_lines::hexadecimal_text;
@@ -39,16 +39,16 @@ pub struct EdgeWords<'a> {
 
 /// Room for the digits of an edge's numbers.
 #[derive(Clone, Copy)]
-pub struct Digits {
+pub struct DigitRoom {
     first: Buffer,
     second: Buffer,
     from: [u8; 16],
     to: [u8; 16],
 }
 
-impl Digits {
-    pub fn new() -> Digits {
-        Digits {
+impl DigitRoom {
+    pub fn new() -> DigitRoom {
+        DigitRoom {
             first: Buffer::new(),
             second: Buffer::new(),
             from: [0; 16],
@@ -59,7 +59,7 @@ impl Digits {
 
 impl EdgeWords<'_> {
     pub fn as_slice(&self) -> &[PathWord<'_>]
-        ensures { map path_word result.now ≡ words_in self.now }
+        ensures { map path_word result.now ≡ path_words self.now }
     {
         let end = self.count.min(4);
         &self.words[..end]
@@ -97,7 +97,7 @@ fn name_below(map: &Map, place: u64) -> &[u8]
     }
 }
 
-fn block_word(map: &Map, place: u64) -> PlaceWord<'_>
+fn block_name(map: &Map, place: u64) -> PlaceWord<'_>
     ensures { place_word result ≡ place_text (block_name map.now place) }
 {
     match block_at(map.blocks.as_slice(), place) {
@@ -109,20 +109,20 @@ fn block_word(map: &Map, place: u64) -> PlaceWord<'_>
     }
 }
 
-fn place_at(map: &Map, place: u64) -> PlaceWord<'_>
+fn place_name(map: &Map, place: u64) -> PlaceWord<'_>
     ensures { place_word result ≡ place_text (place_name map.now place) }
 {
     match function_at(map.functions.as_slice(), place) {
         Some(function) => name_alone(function.name.as_bytes()),
-        None => block_word(map, place),
+        None => block_name(map, place),
     }
 }
 
-fn place_of(map: &Map, place: Option<u64>) -> PlaceWord<'_>
+fn name_of_some(map: &Map, place: Option<u64>) -> PlaceWord<'_>
     ensures { place_word result ≡ place_text (option_and_then (place_name map.now) place) }
 {
     match place {
-        Some(place) => place_at(map, place),
+        Some(place) => place_name(map, place),
         None => name_alone(b"-"),
     }
 }
@@ -130,7 +130,7 @@ fn place_of(map: &Map, place: Option<u64>) -> PlaceWord<'_>
 fn target_word(map: &Map, target: u64) -> PathWord<'_>
     ensures { path_word result ≡ place_text (place_name map.now target) }
 {
-    unnumbered(place_at(map, target))
+    unnumbered(place_name(map, target))
 }
 
 fn site_word<'a>(map: &'a Map, address: u64, digits: &'a mut Buffer) -> PathWord<'a>
@@ -139,7 +139,7 @@ fn site_word<'a>(map: &'a Map, address: u64, digits: &'a mut Buffer) -> PathWord
     let place = place_at_or_below(map, address);
     let number = number_in_place(map, place, address);
     PathWord {
-        place: place_of(map, place),
+        place: name_of_some(map, place),
         number: Some(digits.format(number).as_bytes()),
     }
 }
@@ -169,8 +169,8 @@ fn address_word(address: u64, digits: &mut [u8; 16]) -> PathWord<'_>
     plain(without_zeros(digits))
 }
 
-fn two_words<'a>(first: PathWord<'a>, second: PathWord<'a>) -> EdgeWords<'a>
-    ensures { words_in result ≡ path_word first.entry ∷ path_word second.entry ∷ [] }
+fn edge_of_two<'a>(first: PathWord<'a>, second: PathWord<'a>) -> EdgeWords<'a>
+    ensures { path_words result ≡ path_word first.entry ∷ path_word second.entry ∷ [] }
 {
     EdgeWords {
         words: [first, second, second, second],
@@ -178,8 +178,12 @@ fn two_words<'a>(first: PathWord<'a>, second: PathWord<'a>) -> EdgeWords<'a>
     }
 }
 
-fn three_words<'a>(first: PathWord<'a>, second: PathWord<'a>, third: PathWord<'a>) -> EdgeWords<'a>
-    ensures { words_in result ≡ path_word first.entry ∷ path_word second.entry ∷ path_word third.entry ∷ [] }
+fn edge_of_three<'a>(
+    first: PathWord<'a>,
+    second: PathWord<'a>,
+    third: PathWord<'a>,
+) -> EdgeWords<'a>
+    ensures { path_words result ≡ path_word first.entry ∷ path_word second.entry ∷ path_word third.entry ∷ [] }
 {
     EdgeWords {
         words: [first, second, third, third],
@@ -192,11 +196,11 @@ fn words_to_place<'a>(
     map: &'a Map,
     from: u64,
     to: u64,
-    digits: &'a mut Digits,
+    digits: &'a mut DigitRoom,
 ) -> EdgeWords<'a>
-    ensures { words_in result ≡ keyword.now ∷ site_text (site map.now from) ∷ place_text (place_name map.now to) ∷ [] }
+    ensures { path_words result ≡ keyword.now ∷ site_text (site map.now from) ∷ place_text (place_name map.now to) ∷ [] }
 {
-    three_words(
+    edge_of_three(
         plain(keyword),
         site_word(map, from, &mut digits.first),
         target_word(map, to),
@@ -208,9 +212,9 @@ fn branch_words<'a>(
     from: u64,
     bit: bool,
     to: u64,
-    digits: &'a mut Digits,
+    digits: &'a mut DigitRoom,
 ) -> EdgeWords<'a>
-    ensures { words_in result ≡ edge_words map.now (Edge.Branch from bit to) }
+    ensures { path_words result ≡ edge_words map.now (Edge.Branch from bit to) }
 {
     EdgeWords {
         words: [
@@ -223,29 +227,29 @@ fn branch_words<'a>(
     }
 }
 
-fn return_words<'a>(map: &'a Map, from: u64, to: u64, digits: &'a mut Digits) -> EdgeWords<'a>
-    ensures { words_in result ≡ edge_words map.now (Edge.Ret from to) }
+fn return_words<'a>(map: &'a Map, from: u64, to: u64, digits: &'a mut DigitRoom) -> EdgeWords<'a>
+    ensures { path_words result ≡ edge_words map.now (Edge.Ret from to) }
 {
-    three_words(
+    edge_of_three(
         plain(b"ret"),
         site_word(map, from, &mut digits.first),
         call_word(map, to, &mut digits.second),
     )
 }
 
-fn end_words(op: u16, digits: &mut Digits) -> EdgeWords<'_>
-    ensures { (flow : Map) → words_in result ≡ edge_words flow (Edge.End op) }
+fn end_words(op: u16, digits: &mut DigitRoom) -> EdgeWords<'_>
+    ensures { (flow : Map) → path_words result ≡ edge_words flow (Edge.End op) }
 {
-    two_words(
+    edge_of_two(
         plain(b"end"),
         number_word(usize::from(op), &mut digits.first),
     )
 }
 
-fn stray_words(from: u64, to: u64, digits: &mut Digits) -> EdgeWords<'_>
-    ensures { (flow : Map) → words_in result ≡ edge_words flow (Edge.Stray from to) }
+fn stray_words(from: u64, to: u64, digits: &mut DigitRoom) -> EdgeWords<'_>
+    ensures { (flow : Map) → path_words result ≡ edge_words flow (Edge.Stray from to) }
 {
-    three_words(
+    edge_of_three(
         plain(b"stray"),
         address_word(from, &mut digits.from),
         address_word(to, &mut digits.to),
@@ -253,8 +257,8 @@ fn stray_words(from: u64, to: u64, digits: &mut Digits) -> EdgeWords<'_>
 }
 
 /// The words of the edge's line.
-pub fn words_of<'a>(map: &'a Map, edge: &Edge, digits: &'a mut Digits) -> EdgeWords<'a>
-    ensures { words_in result ≡ edge_words map.now edge.now }
+pub fn words_of<'a>(map: &'a Map, edge: &Edge, digits: &'a mut DigitRoom) -> EdgeWords<'a>
+    ensures { path_words result ≡ edge_words map.now edge.now }
 {
     match *edge {
         Edge::Jump { from, to } => words_to_place(b"jump", map, from, to, digits),

@@ -9,7 +9,7 @@ use Rattle.oat_policy.proofs.Following.{next_standing, counted_bound}
 use Rattle.oat_policy.proofs.rule.Standing.behind.Goals as goal
 
 pub returns : goal.returns
-returns c = λ flow path edge words_are place same.
+returns c = λ flow path edge (place, words_are) same.
     let rule = c.args.rule.now in
     let count = c.args.self.count in
     let is_so : count ≡ counted flow rule path = ap (λ (z : Standing). z.count) same in
