@@ -1,5 +1,5 @@
 -- The path for which a Watch stands while its edges come in one by one (docs/DEFINITIONS.md).
-use Rattle.std.specs.Prelude.{◌≡◌, ◌≤◌, ℕ, ◌+◌, ◌==◌, ◌&&◌, Bool, false, List, [], map, length, Option, Some, None, if◌then◌else◌}
+use Rattle.std.specs.Prelude.{◌≡◌, ◌≤◌, ℕ, ◌+◌, ◌==◌, ◌&&◌, Bool, false, List, [], ◌∷◌, ◌++◌, map, length, Option, Some, None, if◌then◌else◌}
 use Rattle.std.specs.List.{fold, slice_get}
 use Rattle.oat_lines.specs.Lines.{TextWord}
 use Rattle.oat_map.specs.declared.map.Map.{Map}
@@ -9,7 +9,9 @@ use Rattle.oat_policy.specs.declared.policy.PathRule.TheVariants.{Never, Before,
 use Rattle.oat_policy.specs.declared.policy.PolicyRule.{PolicyRule}
 use Rattle.oat_policy.specs.declared.rule.Standing.{Standing}
 use Rattle.oat_policy.specs.declared.watch.Watch.{Watch}
+use Rattle.oat_policy.specs.declared.words.PathWord.{PathWord}
 use Rattle.oat_policy.specs.EdgeWords.{edge_words, meets_each}
+use Rattle.oat_policy.specs.Pieces.{path_word}
 use Rattle.oat_policy.specs.Rules.{first_forbidden}
 
 -- the pattern at this place, if there is one, is met by these words
@@ -46,8 +48,13 @@ abbrev pub standings : Map → List Edge → List PolicyRule → List Standing
 standings flow path policy = map (λ rule. standing flow path rule.rule) policy
 
 -- behind the path comes this edge, at this place and with these words
-abbrev pub IsNext : Map → List Edge → Edge → ℕ → List TextWord → Type 0
-IsNext flow path edge place words = (place ≡ length path + 1) × (words ≡ edge_words flow edge)
+abbrev pub ComesNext : Map → List Edge → Edge → ℕ → List PathWord → Type 0
+ComesNext flow path edge place words = (place ≡ length path + 1) × (map path_word words ≡ edge_words flow edge)
+
+-- what stands for a path before an edge of these words at this place stands for the longer path after it
+abbrev pub StandsNext : {S : Type 0} → (Map → List Edge → S) → ℕ → List PathWord → S → S → Type 0
+StandsNext stands place words before after =
+    (flow : Map) (path : List Edge) (edge : Edge) → ComesNext flow path edge place words → before ≡ stands flow path → after ≡ stands flow (path ++ edge ∷ [])
 
 pub record HasSeen (watch : Watch) (policy : List PolicyRule) (flow : Map) (path : List Edge) : Type 0 where
   pub same_policy : watch.policy.now ≡ policy

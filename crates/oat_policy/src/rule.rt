@@ -1,12 +1,12 @@
 //! How one rule stands while the edges of a path come in.
 
-ghost use Rattle.std.specs.Prelude.{◌≡◌, ℕ, ◌+◌, ◌^◌, ◌<◌, ◌≤◌, nat_lt, List, [], ◌∷◌, ◌++◌, length, map, Some, None, if◌then◌else◌};
+ghost use Rattle.std.specs.Prelude.{◌≡◌, ℕ, ◌+◌, ◌^◌, ◌<◌, ◌≤◌, nat_lt, List, length, map, Some, None, if◌then◌else◌};
 ghost use Rattle.std.specs.Option.{option_or};
 ghost use Rattle.oat_map.specs.declared.map.Map.{Map};
 ghost use Rattle.oat_map.specs.declared.edge.Edge.{Edge};
 ghost use Rattle.oat_policy.specs.Pieces.{path_word};
 ghost use Rattle.oat_policy.specs.Rules.{broken_at};
-ghost use Rattle.oat_policy.specs.Standing.{counts, forbids_behind, standing, IsNext};
+ghost use Rattle.oat_policy.specs.Standing.{counts, forbids_behind, standing, StandsNext};
 
 use crate::matching::meets_each;
 use crate::policy::PathRule;
@@ -84,8 +84,7 @@ impl Standing {
 
     /// How the rule stands behind an edge of these words at this place, counted from 1.
     pub fn behind(self, rule: &PathRule, place: u64, words: &[PathWord<'_>]) -> Standing
-        ensures { (flow : Map) (path : List Edge) (edge : Edge) → IsNext flow path edge place (map path_word words.now)
-            → self ≡ standing flow path rule.now → result ≡ standing flow (path ++ edge ∷ []) rule.now }
+        ensures { StandsNext (λ flow path. standing flow path rule.now) place words.now self result }
     {
         let is_counted = counts(rule, self.count, words);
         Standing {

@@ -1,10 +1,9 @@
 //! How the rules of a policy stand while the edges of a path come in.
 
-ghost use Rattle.std.specs.Prelude.{◌≡◌, ℕ, ◌+◌, ◌≤◌, List, [], ◌∷◌, ◌++◌, length, map};
+ghost use Rattle.std.specs.Prelude.{◌≡◌, ◌≤◌, List, length};
 ghost use Rattle.oat_map.specs.declared.map.Map.{Map};
 ghost use Rattle.oat_map.specs.declared.edge.Edge.{Edge};
-ghost use Rattle.oat_policy.specs.Pieces.{path_word};
-ghost use Rattle.oat_policy.specs.Standing.{standings, IsNext};
+ghost use Rattle.oat_policy.specs.Standing.{standings, StandsNext};
 ghost use Rattle.oat_policy.specs.Verdict.{verdict_of};
 
 use crate::policy::PolicyRule;
@@ -14,8 +13,7 @@ use crate::words::PathWord;
 
 /// Each rule's standing behind one more edge, of these words.
 pub fn follow(rules: &[PolicyRule], place: u64, words: &[PathWord<'_>], states: &mut [Standing])
-    ensures { (flow : Map) (path : List Edge) (edge : Edge) → IsNext flow path edge place (map path_word words.now)
-        → states.old ≡ standings flow path rules.now → states.new ≡ standings flow (path ++ edge ∷ []) rules.now }
+    ensures { StandsNext (λ flow path. standings flow path rules.now) place words.now states.old states.new }
 {
     let end = rules.len().min(states.len());
     for i in 0..end {
