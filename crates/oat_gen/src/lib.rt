@@ -16,6 +16,7 @@ mod moves;
 
 pub use fault::GenFault;
 pub use generation::generate;
+pub use globals::GlobalPlace;
 
 #[cfg(test)]
 mod tests;

@@ -1,0 +1,13 @@
+mod StartWords
+mod Labels
+mod LineCode
+mod DataLists
+mod SymbolLists
+mod Mains
+mod Imaging
+mod MainFirst
+mod Compiling
+mod SiteCode
+mod EdgeNames
+mod OperationRows
+mod Promising

@@ -1,0 +1,9 @@
+-- The address of a label among those that are known.
+use Rattle.std.specs.Prelude.{ℕ, unwrap_or}
+use Rattle.std.specs.Ordering.{nat_cmp}
+use Rattle.std.specs.BTreeMap.{get}
+use Rattle.oat_build.specs.declared.addresses.LabelAddresses.{LabelAddresses}
+
+-- where it isn't known, the address behind all code
+abbrev pub address_in : LabelAddresses → ℕ → ℕ
+address_in addresses label = unwrap_or (get nat_cmp addresses.known label) addresses.end

@@ -1,0 +1,107 @@
+-- What the image of a program has that was compiled: all that the laws of its lines ask for.
+use Rattle.std.specs.Prelude.{◌≡◌, ◌+◌, ◌*◌, ◌^◌, ◌<◌, ◌≤◌, ℕ, true, List, [], length, slice_get, Option, Some, None}
+use Rattle.std.specs.Option.{option_map, option_and_then, unwrap_or}
+use Rattle.std.specs.List.{sum_by, list_any}
+use Rattle.oat_a64.specs.Step.{code_base}
+use Rattle.oat_mem.specs.DataMemory.{word_in, global_address}
+use Rattle.oat_image.specs.declared.image.Image.{Image}
+use Rattle.oat_map.specs.Rows.{is_called_at}
+use Rattle.oat_asm.specs.declared.item.Item.{Item}
+use Rattle.oat_shape.specs.Shape.{IsShaped}
+use Rattle.oat_journal.specs.Run.{start_memory}
+use Rattle.oat_ir.specs.declared.program.Program.{Program}
+use Rattle.oat_ir.specs.declared.func.Func.{Func}
+use Rattle.oat_ir.specs.declared.func.BlockIr.{BlockIr}
+use Rattle.oat_ir.specs.declared.func.Ty.{Ty}
+use Rattle.oat_ir.specs.declared.func.Ty.TheVariants.{I64}
+use Rattle.oat_ir.specs.declared.instr.Instr.TheVariants.{Call, ICall}
+use Rattle.oat_check.specs.Globals.{size_in_words, cell_words, first_values, word_values}
+use Rattle.oat_check.specs.Keeping.{is_referenced, may_name, word_ty}
+use Rattle.oat_check.specs.Lines.{CodeLine, instruction}
+use Rattle.oat_check.specs.Rules.{IsChecked, local_ty}
+use Rattle.oat_check.specs.Runs.{main_number}
+use Rattle.oat_check.specs.Steps.{Frame, current_line, operation_number}
+use Rattle.oat_symbols.specs.Programs.{label_of_block}
+use Rattle.oat_frames.specs.Frames.{World, IsWorld, IsLow, IsSlotted, slot}
+use Rattle.oat_frames.specs.Code.{CodeStands}
+use Rattle.oat_frames.specs.Calls.{prologue_end}
+use Rattle.oat_frames.specs.Lines.{IsBlockAt, words_before_line}
+use Rattle.oat_globals.specs.Operations.{start_code, role_words}
+use Rattle.oat_match.specs.Code.{block_items}
+
+-- ---- data of a program in its world
+
+-- the local that a call's result goes into, at the line of a call
+abbrev pub call_result : Option CodeLine → Option ℕ
+call_result (Some (instruction (Call x g args))) = Some x
+call_result (Some (instruction (ICall x y args))) = Some x
+call_result _ = None
+
+-- Locals, words, types and results are the program's, and each local has a slot.
+pub record HasDataOf (p : Program) (w : World) : Type 0 where
+  pub locals : (f : ℕ) (func : Func) → slice_get p.funcs f ≡ Some func → w.locals f ≡ length func.locals
+  pub slots : (f : ℕ) → IsSlotted w f
+  pub types : (f : ℕ) (func : Func) → slice_get p.funcs f ≡ Some func → (x : ℕ) (ty : Ty) → local_ty func x ≡ Some ty → w.ty f x ≡ ty
+  pub globals : w.globals ≡ sum_by size_in_words p.globals
+  pub global_types : (n : ℕ) (ty : Ty) → word_ty p.globals n ≡ Some ty → w.global_ty n ≡ ty
+  pub references : (g k : ℕ) → w.may_name g k ≡ may_name p g k
+  pub results : (f : Frame) → w.result f.func f.block f.line ≡ call_result (current_line p f)
+
+-- ---- code
+
+-- a function's start stands at its label, and behind it its first block
+pub record FunctionBegins (p : Program) (w : World) (f : ℕ) (func : Func) : Type 0 where
+  pub code : CodeStands w (w.label f) (start_code func.params (length func.locals) (operation_number func.role))
+  pub first : w.label (label_of_block p f 0) ≡ prologue_end w f + 4 * role_words (operation_number func.role)
+  pub entry : code_base ≤ w.label f
+  -- where a reference names it, an indirect call finds it among the functions of the map
+  pub target : is_referenced p f ≡ true → list_any (is_called_at func.params (w.label f)) w.image.map.functions ≡ true
+
+-- The world of a program's image: the code of each block stands at its label, line by line, and each function begins at its own.
+pub record IsCompiled (p : Program) (w : World) : Type 0 where
+  pub world : IsWorld w
+  pub data_of : HasDataOf p w
+  pub shaped : IsShaped w.image
+  pub blocks : (f b : ℕ) (func : Func) (block : BlockIr) → slice_get p.funcs f ≡ Some func → slice_get func.blocks b ≡ Some block
+      → IsBlockAt w f b (label_of_block p f b) (block_items p f func block)
+  pub functions : (f : ℕ) (func : Func) → slice_get p.funcs f ≡ Some func → FunctionBegins p w f func
+  -- the machine starts at main
+  pub main : w.label (main_number p.funcs) ≡ code_base
+  -- the words of the cells, and what each word is at the start
+  pub cells : w.image.cells ≡ cell_words p.globals
+  pub words : (n value : ℕ) → word_values p.globals (first_values p) n ≡ Some value → word_in (start_memory w.image.words) (global_address n) ≡ value
+
+-- ---- the world of a program, by its image and the addresses of labels
+
+abbrev pub count_of_locals : Option Func → ℕ
+count_of_locals (Some func) = length func.locals
+count_of_locals None = 0
+
+abbrev pub codes_in : Program → ℕ → ℕ → List (List Item)
+codes_in p f b = unwrap_or (option_and_then (λ func. option_map (block_items p f func) (slice_get func.blocks b)) (slice_get p.funcs f)) []
+
+-- each line stands behind the code of the lines before it
+abbrev pub world_of : Program → Image → (ℕ → ℕ) → World
+world_of p image label = record {
+  image = image;
+  label = label;
+  may_name = may_name p;
+  locals = λ f. count_of_locals (slice_get p.funcs f);
+  ty = λ f x. unwrap_or (option_and_then (λ func. local_ty func x) (slice_get p.funcs f)) I64;
+  home = λ f i. slot (i + 1);
+  place = λ f b l. label (label_of_block p f b) + 4 * words_before_line (codes_in p f b) l;
+  result = λ f b l. call_result (current_line p (record { func = f; block = b; line = l; locals = λ i. 0 }));
+  globals = sum_by size_in_words p.globals;
+  global_ty = λ n. unwrap_or (word_ty p.globals n) I64;
+}
+
+-- Of a checked program it has the data, and all places; what is left to show is where code stands.
+pub record WorldIsOf (p : Program) (image : Image) (label : ℕ → ℕ) : Type 0 where
+  pub world : IsWorld (world_of p image label)
+  pub data_of : HasDataOf p (world_of p image label)
+  pub places : (f b l : ℕ) (func : Func) (block : BlockIr) → slice_get p.funcs f ≡ Some func → slice_get func.blocks b ≡ Some block
+      → (world_of p image label).place f b l ≡ label (label_of_block p f b) + 4 * words_before_line (block_items p f func block) l
+
+abbrev pub ProgramsHaveWorlds : Type 0
+ProgramsHaveWorlds =
+    (p : Program) → IsChecked p → (image : Image) (label : ℕ → ℕ) → IsLow image → ((l : ℕ) → label l < 2 ^ 32) → WorldIsOf p image label

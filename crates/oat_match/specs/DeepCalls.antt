@@ -1,0 +1,16 @@
+-- An indirect call with 256 callers traps.
+use Rattle.std.specs.Prelude.{◌≡◌, ◌<◌, ℕ, List, length}
+use Rattle.oat_map.specs.declared.trap.TrapKind.TheVariants.{Depth}
+use Rattle.oat_journal.specs.declared.end.DeviceEnd.TheVariants as ends
+use Rattle.oat_journal.specs.Run.{Running}
+use Rattle.oat_check.specs.Steps.{Frame}
+use Rattle.oat_frames.specs.Frames.{World, IsWorld, IsAt}
+use Rattle.oat_frames.specs.Comes.{EndsWithin}
+use Rattle.oat_frames.specs.Calls.{IsIndirectCallAt}
+
+-- the reference is tested first, and isn't null
+abbrev pub DeepIndirectCallsTrap : Type 0
+DeepIndirectCallsTrap =
+    (w : World) → IsWorld w → (f : Frame) (callers : List Frame) (globals : ℕ → ℕ) (args : List ℕ) (from result : ℕ) (m : Running)
+    → IsAt w f callers globals m → length callers ≡ 256 → IsIndirectCallAt w f args from result → 0 < f.locals from
+    → EndsWithin w 5 (ends.Trap Depth) m
