@@ -11,3 +11,4 @@ mod SiteCode
 mod EdgeNames
 mod OperationRows
 mod Promising
+mod Faulting

@@ -2,3 +2,4 @@ pub mod Addresses
 pub mod Listing
 pub mod Naming
 pub mod Built
+pub mod Faults

@@ -2,10 +2,15 @@
 #![tactic(auto)]
 
 mod addresses;
+mod compiler;
 mod data;
+mod fault;
 mod references;
 mod image;
 pub mod laws;
 mod names;
 mod rows;
 mod symbols;
+
+pub use compiler::build;
+pub use fault::BuildFault;

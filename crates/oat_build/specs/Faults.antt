@@ -1,0 +1,9 @@
+-- A fault of the assembler as one of the compiler.
+use Rattle.oat_asm.specs.declared.assembled.AsmFault.{AsmFault}
+use Rattle.oat_asm.specs.declared.assembled.AsmFault.TheVariants as asm
+use Rattle.oat_build.specs.declared.fault.BuildFault.{BuildFault}
+use Rattle.oat_build.specs.declared.fault.BuildFault.TheVariants.{CodeTooLarge, Memory}
+
+abbrev pub fault_of : AsmFault → BuildFault
+fault_of (asm.CodeTooLarge words) = CodeTooLarge words
+fault_of asm.Memory = Memory
