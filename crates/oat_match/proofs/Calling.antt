@@ -1,37 +1,33 @@
 -- The source's step at a call and at an indirect call.
-use Rattle.std.proofs.Common.{◌≡◌, ◌+◌, ◌*◌, ◌-◌, ◌<◌, ◌≤◌, ◌&&◌, inl, inr, ℕ, zero, suc, Bool, true, false, cond, not, eqb, leb, List, [], ◌∷◌, length, map, get_or, Option, option_map, Some, None, refl, sym, ap, subst, ◌∙◌, arith, eqb-true, eq-eqb, ne_eqb}
-use Rattle.std.specs.Prelude.{slice_get, All}
+use Rattle.std.proofs.Common.{◌≡◌, ◌+◌, ◌*◌, ◌-◌, ◌<◌, ◌≤◌, ◌&&◌, inl, inr, ℕ, zero, suc, Bool, true, false, cond, not, eqb, List, [], ◌∷◌, length, map, get_or, Option, option_map, Some, None, refl, sym, ap, subst, ◌∙◌, arith, eqb-true}
+use Rattle.std.specs.Prelude.{slice_get}
 use Rattle.std.specs.Option.{option_and_then}
 use Rattle.std.specs.List.{list_any}
 use Rattle.oat_map.specs.Rows.{is_called_at}
 use Rattle.std.proofs.lemmas.Bool.{and_parts, cases_lt, le-leb, lt-leb, not-false, eqb-false}
-use Rattle.oat_map.specs.declared.edge.Edge.{Edge}
 use Rattle.oat_map.specs.declared.edge.Edge.TheVariants as edges
 use Rattle.oat_map.specs.declared.trap.TrapKind.TheVariants.{Depth, NullCall}
 use Rattle.oat_measure.specs.declared.call.MonitorCall.TheVariants as svc
 use Rattle.oat_ir.specs.declared.program.Program.{Program}
 use Rattle.oat_ir.specs.declared.func.Func.{Func}
-use Rattle.oat_ir.specs.declared.func.Local.{Local}
-use Rattle.oat_ir.specs.declared.func.Ty.{Ty}
 use Rattle.oat_ir.specs.declared.func.Ty.TheVariants.{I64, Fn}
-use Rattle.oat_ir.specs.declared.func.BlockIr.{BlockIr}
 use Rattle.oat_ir.specs.declared.instr.Instr.TheVariants.{Call, ICall}
 use Rattle.oat_ir.specs.Indices.{IsInstr}
 use Rattle.oat_ir.specs.WellFormed.{IsFunc}
 use Rattle.oat_events.specs.Events.{enters, takes}
 use Rattle.oat_events.specs.Source.{trapped}
 use Rattle.oat_journal.specs.Run.{Running}
-use Rattle.oat_check.specs.Keeping.{IsConsistent, IsTarget, IsValue, is_referenced, may_name}
-use Rattle.oat_check.specs.Lines.{CodeLine, instruction}
+use Rattle.oat_check.specs.Keeping.{IsValue, is_referenced}
+use Rattle.oat_check.specs.Lines.{instruction}
 use Rattle.oat_check.specs.RuleLaws.{IsAllowed}
-use Rattle.oat_check.specs.Rules.{IsChecked, are_alike, are_as, hold_numbers, holds_number, is_func, local_ty, parameters, passes, refers_with, takes_numbers}
-use Rattle.oat_check.specs.Steps.{Frame, LineEdge, Next, SourceState, calls, current_line, does, entered, icalls, line_place, operation_number, operation_of, runs, shows, traps_by}
+use Rattle.oat_check.specs.Rules.{IsChecked, are_as, hold_numbers, holds_number, is_func, local_ty, parameters, refers_with, takes_numbers}
+use Rattle.oat_check.specs.Steps.{LineEdge, SourceState, calls, current_line, does, entered, icalls, line_place, operation_number, operation_of, runs, shows, traps_by}
 use Rattle.oat_check.proofs.Checking.{func_formed, has_ty}
 use Rattle.oat_check.proofs.Frames.{There, there}
 use Rattle.oat_follow.specs.Events.{MachineEvent, monitors, moves}
 use Rattle.oat_follow.specs.Placement.{seen_at}
-use Rattle.oat_frames.specs.Calls.{CallSite, IsCallAt, IsFunctionAt, IsIndirectCallAt, IsReferencedAt, call_edge, prologue_end}
-use Rattle.oat_frames.specs.Code.{CodeStands, call_code, icall_code}
+use Rattle.oat_frames.specs.Calls.{CallSite, IsCallAt, IsIndirectCallAt, IsReferencedAt, call_edge, prologue_end}
+use Rattle.oat_frames.specs.Code.{call_code, icall_code}
 use Rattle.oat_frames.specs.Frames.{World, line_address}
 use Rattle.oat_frames.specs.Lines.{IsLineAt}
 use Rattle.oat_frames.proofs.FrameLaws.{deep-calls-trap, indirect-calls-lead, null-calls-trap}
@@ -39,12 +35,14 @@ use Rattle.oat_globals.specs.Operations.{begin_shown, role_words}
 use Rattle.oat_globals.proofs.GlobalLaws.{operation_calls_lead}
 use Rattle.oat_match.specs.Compiled.{FunctionBegins, IsCompiled, call_result}
 use Rattle.oat_match.specs.Matching.{GoesAlike, StepIsMatched, words_held}
-use Rattle.oat_match.specs.Placed.{call_arguments, edge_in_image, function_of_operation, placement}
+use Rattle.oat_match.specs.Placed.{call_arguments, placement}
 use Rattle.oat_match.proofs.DeepCalls.{deep_indirect_calls_trap}
 use Rattle.oat_match.proofs.Landing.{ends, steps}
-use Rattle.oat_match.proofs.Operands.{Found, failed, found, local_inside, number_local}
+use Rattle.oat_match.proofs.Operands.{local_inside, number_local}
+use Rattle.oat_match.proofs.CallCode.{call_words, icall_words}
+use Rattle.oat_match.proofs.Finding.{Found, failed, found}
 use Rattle.oat_match.proofs.OperationPlaces.{operation_place}
-use Rattle.oat_match.proofs.Placing.{block_begins, call_words, function_at, has_begin, icall_words}
+use Rattle.oat_match.proofs.Placing.{block_begins, function_at, has_begin}
 use Rattle.oat_match.proofs.Targets.{IsNamed, argument_typed, named_function, number_at, number_taken, parameter_is}
 
 behind_words : (p q words n k : ℕ) → q ≡ p + 4 * words → words ≡ n + k → q ≡ p + 4 * n + 4 * k
@@ -103,7 +101,7 @@ module _ (p : Program) (ok : IsChecked p) (w : World) (c : IsCompiled p w) (s : 
     next =
         let n : w.place s.frame.func s.frame.block (s.frame.line + 1) ≡ line_address w s.frame + 4 * 7 + 4 * length args = behind_words (line_address w s.frame) _ _ 7 (length args) line.next (call_words args g x ∙ seven (length args)) in
         n where
-          seven : (n : ℕ) → 4 + (n + 3) ≡ 7 + n
+          seven : (n : ℕ) → 4 + n + 3 ≡ 7 + n
           seven n = omega arith
 
     argument_ty : (i : ℕ) → i < length args → w.ty s.frame.func (get_or args i 0) ≡ w.ty g i
@@ -149,7 +147,7 @@ module _ (p : Program) (ok : IsChecked p) (w : World) (c : IsCompiled p w) (s : 
 
     next : w.place s.frame.func s.frame.block (s.frame.line + 1) ≡ line_address w s.frame + 44 + 4 * length args
     next = behind_words (line_address w s.frame) _ _ 11 (length args) line.next (icall_words args y x ∙ eleven (length args)) where
-      eleven : (n : ℕ) → 3 + (4 + (n + 4)) ≡ 11 + n
+      eleven : (n : ℕ) → 3 + (4 + n) + 4 ≡ 11 + n
       eleven n = omega arith
 
     referenced : (callee : ℕ) → w.may_name callee (length args) ≡ true → IsReferencedAt w callee (length args)

@@ -1,5 +1,5 @@
 -- An indirect call with 256 callers: the reference passes its test, and the depth doesn't.
-use Rattle.std.proofs.Common.{true, ◌≡◌, ◌+◌, ◌*◌, ◌^◌, ◌<◌, ◌≤◌, ◌-◌, ℕ, Bool, not, cond, List, [], ◌∷◌, length, Some, refl, sym, ap, subst, ◌∙◌, arith, ne_eqb, inl, inr}
+use Rattle.std.proofs.Common.{true, ◌≡◌, ◌+◌, ◌*◌, ◌<◌, ◌-◌, ℕ, Bool, not, cond, [], length, Some, refl, sym, ap, subst, ◌∙◌, arith, ne_eqb, inl, inr}
 use Rattle.std.proofs.lemmas.Bool.{le-leb}
 use Rattle.oat_a64.specs.declared.inst.Inst.TheVariants.{Brk, SubsImm}
 use Rattle.oat_map.specs.declared.row.Row.TheVariants as rows

@@ -1,5 +1,5 @@
 -- Where each source step of a compiled program is matched, and its start, the image follows the source, and so runs as it.
-use Rattle.std.proofs.Common.{◌≡◌, ◌≤◌, ℕ, ℤ, List, [], ◌∷◌, Option, option_map, Some, None, FitsSigned, refl, sym, ap, subst, ◌∙◌}
+use Rattle.std.proofs.Common.{◌≡◌, ℤ, List, [], ◌∷◌, Option, option_map, Some, None, FitsSigned, refl, sym, subst}
 use Rattle.std.specs.Int.{w64}
 use Rattle.std.specs.List.{AllByRecursion}
 use Rattle.oat_ir.specs.declared.program.Program.{Program}

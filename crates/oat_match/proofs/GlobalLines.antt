@@ -1,9 +1,8 @@
 -- The source's step at each line on global data, and at a reference.
-use Rattle.std.proofs.Common.{◌≡◌, ◌+◌, ◌<◌, ◌≤◌, ◌^◌, ◌&&◌, inl, inr, ℕ, Bool, true, false, List, [], ◌∷◌, Option, Some, None, refl, sym, ap, subst, ◌∙◌, arith}
+use Rattle.std.proofs.Common.{◌≡◌, ◌+◌, ◌<◌, ◌≤◌, ◌^◌, ◌&&◌, inl, inr, ℕ, true, [], ◌∷◌, Option, Some, None, refl, sym, subst, arith}
 use Rattle.std.specs.Prelude.{slice_get}
 use Rattle.std.proofs.lemmas.Bool.{and_parts, cases_lt}
 use Rattle.oat_a64.specs.declared.inst.Inst.TheVariants.{Ldr, Str}
-use Rattle.oat_asm.specs.declared.item.Item.{Item}
 use Rattle.oat_asm.specs.declared.item.Item.TheVariants as item
 use Rattle.oat_ir.specs.declared.program.Program.{Program}
 use Rattle.oat_ir.specs.declared.func.Func.{Func}
@@ -17,10 +16,9 @@ use Rattle.oat_check.specs.Lines.{instruction}
 use Rattle.oat_check.specs.RunLaws.{ElementsAreNumbered}
 use Rattle.oat_check.specs.Rules.{IsChecked, has_types, holds_number, is_as_scalar, names_array}
 use Rattle.oat_check.specs.Steps.{SourceState, does, reads, writes}
-use Rattle.oat_frames.specs.Frames.{World, line_address}
-use Rattle.oat_frames.specs.Code.{CodeStands}
+use Rattle.oat_frames.specs.Frames.{World}
 use Rattle.oat_frames.specs.Lines.{IsLineAt, IsNumberLocal}
-use Rattle.oat_globals.specs.Code.{define_at_code, define_code, element_code, load_code, loadx_code, ref_code, slot_load, slot_store, store_code, storex_code, use_at_code, use_code}
+use Rattle.oat_globals.specs.Code.{define_at_code, define_code, load_code, loadx_code, ref_code, slot_load, slot_store, store_code, storex_code, use_at_code, use_code}
 use Rattle.oat_globals.specs.Elements.{IsArrayAt}
 use Rattle.oat_globals.proofs.GlobalLaws.{critical_element_loads_lead, critical_element_loads_trap, critical_element_stores_lead, critical_element_stores_trap, critical_loads_lead, critical_stores_lead, element_loads_lead, element_stores_lead, elements_trap, loads_lead, references_lead, stores_lead}
 use Rattle.oat_match.specs.Code.{by_cell, first_word_of}

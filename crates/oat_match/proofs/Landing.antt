@@ -1,11 +1,11 @@
 -- From what the laws of single lines come to, a source step that is matched.
-use Rattle.std.proofs.Common.{◌≡◌, ◌+◌, ◌<◌, ◌≤◌, ℕ, ℤ, Bool, true, false, cond, List, [], map, Option, Some, None, FitsSigned, refl, sym, ap, subst, ◌∙◌, arith, ltb}
+use Rattle.std.proofs.Common.{◌≡◌, ◌+◌, ◌<◌, ◌≤◌, ℕ, ℤ, Bool, cond, List, [], map, Option, None, FitsSigned, refl, sym, ap, subst, ◌∙◌, arith}
 use Rattle.std.proofs.lemmas.Bool.{lt-ltb, le-ltb}
 use Rattle.std.specs.Int.{w64}
 use Rattle.std.specs.List.{AllByRecursion}
 use Rattle.oat_map.specs.declared.trap.TrapKind.TheVariants.{Index}
 use Rattle.oat_ir.specs.declared.program.Program.{Program}
-use Rattle.oat_events.specs.Events.{SourceEvent, loads, stores}
+use Rattle.oat_events.specs.Events.{loads, stores}
 use Rattle.oat_events.specs.Source.{Finish}
 use Rattle.oat_journal.specs.Run.{Running}
 use Rattle.oat_check.specs.Globals.{cell_number, length_at, put}

@@ -1,4 +1,6 @@
 mod Worlds
+mod Finding
+mod CallCode
 mod Operands
 mod Words
 mod Landing
@@ -8,9 +10,11 @@ mod DeepCalls
 mod Targets
 mod OperationPlaces
 mod Placing
+mod CallRows
 mod Calling
 mod Returning
 mod Stepping
 mod Starting
 mod Taking
-pub mod Following
+mod Following
+mod GoingBack

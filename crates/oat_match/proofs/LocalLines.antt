@@ -1,5 +1,5 @@
 -- The source's step at each line whose operands are locals alone.
-use Rattle.std.proofs.Common.{◌≡◌, ◌+◌, ℕ, ℤ, Bool, true, false, cond, eqb, eqb-true, ◌&&◌, List, [], ◌∷◌, Option, Some, None, FitsSigned, refl, sym, ap, subst, ◌∙◌, arith}
+use Rattle.std.proofs.Common.{◌≡◌, ℕ, ℤ, Bool, true, false, cond, eqb, eqb-true, ◌&&◌, List, [], ◌∷◌, Option, Some, None, FitsSigned, refl, sym, subst, ◌∙◌, arith}
 use Rattle.std.specs.Prelude.{slice_get}
 use Rattle.std.proofs.lemmas.Bool.{and_parts, eqb-false}
 use Rattle.std.specs.Int.{w64}

@@ -1,8 +1,8 @@
 -- What a line asks of its operands, from the checking rules: each has the type, the word or the cell that the line's law wants.
-use Rattle.std.proofs.Common.{◌≡◌, ◌+◌, ◌-◌, ◌^◌, ◌<◌, ◌≤◌, ◌&&◌, ◌||◌, ◌⊎◌, inl, inr, ℕ, zero, suc, Bool, true, false, cond, List, [], ◌∷◌, length, Option, option_map, Some, None, refl, sym, ap, subst, ◌∙◌, arith, ltb, eqb}
+use Rattle.std.proofs.Common.{◌≡◌, ◌+◌, ◌-◌, ◌^◌, ◌<◌, ◌≤◌, ◌&&◌, ◌⊎◌, inl, inr, ℕ, zero, suc, Bool, true, false, cond, List, [], ◌∷◌, length, Option, option_map, Some, None, refl, sym, ap, subst, ◌∙◌, arith, ltb, eqb}
 use Rattle.std.specs.Prelude.{slice_get, take, get_or}
 use Rattle.std.specs.List.{sum_by}
-use Rattle.std.proofs.lemmas.Bool.{and_parts, lt-ltb, le-ltb, ltb-true, eq-eqb}
+use Rattle.std.proofs.lemmas.Bool.{lt-ltb, le-ltb, ltb-true, eq-eqb}
 use Rattle.std.proofs.lemmas.Option.{cond_some, slice_get_within, get_or_from_slice_get}
 use Rattle.std.proofs.lemmas.List.Sums.{sum_by-cons, sum_by_more_le, sum_by-le-sum_by}
 use Rattle.oat_ir.specs.WellFormed.{IsGlobal}
@@ -26,21 +26,9 @@ use Rattle.oat_globals.specs.Elements.{IsArrayAt, IsCriticalElementLine}
 use Rattle.oat_globals.specs.Scalars.{IsCriticalScalar, IsScalarPair, MayRefer}
 use Rattle.oat_match.specs.Code.{first_word_of}
 use Rattle.oat_match.specs.Compiled.{HasDataOf}
+use Rattle.oat_match.proofs.Finding.{found}
 
 -- ---- what is there
-
-pub record Found {X : Type 0} (test : X → Bool) (o : Option X) : Type 0 where
-  pub item : X
-  pub is : o ≡ Some item
-  pub passed : test item ≡ true
-
-pub found : {X : Type 0} (test : X → Bool) (o : Option X) → passes test o ≡ true → Found test o
-found test None h = absurd (cc)
-found test (Some x) h = record { item = x; is = refl; passed = h }
-
--- and what fails at what is there
-pub failed : {X : Type 0} (test : X → Bool) (o : Option X) (x : X) → o ≡ Some x → passes test o ≡ false → test x ≡ false
-failed test o x is h = sym (ap (passes test) is) ∙ h
 
 typed_inside : (locals : List Local) (x : ℕ) (ty : Ty) (o : Option Local) → slice_get locals x ≡ o → option_map (λ local. local.ty) o ≡ Some ty → x < length locals
 typed_inside locals x ty (Some local) is h = slice_get_within locals x local is

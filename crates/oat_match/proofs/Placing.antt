@@ -1,67 +1,30 @@
 -- The code of each line and the start of each function, at their places.
-use Rattle.std.proofs.Common.{◌≡◌, ◌+◌, ◌*◌, ◌<◌, ◌≤◌, ℕ, zero, suc, List, [], ◌∷◌, ◌++◌, length, map, take, Option, Some, None, refl, sym, ap, subst, ◌∙◌, arith}
+use Rattle.std.proofs.Common.{inl, inr, ◌≡◌, ◌+◌, ◌*◌, ◌<◌, ◌≤◌, ℕ, [], ◌∷◌, length, map, Some, refl, sym, ap, subst, ◌∙◌, arith}
 use Rattle.std.specs.Prelude.{slice_get}
 use Rattle.std.proofs.lemmas.Option.{slice_get_within}
-use Rattle.oat_asm.specs.declared.item.Item.{Item}
-use Rattle.oat_asm.specs.declared.item.Item.TheVariants as item
-use Rattle.oat_asm.specs.declared.note.Note.TheVariants as note
-use Rattle.oat_asm.specs.declared.branch_form.BranchForm.TheVariants.{Bl}
-use Rattle.oat_asm.specs.Items.{words_needed}
-use Rattle.oat_asm.proofs.StandingItems.{words_of_two}
-use Rattle.oat_a64.specs.declared.inst.Inst.TheVariants.{AddImm, BCond, Blr, Brk, Cbnz, Ldr, SubsImm, Svc}
-use Rattle.std.specs.Prelude.{pos}
 use Rattle.oat_ir.specs.declared.program.Program.{Program}
 use Rattle.oat_ir.specs.declared.func.Func.{Func}
 use Rattle.oat_ir.specs.declared.func.Role.{Role}
 use Rattle.oat_ir.specs.declared.func.Role.TheVariants.{Main, Operation, Plain}
 use Rattle.oat_ir.specs.declared.func.BlockIr.{BlockIr}
-use Rattle.oat_ir.specs.declared.instr.Instr.{Instr}
 use Rattle.oat_ir.specs.WellFormed.{IsRole}
 use Rattle.oat_check.specs.Rules.{IsChecked}
-use Rattle.oat_check.specs.Steps.{Frame, operation_number}
+use Rattle.oat_check.specs.Steps.{operation_number}
+use Rattle.oat_check.specs.Lines.{CodeLine}
 use Rattle.oat_check.proofs.Checking.{func_formed}
+use Rattle.oat_check.proofs.Frames.{there}
 use Rattle.oat_symbols.specs.Programs.{label_of_block}
 use Rattle.oat_parts.proofs.Lists.{get_before, map_get, map_length}
-use Rattle.oat_frames.specs.Calls.{IsFunctionAt, prologue_end}
-use Rattle.oat_frames.specs.Code.{CodeStands, argument_loads, behind_call, call_code, depth_tested, icall_code, prologue}
+use Rattle.oat_frames.specs.Calls.{IsFunctionAt}
+use Rattle.oat_frames.specs.Code.{CodeStands, prologue}
 use Rattle.oat_frames.specs.Frames.{World}
-use Rattle.oat_frames.specs.Lines.{IsLineAt, words_before_line}
+use Rattle.oat_frames.specs.Lines.{words_before_line}
 use Rattle.oat_frames.proofs.FrameLaws.{lines-stand}
-use Rattle.oat_globals.specs.Operations.{HasBegin, HasShortNumber, begin_code, role_words, start_code}
+use Rattle.oat_globals.specs.Operations.{HasBegin, HasShortNumber, start_code}
 use Rattle.oat_globals.proofs.GlobalLaws.{starts_stand}
-use Rattle.oat_match.specs.Code.{block_items, instruction_items, terminator_items}
-use Rattle.oat_match.specs.Compiled.{FunctionBegins, IsCompiled}
-
--- ---- lines of a block
-
-last_one : {X : Type 0} (xs : List X) (y : X) (n : ℕ) → n ≡ length xs → slice_get (xs ++ y ∷ []) n ≡ Some y
-last_one [] y zero h = refl
-last_one [] y (suc n) h = absurd (omega arith)
-last_one (x ∷ xs) y zero h = absurd (omega arith)
-last_one (x ∷ xs) y (suc n) h = last_one xs y n (omega arith)
-
--- ---- words of calls
-
-load_words : (r : ℕ) (args : List ℕ) → words_needed (argument_loads r args) ≡ length args
-load_words r [] = refl
-load_words r (k ∷ ks) =
-    words_of_two (item.Inst (Ldr r 31 (k + 1)) ∷ []) (argument_loads (r + 1) ks) ∙ ap (λ (n : ℕ). 1 + n) (load_words (r + 1) ks) ∙ one_more (length ks) where
-      one_more : (n : ℕ) → 1 + n ≡ suc n
-      one_more n = omega arith
-
-tested_words : (args : List ℕ) (is : List Item) (n : ℕ) → words_needed is ≡ n → words_needed (depth_tested args is) ≡ 4 + (length args + n)
-tested_words args is n h =
-    words_of_two (item.Inst (SubsImm 31 28 256) ∷ item.Note note.Check ∷ item.Inst (BCond 3 (pos 2)) ∷ item.Inst (Brk 4) ∷ item.Inst (AddImm 28 28 1) ∷ []) (argument_loads 0 args ++ is)
-    ∙ ap (λ (k : ℕ). 4 + k) (words_of_two (argument_loads 0 args) is ∙ ap (λ (k : ℕ). k + words_needed is) (load_words 0 args) ∙ ap (λ (k : ℕ). length args + k) h)
-
-pub call_words : (args : List ℕ) (callee result : ℕ) → words_needed (call_code args callee result) ≡ 4 + (length args + 3)
-call_words args callee result = tested_words args (item.Note (note.Call callee) ∷ item.BranchTo Bl callee ∷ behind_call result) 3 refl
-
-pub icall_words : (args : List ℕ) (from result : ℕ) → words_needed (icall_code args from result) ≡ 3 + (4 + (length args + 4))
-icall_words args from result =
-    let rest : List Item = item.Note (note.ICall (length args)) ∷ item.Inst (Svc 4) ∷ item.Inst (Blr 9) ∷ behind_call result in
-    words_of_two (item.Inst (Ldr 9 31 (from + 1)) ∷ item.Note note.Check ∷ item.Inst (Cbnz 9 (pos 2)) ∷ item.Inst (Brk 3) ∷ []) (depth_tested args rest)
-    ∙ ap (λ (k : ℕ). 3 + k) (tested_words args rest 4 refl)
+use Rattle.oat_match.proofs.Finding.{LineCases, last_one, line_cases}
+use Rattle.oat_match.specs.Code.{block_items, instruction_items, line_items, terminator_items}
+use Rattle.oat_match.specs.Compiled.{IsCompiled, LinesArePlaced}
 
 -- ---- an operation's number
 
@@ -73,22 +36,22 @@ short func Main h number e = absurd (cc)
 pub short_number : (p : Program) → IsChecked p → (f : ℕ) (func : Func) → slice_get p.funcs f ≡ Some func → HasShortNumber (operation_number func.role)
 short_number p ok f func is = short func func.role (func_formed p ok f func is).role
 
+-- a line's code among those of its block
+code_in_block : (p : Program) (f : ℕ) (func : Func) (block : BlockIr) (n : ℕ) (line : CodeLine) → LineCases block n line → slice_get (block_items p f func block) n ≡ Some (line_items p f func line)
+code_in_block p f func block n line (inl i) =
+    let low : n < length block.instrs = slice_get_within block.instrs n i.0 i.1 in
+    let long : length (map (instruction_items p) block.instrs) ≡ length block.instrs = map_length (instruction_items p) block.instrs in
+    get_before (map (instruction_items p) block.instrs) (terminator_items p f func block.term ∷ []) n (omega arith) ∙ map_get (instruction_items p) block.instrs n i.0 i.1
+    ∙ ap (λ (l : CodeLine). Some (line_items p f func l)) (sym i.2)
+code_in_block p f func block n line (inr t) =
+    last_one (map (instruction_items p) block.instrs) (terminator_items p f func block.term) n (t.0 ∙ sym (map_length (instruction_items p) block.instrs)) ∙ ap (λ (l : CodeLine). Some (line_items p f func l)) (sym t.1)
+
+pub lines_are_placed : LinesArePlaced
+lines_are_placed p w c f func block line is there at =
+    lines-stand w f (label_of_block p f.func f.block) (block_items p f.func func block) (line_items p f.func func line) (c.blocks f.func f.block func block is there)
+    (code_in_block p f.func func block f.line line (line_cases block f.line line at)) (c.data_of.slots f.func)
+
 module _ (p : Program) (ok : IsChecked p) (w : World) (c : IsCompiled p w) where
-  module _ (f : Frame) (func : Func) (block : BlockIr) (is : slice_get p.funcs f.func ≡ Some func) (there : slice_get func.blocks f.block ≡ Some block) where
-    pub instruction_line : (i : Instr) → slice_get block.instrs f.line ≡ Some i → IsLineAt w f (instruction_items p i)
-    instruction_line i at =
-        let instrs : List (List Item) = map (instruction_items p) block.instrs in
-        let inside : f.line < length block.instrs = slice_get_within block.instrs f.line i at in
-        let long : length instrs ≡ length block.instrs = map_length (instruction_items p) block.instrs in
-        lines-stand w f (label_of_block p f.func f.block) (block_items p f.func func block) (instruction_items p i) (c.blocks f.func f.block func block is there)
-        (get_before instrs (terminator_items p f.func func block.term ∷ []) f.line (omega arith) ∙ map_get (instruction_items p) block.instrs f.line i at) (c.data_of.slots f.func)
-
-    pub terminator_line : f.line ≡ length block.instrs → IsLineAt w f (terminator_items p f.func func block.term)
-    terminator_line at =
-        let instrs : List (List Item) = map (instruction_items p) block.instrs in
-        lines-stand w f (label_of_block p f.func f.block) (block_items p f.func func block) (terminator_items p f.func func block.term) (c.blocks f.func f.block func block is there)
-        (last_one instrs (terminator_items p f.func func block.term) f.line (at ∙ sym (map_length (instruction_items p) block.instrs))) (c.data_of.slots f.func)
-
   -- the first line of a block stands at its label
   pub block_begins : (f b : ℕ) (func : Func) (block : BlockIr) → slice_get p.funcs f ≡ Some func → slice_get func.blocks b ≡ Some block → w.place f b 0 ≡ w.label (label_of_block p f b)
   block_begins f b func block is there =

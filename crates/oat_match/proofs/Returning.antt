@@ -1,5 +1,5 @@
 -- The source's step at a return: to the line behind the call of the frame that waits.
-use Rattle.std.proofs.Common.{◌≡◌, ◌+◌, ◌*◌, ◌<◌, ◌≤◌, ◌&&◌, ◌++◌, ℕ, Bool, true, false, List, [], ◌∷◌, length, map, Option, option_map, Some, None, refl, sym, ap, subst, ◌∙◌, arith}
+use Rattle.std.proofs.Common.{◌≡◌, ◌+◌, ◌*◌, ◌&&◌, ◌++◌, ℕ, true, List, [], ◌∷◌, length, map, Option, option_map, Some, None, refl, sym, ap, subst, ◌∙◌, arith}
 use Rattle.std.specs.Prelude.{slice_get}
 use Rattle.std.specs.Option.{option_and_then}
 use Rattle.std.proofs.lemmas.Bool.{and_parts, both_ways}
@@ -14,20 +14,20 @@ use Rattle.oat_ir.specs.declared.instr.Term.TheVariants.{Ret}
 use Rattle.oat_events.specs.Events.{leaves, takes}
 use Rattle.oat_journal.specs.Run.{Running}
 use Rattle.oat_check.specs.Keeping.{AreCallers, IsCaller}
-use Rattle.oat_check.specs.Lines.{CodeLine, instruction, is_calling, terminator}
+use Rattle.oat_check.specs.Lines.{instruction, is_calling, terminator}
 use Rattle.oat_check.specs.RuleLaws.{IsAllowed}
-use Rattle.oat_check.specs.Rules.{IsChecked, are_as, has_types, hold_numbers, holds_number, is_func, is_main, is_main_role, parameters, refers_with}
+use Rattle.oat_check.specs.Rules.{IsChecked, has_types, hold_numbers, holds_number, is_main, is_main_role, refers_with}
 use Rattle.oat_check.specs.Steps.{Frame, LineEdge, SourceState, closes, current_line, gives, line_place, operation_number, operation_of, result_at, returns, shows}
-use Rattle.oat_check.proofs.Checking.{func_formed, instr_allowed}
+use Rattle.oat_check.proofs.Checking.{instr_allowed}
 use Rattle.oat_check.proofs.Frames.{instr_is, line_is}
-use Rattle.oat_follow.specs.Events.{MachineEvent, moves}
+use Rattle.oat_follow.specs.Events.{moves}
 use Rattle.oat_follow.specs.Placement.{seen_at}
 use Rattle.oat_frames.specs.Code.{CodeStands}
 use Rattle.oat_frames.specs.Comes.{StepsTo, with_result}
 use Rattle.oat_frames.specs.Frames.{IsAt, World, line_address, return_address}
 use Rattle.oat_frames.specs.Lines.{IsNumberLocal}
 use Rattle.oat_frames.specs.Returns.{IsReturnOf, return_edge}
-use Rattle.oat_globals.specs.Operations.{HasShortNumber, end_shown, leave_code, role_words}
+use Rattle.oat_globals.specs.Operations.{end_shown, leave_code, role_words}
 use Rattle.oat_globals.proofs.GlobalLaws.{operation_returns_lead}
 use Rattle.oat_match.specs.Compiled.{IsCompiled, call_result}
 use Rattle.oat_match.specs.Matching.{GoesAlike, StepIsMatched, words_held}

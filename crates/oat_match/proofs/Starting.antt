@@ -1,9 +1,8 @@
 -- The start of a compiled program's run: its prologue leads to where the source starts, and its cells hold what the source's hold.
-use Rattle.std.proofs.Common.{◌≡◌, ◌+◌, ◌*◌, ◌<◌, ◌≤◌, ℕ, ℤ, Bool, cond, List, [], length, inl, Option, option_map, Some, None, FitsSigned, refl, sym, ap, subst, ◌∙◌, arith}
+use Rattle.std.proofs.Common.{◌≡◌, ◌+◌, ◌*◌, ◌≤◌, ℕ, ℤ, List, [], inl, Option, option_map, Some, None, refl, sym, ap, subst, ◌∙◌, arith}
 use Rattle.std.specs.Prelude.{slice_get, unwrap_or}
 use Rattle.std.specs.Option.{option_and_then}
-use Rattle.std.specs.Int.{w64}
-use Rattle.std.specs.List.{AllByRecursion, sum_by}
+use Rattle.std.specs.List.{sum_by}
 use Rattle.std.proofs.Math.Path.{fun_ext}
 use Rattle.oat_a64.specs.Step.{code_base}
 use Rattle.oat_mem.specs.DataMemory.{global_address, word_in}
@@ -27,7 +26,7 @@ use Rattle.oat_check.proofs.Kept.{keeps}
 use Rattle.oat_frames.specs.Calls.{IsFunctionAt, prologue_end}
 use Rattle.oat_frames.specs.Code.{CodeStands, prologue}
 use Rattle.oat_frames.specs.Comes.{StepsTo}
-use Rattle.oat_frames.specs.Frames.{GlobalsAt, Represents, World, value_word}
+use Rattle.oat_frames.specs.Frames.{GlobalsAt, Represents, World}
 use Rattle.oat_frames.specs.Returns.{main_frame}
 use Rattle.oat_journal.specs.Run.{started}
 use Rattle.oat_frames.proofs.FrameLaws.{start-leads}

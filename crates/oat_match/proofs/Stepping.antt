@@ -1,10 +1,8 @@
 -- Each source step of a compiled program is matched: one row for each line.
-use Rattle.std.proofs.Common.{◌≡◌, ◌+◌, ◌<◌, ◌≤◌, ℕ, Bool, true, false, cond, List, length, ◌&&◌, inl, inr, Option, Some, None, is_some, refl, sym, ap, subst, ◌∙◌, arith}
-use Rattle.std.specs.Prelude.{All, slice_get}
+use Rattle.std.proofs.Common.{◌≡◌, ◌<◌, ◌≤◌, ℕ, cond, length, ◌&&◌, inl, inr, Option, Some, None, is_some, sym, ap, subst, ◌∙◌, arith}
+use Rattle.std.specs.Prelude.{slice_get}
 use Rattle.std.proofs.lemmas.Bool.{cases_lt}
 use Rattle.oat_ir.specs.declared.program.Program.{Program}
-use Rattle.oat_ir.specs.declared.func.Func.{Func}
-use Rattle.oat_ir.specs.declared.func.BlockIr.{BlockIr}
 use Rattle.oat_ir.specs.declared.func.Ty.TheVariants.{Fn}
 use Rattle.oat_ir.specs.declared.instr.Instr.{Instr}
 use Rattle.oat_ir.specs.declared.instr.Instr.TheVariants.{Binary, Call, Const, Copy, ICall, Input, Load, LoadX, Output, RefTo, Store, StoreX}
@@ -14,7 +12,7 @@ use Rattle.oat_ir.specs.Indices.{IsInstr, IsTerm}
 use Rattle.oat_ir.specs.WellFormed.{IsBlockIr}
 use Rattle.oat_events.specs.Source.{Finish}
 use Rattle.oat_journal.specs.Run.{Running}
-use Rattle.oat_check.specs.Keeping.{IsConsistent, IsFrame}
+use Rattle.oat_check.specs.Keeping.{IsConsistent}
 use Rattle.oat_check.specs.Lines.{CodeLine, instruction, terminator}
 use Rattle.oat_check.specs.RuleLaws.{IsAllowed}
 use Rattle.oat_check.specs.RunLaws.{ElementsAreNumbered}
@@ -29,11 +27,11 @@ use Rattle.oat_locals.specs.Terminators.{BlockBegins}
 use Rattle.oat_symbols.specs.Programs.{label_of_block}
 use Rattle.oat_match.specs.Code.{instruction_items, terminator_items}
 use Rattle.oat_match.specs.Compiled.{IsCompiled}
-use Rattle.oat_match.specs.Matching.{GoesAlike, IsAlike, IsRelated, StepIsMatched, StepsAreMatched}
+use Rattle.oat_match.specs.Matching.{GoesAlike, IsAlike, StepIsMatched, StepsAreMatched}
 use Rattle.oat_match.proofs.Calling.{call_matched, icall_matched}
 use Rattle.oat_match.proofs.GlobalLines.{load_matched, loadx_matched, ref_matched, store_matched, storex_matched}
 use Rattle.oat_match.proofs.LocalLines.{binary_matched, branch_matched, const_matched, copy_matched, halt_matched, input_matched, jump_matched, output_matched}
-use Rattle.oat_match.proofs.Placing.{block_begins, instruction_line, terminator_line}
+use Rattle.oat_match.proofs.Placing.{block_begins, lines_are_placed}
 use Rattle.oat_match.proofs.Returning.{return_matched}
 use Rattle.oat_match.proofs.Targets.{referenced_here}
 
@@ -76,14 +74,14 @@ module _ (numbered : ElementsAreNumbered) (p : Program) (ok : IsChecked p) (w : 
       subst (λ (o : Option CodeLine). StepIsMatched p w (at_line p s o) m) (sym here)
       (by_instruction i is here (each_at (IsInstr p g.stands.func) g.stands.block.instrs s.frame.line i block.0 is)
       (instr_allowed p ok s.frame.func g.stands.func g.stands.func_is s.frame.block g.stands.block g.stands.block_is s.frame.line i is)
-      (instruction_line p ok w c s.frame g.stands.func g.stands.block g.stands.func_is g.stands.block_is i is))
+      (lines_are_placed p w c s.frame g.stands.func g.stands.block (instruction i) g.stands.func_is g.stands.block_is (instr_is g.stands.block s.frame.line i is)))
 
   at_terminator : s.frame.line ≡ length g.stands.block.instrs → StepIsMatched p w (at_line p s (current_line p s.frame)) m
   at_terminator is =
       subst (λ (o : Option CodeLine). StepIsMatched p w (at_line p s o) m) (sym (line_is p s.frame g.stands ∙ term_is g.stands.block s.frame.line is))
       (by_terminator g.stands.block.term (term_formed p ok s.frame.func g.stands.func g.stands.func_is s.frame.block g.stands.block g.stands.block_is)
       (term_allowed p ok s.frame.func g.stands.func g.stands.func_is s.frame.block g.stands.block g.stands.block_is)
-      (terminator_line p ok w c s.frame g.stands.func g.stands.block g.stands.func_is g.stands.block_is is))
+      (lines_are_placed p w c s.frame g.stands.func g.stands.block (terminator g.stands.block.term) g.stands.func_is g.stands.block_is (term_is g.stands.block s.frame.line is)))
 
   step_matched : StepIsMatched p w (at_line p s (current_line p s.frame)) m
   step_matched = elim (cases_lt s.frame.line (length g.stands.block.instrs)) as (λ _. StepIsMatched p w (at_line p s (current_line p s.frame)) m) [

@@ -1,5 +1,5 @@
 -- The edges that a source step takes are those of the program's lines.
-use Rattle.std.proofs.Common.{◌≡◌, ◌-◌, ◌<◌, ◌≤◌, ℕ, ℤ, Bool, true, false, cond, eqb, eqb-true, leb, ltb, ◌&&◌, ◌++◌, List, [], ◌∷◌, length, inl, inr, Option, Some, None, is_some, refl, sym, ap, subst, ◌∙◌, arith, if◌then◌else◌}
+use Rattle.std.proofs.Common.{◌≡◌, ◌-◌, ◌≤◌, ℕ, ℤ, Bool, true, false, cond, eqb, leb, ltb, ◌&&◌, ◌++◌, List, [], ◌∷◌, length, inl, inr, Option, Some, None, is_some, refl, sym, subst, ◌∙◌, arith}
 use Rattle.std.specs.Prelude.{slice_get}
 use Rattle.std.proofs.lemmas.Bool.{and_parts, cases_lt, eqb-false}
 use Rattle.std.proofs.lemmas.Option.{slice_get_within}
@@ -10,14 +10,14 @@ use Rattle.oat_ir.specs.declared.instr.Instr.{Instr}
 use Rattle.oat_ir.specs.declared.instr.Instr.TheVariants.{Binary, Call, Const, Copy, ICall, Input, Load, LoadX, Output, RefTo, Store, StoreX}
 use Rattle.oat_ir.specs.declared.instr.Term.{Term}
 use Rattle.oat_ir.specs.declared.instr.Term.TheVariants.{Branch, Halt, Jump, Ret}
-use Rattle.oat_events.specs.Events.{SourceEvent, enters, leaves, loads, stores, takes}
+use Rattle.oat_events.specs.Events.{enters, leaves, loads, stores, takes}
 use Rattle.oat_check.specs.Globals.{cell_number, length_at}
-use Rattle.oat_check.specs.Keeping.{AreCallers, IsCaller, IsConsistent, IsTarget}
+use Rattle.oat_check.specs.Keeping.{AreCallers, IsCaller, IsConsistent}
 use Rattle.oat_check.specs.Lines.{CodeLine, instruction, terminator}
 use Rattle.oat_check.specs.Operators.{result_of}
 use Rattle.oat_check.specs.RuleLaws.{IsAllowed}
 use Rattle.oat_check.specs.Rules.{IsChecked, hold_numbers, holds_number, local_ty, refers_with}
-use Rattle.oat_check.specs.Steps.{Frame, LineEdge, Next, SourceState, at_line, branches, calls, closes, computes, current_line, does, entered, gives, goes_to, icalls, in_array, jumps, line_place, operation_of, reads, returns, runs, shows, silent, source_step, takes_in, traps_by, writes}
+use Rattle.oat_check.specs.Steps.{Frame, LineEdge, Next, SourceState, at_line, branches, calls, closes, computes, current_line, does, entered, gives, goes_to, icalls, line_place, operation_of, reads, returns, runs, shows, silent, takes_in, traps_by, writes}
 use Rattle.oat_check.proofs.Checking.{has_ty, instr_allowed}
 use Rattle.oat_check.proofs.Frames.{There, instr_is, line_is, term_is, there}
 use Rattle.oat_match.specs.Following.{StepsTakeEdges, TakesEdgesOf}

@@ -1,5 +1,5 @@
 -- What is known of a function that a reference names, and of the parameters and arguments of a call.
-use Rattle.std.proofs.Common.{◌≡◌, ◌+◌, ◌<◌, ◌≤◌, ◌&&◌, ◌||◌, ℕ, zero, suc, Bool, true, false, not, List, [], ◌∷◌, length, take, get_or, Option, option_map, Some, None, refl, sym, ap, subst, ◌∙◌, arith, eqb-true, eq-eqb}
+use Rattle.std.proofs.Common.{◌≡◌, ◌<◌, ◌||◌, ℕ, zero, suc, Bool, true, false, not, List, [], ◌∷◌, length, take, get_or, Some, None, refl, subst, ◌∙◌, arith, eqb-true, eq-eqb}
 use Rattle.std.specs.Prelude.{slice_get}
 use Rattle.std.specs.List.{list_any}
 use Rattle.std.proofs.lemmas.Bool.{and_parts, not-false, or_parts}
@@ -18,7 +18,7 @@ use Rattle.oat_check.specs.RuleLaws.{IsAllowed}
 use Rattle.oat_check.specs.Rules.{IsChecked, are_as, hold_numbers, holds_number, is_func, is_main, is_no_target, is_operation, is_operation_role, local_ty, parameters, refers_amiss, takes_numbers}
 use Rattle.oat_check.specs.Steps.{operation_number}
 use Rattle.oat_check.proofs.Checking.{has_ty, instr_allowed, list_any_at, same_ty}
-use Rattle.oat_match.proofs.Operands.{failed}
+use Rattle.oat_match.proofs.Finding.{failed}
 
 -- ---- one that passes
 

@@ -1,5 +1,5 @@
 -- Words of global data at the source's steps: an element is read or written at its word, and a word of the start has its type.
-use Rattle.std.proofs.Common.{◌≡◌, ◌+◌, ◌-◌, ◌^◌, ◌<◌, ◌≤◌, ◌&&◌, ℕ, suc, Bool, true, false, cond, List, [], ◌∷◌, Option, Some, None, is_some, refl, sym, ap, subst, ◌∙◌, arith, ltb, eqb, eqb-true, lit<, inl, inr}
+use Rattle.std.proofs.Common.{◌≡◌, ◌+◌, ◌-◌, ◌^◌, ◌<◌, ◌&&◌, ℕ, Bool, true, false, cond, List, [], ◌∷◌, Option, Some, None, is_some, refl, sym, ap, subst, ◌∙◌, arith, ltb, eqb, eqb-true, lit<, inl, inr}
 use Rattle.std.specs.Prelude.{slice_get, unwrap_or}
 use Rattle.std.specs.List.{sum_by}
 use Rattle.std.proofs.Math.Path.{fun_ext}
@@ -10,7 +10,7 @@ use Rattle.oat_ir.specs.declared.program.GlobalItem.{GlobalItem}
 use Rattle.oat_ir.specs.declared.program.GlobalItem.TheVariants.{Scalar, FnScalar, Array, CriticalArray}
 use Rattle.oat_ir.specs.declared.func.Ty.{Ty}
 use Rattle.oat_ir.specs.declared.func.Ty.TheVariants.{I64, Fn}
-use Rattle.oat_check.specs.Globals.{Values, first_values, length_at, of_global, put, size_in_words, start_of, word_number, word_values}
+use Rattle.oat_check.specs.Globals.{Values, length_at, of_global, put, size_in_words, start_of, word_number, word_values}
 use Rattle.oat_check.specs.Keeping.{item_ty, word_ty}
 use Rattle.oat_check.specs.RunLaws.{ElementsAreNumbered, IsNumbered}
 use Rattle.oat_check.specs.Steps.{assigned}

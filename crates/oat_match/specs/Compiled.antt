@@ -17,7 +17,7 @@ use Rattle.oat_ir.specs.declared.func.Ty.TheVariants.{I64}
 use Rattle.oat_ir.specs.declared.instr.Instr.TheVariants.{Call, ICall}
 use Rattle.oat_check.specs.Globals.{size_in_words, cell_words, first_values, word_values}
 use Rattle.oat_check.specs.Keeping.{is_referenced, may_name, word_ty}
-use Rattle.oat_check.specs.Lines.{CodeLine, instruction}
+use Rattle.oat_check.specs.Lines.{CodeLine, instruction, line_in}
 use Rattle.oat_check.specs.Rules.{IsChecked, local_ty}
 use Rattle.oat_check.specs.Runs.{main_number}
 use Rattle.oat_check.specs.Steps.{Frame, current_line, operation_number}
@@ -25,9 +25,9 @@ use Rattle.oat_symbols.specs.Programs.{label_of_block}
 use Rattle.oat_frames.specs.Frames.{World, IsWorld, IsLow, IsSlotted, slot}
 use Rattle.oat_frames.specs.Code.{CodeStands}
 use Rattle.oat_frames.specs.Calls.{prologue_end}
-use Rattle.oat_frames.specs.Lines.{IsBlockAt, words_before_line}
+use Rattle.oat_frames.specs.Lines.{IsBlockAt, IsLineAt, words_before_line}
 use Rattle.oat_globals.specs.Operations.{start_code, role_words}
-use Rattle.oat_match.specs.Code.{block_items}
+use Rattle.oat_match.specs.Code.{block_items, line_items}
 
 -- ---- data of a program in its world
 
@@ -105,3 +105,10 @@ pub record WorldIsOf (p : Program) (image : Image) (label : ℕ → ℕ) : Type 
 abbrev pub ProgramsHaveWorlds : Type 0
 ProgramsHaveWorlds =
     (p : Program) → IsChecked p → (image : Image) (label : ℕ → ℕ) → IsLow image → ((l : ℕ) → label l < 2 ^ 32) → WorldIsOf p image label
+
+-- the code of each line stands at its place, with the next line behind it
+abbrev pub LinesArePlaced : Type 0
+LinesArePlaced =
+    (p : Program) (w : World) → IsCompiled p w → (f : Frame) (func : Func) (block : BlockIr) (line : CodeLine)
+    → slice_get p.funcs f.func ≡ Some func → slice_get func.blocks f.block ≡ Some block → line_in block f.line ≡ Some line
+    → IsLineAt w f (line_items p f.func func line)

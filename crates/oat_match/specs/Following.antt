@@ -1,5 +1,5 @@
 -- The image of a compiled program runs as its source: it ends as the source ends, in both directions and within the bound, and each window shows its call.
-use Rattle.std.specs.Prelude.{◌≡◌, ℤ, FitsSigned, List, [], ◌∷◌}
+use Rattle.std.specs.Prelude.{◌≡◌, ℕ, ℤ, FitsSigned, List, [], ◌∷◌}
 use Rattle.std.specs.Int.{w64}
 use Rattle.std.specs.List.{AllByRecursion}
 use Rattle.oat_ir.specs.declared.program.Program.{Program}
@@ -9,6 +9,10 @@ use Rattle.oat_check.specs.Keeping.{IsConsistent}
 use Rattle.oat_check.specs.Rules.{IsChecked}
 use Rattle.oat_check.specs.Runs.{source_of}
 use Rattle.oat_check.specs.Steps.{LineEdge, SourceState, source_step}
+use Rattle.oat_map.specs.Turns.{GoesBack, turn_of}
+use Rattle.oat_blob.specs.Body.{Body}
+use Rattle.oat_journal.specs.Measured.{HasBody, dev, window_of}
+use Rattle.oat_journal.specs.Window.{executed_path}
 use Rattle.oat_follow.specs.Following.{Means, RunsAs}
 use Rattle.oat_frames.specs.Frames.{World}
 use Rattle.oat_match.specs.Compiled.{IsCompiled}
@@ -37,3 +41,12 @@ abbrev pub CompiledProgramsMean : Type 0
 CompiledProgramsMean =
     (p : Program) → IsChecked p → (w : World) → IsCompiled p w → EdgesAreNamed p w → (inputs : List ℤ) → AllByRecursion (FitsSigned w64) inputs
     → (o : Opening) → (placement p w).begin o.op ≡ o.begin_at → Means (source_of p inputs) w.image (placement p w) o inputs
+
+-- ---- honest paths
+
+-- the executed path of each window that was sealed goes back as it called
+abbrev pub CompiledWindowsGoBack : Type 0
+CompiledWindowsGoBack =
+    (p : Program) → IsChecked p → (w : World) → IsCompiled p w → EdgesAreNamed p w → (inputs : List ℤ) → AllByRecursion (FitsSigned w64) inputs
+    → (o : Opening) → (placement p w).begin o.op ≡ o.begin_at → (n s : ℕ) (body : Body) → HasBody o (dev w.image o inputs [] n) s body
+    → GoesBack turn_of [] (executed_path w.image.map o.op (window_of o s (dev w.image o inputs [] n)))

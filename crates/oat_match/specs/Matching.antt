@@ -3,7 +3,6 @@ use Rattle.std.specs.Prelude.{◌≡◌, ◌≤◌, ℕ, ℤ, FitsSigned, List, 
 use Rattle.std.specs.Int.{w64}
 use Rattle.std.specs.List.{AllByRecursion}
 use Rattle.oat_ir.specs.declared.program.Program.{Program}
-use Rattle.oat_events.specs.Cells.{Cells}
 use Rattle.oat_events.specs.Source.{Finish}
 use Rattle.oat_journal.specs.Measured.{start_cells}
 use Rattle.oat_journal.specs.Run.{Running, started}

@@ -1,7 +1,7 @@
 //! Laws of compiled programs, each the contract of a function that does nothing.
-ghost use Rattle.oat_match.specs.Compiled.{ProgramsHaveWorlds};
+ghost use Rattle.oat_match.specs.Compiled.{LinesArePlaced, ProgramsHaveWorlds};
 ghost use Rattle.oat_match.specs.DeepCalls.{DeepIndirectCallsTrap};
-ghost use Rattle.oat_match.specs.Following.{CompiledProgramsMean, CompiledProgramsRun, StepsTakeEdges};
+ghost use Rattle.oat_match.specs.Following.{CompiledProgramsMean, CompiledProgramsRun, CompiledWindowsGoBack, StepsTakeEdges};
 ghost use Rattle.oat_match.specs.Matching.{CellsStartAlike, StartsAreMatched, StepsAreMatched};
 
 use oat_check::laws::{cell_words_are_there, cells_are_words, elements_are_numbered};
@@ -9,6 +9,11 @@ use oat_check::laws::{cell_words_are_there, cells_are_words, elements_are_number
 /// A checked program has its world.
 pub fn programs_have_worlds()
     ensures { ProgramsHaveWorlds }
+{}
+
+/// The code of each line stands at its place.
+pub fn lines_are_placed()
+    ensures { LinesArePlaced }
 {}
 
 /// An indirect call with 256 callers traps, and shows nothing.
@@ -56,4 +61,12 @@ pub fn compiled_programs_mean()
     ensures { CompiledProgramsMean }
 {
     compiled_programs_run();
+}
+
+/// The executed path of each window that it seals goes back as it called.
+pub fn compiled_windows_go_back()
+    ensures { CompiledWindowsGoBack }
+{
+    compiled_programs_mean();
+    steps_take_edges();
 }
