@@ -49,7 +49,7 @@ at_least_one None fit = omega arith
 at_least_one (Some k) fit = let low = leb-true 1 k (and_parts (nat_le 1 k) (nat_le k 1024) fit).0 in omega (arith, low)
 
 -- the serial number of window s
-number_of : Option ℕ → ℕ → Option ℕ
+abbrev number_of : Option ℕ → ℕ → Option ℕ
 number_of calls s = option_map (λ (first : ℕ). first + s) (option_map (λ (k : ℕ). 0) calls)
 
 called_for : (calls : Option ℕ) (s : ℕ) → s < unwrap_or calls 1 → (s ≡ 0) ⊎ ((number : ℕ) × (number_of calls s ≡ Some number) × (number < unwrap_or calls 1))
@@ -66,14 +66,14 @@ not_called_for (Some k) some (inr (number, is, below)) =
 
 -- ---- the end of a run
 
-ended_by : Option DeviceEnd → DeviceEnd
+abbrev ended_by : Option DeviceEnd → DeviceEnd
 ended_by end = elim end [ None ↦ OutOfSteps | Some why ↦ why ]
 
 module _ (p : Program) (case : Case) (a : Attested) (formed : IsWellFormedCase case) (h : Attests p case a) (unwritten : case.writes ≡ []) where
-  o : Opening
+  abbrev o : Opening
   o = opening_told h.tells
 
-  quiet : Run
+  abbrev quiet : Run
   quiet = dev a.shaped o case.inputs [] case.steps
 
   same : run_told h.tells ≡ quiet
@@ -82,7 +82,7 @@ module _ (p : Program) (case : Case) (a : Attested) (formed : IsWellFormedCase c
   fit : AllByRecursion (FitsSigned w64) case.inputs
   fit = recursion_from_All (FitsSigned w64) case.inputs h.given.inputs_fit
 
-  place : Placement LineEdge
+  abbrev place : Placement LineEdge
   place = h.image.runs.placement
 
   means : Means (source_of p case.inputs) a.shaped place o case.inputs

@@ -18,6 +18,7 @@ use oat_build::{BuildFault, build};
 use oat_case::{Bytes, Case, Session};
 use oat_check::Checked;
 use oat_device::Device;
+use oat_device::laws::steps_make_the_run;
 use oat_list::Listed;
 use oat_shape::Shaped;
 use oat_verify::{Verdict, verify};
@@ -41,9 +42,10 @@ fn judge_windows(
     ensures blobs { IfOk result (λ windows. AllZip (λ body bytes. IsBlobOf body device.now.case.session.key bytes) (bodies_so_far device.now) windows.blobs.items) }
     ensures verdicts { IfOk result (λ windows. AllZip (IsVerdict (subject_of shaped.now session.now)) windows.blobs.items windows.verdicts.items) }
 {
+    let count = device.bodies();
     let mut blobs = Vec::new(alloc);
     let mut verdicts = Vec::new(alloc);
-    for serial in 0..device.bodies() {
+    for serial in 0..count {
         let blob = device.blob(alloc, serial)?;
         verdicts.push(verify(alloc, shaped, session, blob.as_slice())?)?;
         blobs.push(Bytes::from_vec(blob))?;
@@ -58,6 +60,7 @@ fn measure(alloc: Global, shaped: Shaped, case: &Case) -> Result<Attested, Alloc
     ensures same { IfOk result (λ attested. attested.shaped ≡ shaped) }
     ensures tells { IfOk result (λ attested. TellsRun case.now attested) }
 {
+    steps_make_the_run();
     let mut device = Device::boot(alloc, &shaped, case)?;
     let end = device.run();
     let outputs = Vec::from_slice(alloc, device.outputs())?;

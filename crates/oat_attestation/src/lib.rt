@@ -8,3 +8,6 @@ mod looking;
 
 pub use attested::Attested;
 pub use attesting::attest;
+
+#[cfg(test)]
+mod tests;
