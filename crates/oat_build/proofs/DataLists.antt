@@ -26,8 +26,8 @@ map_moved : (first size : ℕ) (xs : List ℕ) → map (λ (word : ℕ). first +
 map_moved first size [] = refl
 map_moved first size (x ∷ xs) =
     ap (λ (k : ℕ). k ∷ map (λ (word : ℕ). first + word) (map (λ (word : ℕ). size + word) xs)) (sum first size x) ∙ ap (λ (rest : List ℕ). (first + size + x) ∷ rest) (map_moved first size xs) where
-  sum : (a b c : ℕ) → a + (b + c) ≡ a + b + c
-  sum a b c = omega arith
+      sum : (a b c : ℕ) → a + (b + c) ≡ a + b + c
+      sum a b c = omega arith
 
 -- those of the first global, and those of the others behind its words
 pub cells_of_first : (first : ℕ) (item : GlobalItem) (items : List GlobalItem)

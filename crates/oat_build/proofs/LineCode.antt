@@ -55,7 +55,7 @@ module _ (p : Program) (formed : IsProgram p) (placing : GlobalsHaveTheirPlaces)
       let is : slice_get p.globals g ≡ Some item = slice_get-get_or p.globals g (Array [] 0) less in
       let one = placed_by item (first_word_of p g) (sum_by size_in_cells (take g p.globals)) (each_at IsGlobal p.globals g item formed.globals is) in
       let by : (o : Option GlobalItem) → o ≡ Some item
-          → place_by (cond (nat_lt 0 (of_global size_in_cells o)) (Some (sum_by size_in_cells (take g p.globals) + 0)) None) (first_word_of p g) (of_global size_in_words o) (placed item (first_word_of p g) (sum_by size_in_cells (take g p.globals))) =
+      → place_by (cond (nat_lt 0 (of_global size_in_cells o)) (Some (sum_by size_in_cells (take g p.globals) + 0)) None) (first_word_of p g) (of_global size_in_words o) (placed item (first_word_of p g) (sum_by size_in_cells (take g p.globals))) =
       λ o e. subst (λ (q : Option GlobalItem). place_by (cond (nat_lt 0 (of_global size_in_cells q)) (Some (sum_by size_in_cells (take g p.globals) + 0)) None) (first_word_of p g) (of_global size_in_words q) (placed item (first_word_of p g) (sum_by size_in_cells (take g p.globals)))) (sym e) one in
       subst (place_by (cell_number p g 0) (first_word_of p g) (length_at p g)) (sym (placing p g item is)) (by (slice_get p.globals g) is)
 

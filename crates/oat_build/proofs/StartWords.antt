@@ -124,4 +124,3 @@ start_words p n value is =
     let start = starts_with p.globals 0 (λ address. 0) (λ k least. no_words k) in
     let none : 0 + n ≡ n = omega arith in
     ap (word_of (start_memory (words_from 0 p.globals))) (sym none) ∙ start.values n value is
-

@@ -21,7 +21,11 @@ pub(crate) struct LabelAddresses {
 
 impl LabelAddresses {
     /// Those of the labels among the items.
-    pub(crate) fn new(alloc: Global, items: &Items, assembled: &Assembled) -> Result<LabelAddresses, AllocError>
+    pub(crate) fn new(
+        alloc: Global,
+        items: &Items,
+        assembled: &Assembled,
+    ) -> Result<LabelAddresses, AllocError>
         requires whole { CanBeAssembled items.now }
         requires laid { assembled.now ≡ layout items.now code_base }
         requires once { LabelsStandOnce items.now }

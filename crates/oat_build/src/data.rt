@@ -37,7 +37,10 @@ fn start_of(item: &GlobalItem) -> u64
 }
 
 /// The words that aren't zero at the start.
-pub(crate) fn words_at_start(alloc: Global, globals: &[GlobalItem]) -> Result<Vec<InitWord>, AllocError>
+pub(crate) fn words_at_start(
+    alloc: Global,
+    globals: &[GlobalItem],
+) -> Result<Vec<InitWord>, AllocError>
     requires { sum_by size_in_words globals.now ≤ 65536 }
     ensures { IfOk result (λ words. words.items ≡ words_from 0 globals.now) }
 {

@@ -5,12 +5,15 @@ mod addresses;
 mod compiler;
 mod data;
 mod fault;
-mod references;
 mod image;
 pub mod laws;
 mod names;
+mod references;
 mod rows;
 mod symbols;
 
 pub use compiler::build;
 pub use fault::BuildFault;
+
+#[cfg(test)]
+mod tests;

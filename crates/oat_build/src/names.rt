@@ -1,7 +1,7 @@
 //! The names of a program, as its types have them.
 ghost use Rattle.oat_map.specs.Name.{IsName};
 ghost use Rattle.oat_symbols.specs.Programs.{HasValidNames};
-ghost use Rattle.oat_build.specs.Naming.{IsNamed};
+ghost use Rattle.oat_build.specs.Naming.{HasNames};
 
 use oat_ir::{BlockIr, Func, Program};
 
@@ -15,7 +15,7 @@ pub(crate) fn look_at_names(program: &Program)
 }
 
 fn look_at_function(func: &Func)
-    ensures { IsNamed func.now }
+    ensures { HasNames func.now }
 {
     let _name = func.name.as_bytes();
     for block in func.blocks.as_slice() {

@@ -6,7 +6,7 @@ ghost use Rattle.oat_check.specs.Rules.{IsChecked, is_main};
 ghost use Rattle.oat_parts.specs.Symbols.{blocks_from, blocks_of, function_at, functions_of};
 ghost use Rattle.oat_symbols.specs.Programs.{block_names, symbol_for, symbols_from, symbols_of};
 ghost use Rattle.oat_build.specs.Addresses.{address_in};
-ghost use Rattle.oat_build.specs.Listing.{CanList};
+ghost use Rattle.oat_build.specs.Listing.{CanList, blocks_between, funcs_between, functions_between, symbol_in};
 
 use crate::addresses::LabelAddresses;
 use crate::references::references;
@@ -123,9 +123,9 @@ impl<'a> Lister<'a> {
         requires lister { CanList self.now }
         requires from { from ≤ to }
         requires to { to ≤ length self.now.program.now.funcs }
-        requires labels { first + length (flat_map block_names (take (to - from) (drop from self.now.program.now.funcs))) < 2 ^ 32 }
-        ensures functions { OnOk result (symbols.new.functions.items ≡ symbols.old.functions.items ++ functions_of (address_in self.now.addresses.now) (symbols_from self.now.program.now from first (take (to - from) (drop from self.now.program.now.funcs)))) }
-        ensures blocks { OnOk result (symbols.new.blocks.items ≡ symbols.old.blocks.items ++ blocks_of (address_in self.now.addresses.now) (symbols_from self.now.program.now from first (take (to - from) (drop from self.now.program.now.funcs)))) }
+        requires labels { first + length (flat_map block_names (funcs_between self.now.program.now from to)) < 2 ^ 32 }
+        ensures functions { OnOk result (symbols.new.functions.items ≡ symbols.old.functions.items ++ functions_between self.now from to first) }
+        ensures blocks { OnOk result (symbols.new.blocks.items ≡ symbols.old.blocks.items ++ blocks_between self.now from to first) }
     {
         let mut number = from as u32;
         let mut label = first;
@@ -148,7 +148,7 @@ impl<'a> Lister<'a> {
         requires lister { CanList self.now }
         requires number { number < length self.now.program.now.funcs }
         requires labels { label + length func.now.blocks < 2 ^ 32 }
-        ensures functions { OnOk result (symbols.new.functions.items ≡ symbols.old.functions.items ++ function_at (address_in self.now.addresses.now) (symbol_for self.now.program.now number label func.now) ∷ []) }
+        ensures functions { OnOk result (symbols.new.functions.items ≡ symbols.old.functions.items ++ function_at (address_in self.now.addresses.now) (symbol_in self.now number label func.now) ∷ []) }
         ensures blocks { OnOk result (symbols.new.blocks.items ≡ symbols.old.blocks.items ++ blocks_from (address_in self.now.addresses.now) label (block_names func.now)) }
     {
         symbols.functions.push(Function {

@@ -14,17 +14,12 @@ use Rattle.oat_check.specs.Steps.{operation_number}
 use Rattle.oat_parts.specs.Making.{FunctionCode}
 use Rattle.oat_symbols.specs.Programs.{label_of_block}
 use Rattle.oat_symbols.specs.Codes.{codes_of, items_for}
-use Rattle.oat_frames.specs.Frames.{Home, slot}
 use Rattle.oat_frames.specs.Lines.{lines_code}
 use Rattle.oat_locals.specs.Code.{binary_code, const_code, copy_code, input_code, output_code, halt_code}
 use Rattle.oat_globals.specs.Code.{ref_code}
 use Rattle.oat_gen.specs.declared.globals.GlobalPlace.{GlobalPlace}
 use Rattle.oat_gen.specs.GlobalPlaces.{global_places, place_in}
 use Rattle.oat_gen.specs.Marked.{marked_start, marked_return, marked_call, marked_icall, marked_jump, marked_branch, scalar_load, scalar_store, element_load, element_store}
-
--- where a local of a function is held: slot 0 of a frame has the return address
-abbrev pub home_of : Func → ℕ → Home
-home_of func x = slot (x + 1)
 
 -- ---- lines
 

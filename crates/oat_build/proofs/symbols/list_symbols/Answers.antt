@@ -120,4 +120,3 @@ returns-clause-blocks c =
     c.new-2.result.items c.list.new.symbols.blocks.items c.list-2.new.symbols.blocks.items c.list-3.new.symbols.blocks.items
     f.is (subst (λ (n : ℕ). c.unwrap-main.result < n) f.many f.within) f.many (ap (λ (n : ℕ). length c.as_slice-funcs.result.now + n) l.to_main) l.behind_main c.new-2.ensures.items
     c.in_ok-list.ensures.blocks c.in_ok-list-2.ensures.blocks c.in_ok-list-3.ensures.blocks
-
