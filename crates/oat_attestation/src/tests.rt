@@ -1,7 +1,7 @@
 use crate::attest;
 use oat_case::{Case, Session};
 use oat_check::{Checked, check};
-use oat_ir::{BlockIr, Func, Instr, Local, Program, Role, Term, Ty};
+use oat_ir::{Args, BlockIr, Func, Instr, Local, Program, Role, Term, Ty};
 use oat_journal::DeviceEnd;
 use oat_list::Listed;
 use oat_map::{Edge, Name};
@@ -41,7 +41,7 @@ fn idle(alloc: Global, calls: usize) -> Result<Checked, Fail> {
         instrs.push(Instr::Call {
             x: 0,
             func: 0,
-            args: Listed::from_vec(Vec::new(alloc)),
+            args: Args::new(&[]).ok_or("no arguments")?,
         })?;
     }
     let idle = func(
