@@ -14,7 +14,7 @@ use Rattle.oat_symbols.specs.Programs.{ProgramsHaveSymbols, ProgramsHaveTheirLab
 use Rattle.oat_symbols.specs.Codes.{CodesAreOfTheProgram, IsBuiltWhole, codes_of}
 use Rattle.oat_gen.specs.Code.{function_code, program_items}
 use Rattle.oat_gen.specs.Laws.{FittingProgramsAreBuilt, FunctionsHaveTheirCode, ProgramItemsCanBeExpanded, ProgramsHaveFewWords}
-use Rattle.oat_match.specs.Following.{CompiledProgramsMean, CompiledProgramsRun}
+use Rattle.oat_match.specs.Following.{CompiledProgramsMean, CompiledProgramsRun, CompiledWindowsGoBack}
 use Rattle.oat_match.specs.Placed.{placement}
 use Rattle.oat_build.specs.Built.{program_words, program_image, program_world, BuiltEdgesAreNamed, BuiltImagesAreOfPrograms, BuiltProgramsAreCompiled, CanBeBuilt, ProgramsCanBeBuilt}
 use Rattle.oat_build.proofs.OperationRows.{operations_are, begins_are}
@@ -38,9 +38,9 @@ programs_can_be_built expands codes coded tables p ok named =
 pub can_be_assembled : (p : Program) → CanBeBuilt p → program_words p ≤ code_limit → CanBeAssembled (expansion (program_items p))
 can_be_assembled p can few = record { used = can.used; unmarked = can.unmarked; instructions = can.instructions; branches = can.branches; registers = can.registers; few = few }
 
-pub built_images_are_of_programs : ProgramsCanBeBuilt → FittingProgramsAreBuilt → ProgramsHaveFewWords → ProgramsHaveTheirLabels → OperationsOpenOnce → BuiltProgramsAreCompiled → BuiltEdgesAreNamed → CompiledProgramsRun → CompiledProgramsMean
+pub built_images_are_of_programs : ProgramsCanBeBuilt → FittingProgramsAreBuilt → ProgramsHaveFewWords → ProgramsHaveTheirLabels → OperationsOpenOnce → BuiltProgramsAreCompiled → BuiltEdgesAreNamed → CompiledProgramsRun → CompiledProgramsMean → CompiledWindowsGoBack
     → BuiltImagesAreOfPrograms
-built_images_are_of_programs can fitting bounded labelled open_once compiled names run mean p ok named few =
+built_images_are_of_programs can fitting bounded labelled open_once compiled names run mean back p ok named few =
     let built : IsBuiltWhole p (program_items p) = fitting p ok named few in
     let whole = compiled p ok named few in
     let edges = names p ok named few in
@@ -58,5 +58,6 @@ built_images_are_of_programs can fitting bounded labelled open_once compiled nam
         begins = begins;
         runs = λ inputs fit. run p ok (program_world p) whole edges inputs fit;
         means = λ o inputs fit begun. mean p ok (program_world p) whole edges inputs fit o (begins o.op o.begin_at begun);
+        goes_back = λ o inputs fit begun. back p ok (program_world p) whole edges inputs fit o (begins o.op o.begin_at begun);
       };
     }

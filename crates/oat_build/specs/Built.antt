@@ -1,5 +1,5 @@
 -- The image of a program: its code is that of the program's items. Where these fit, the image has the shape, is compiled, and names the program's edges as the source does.
-use Rattle.std.specs.Prelude.{◌≡◌, ◌≤◌, ◌↔◌, ℕ, ℤ, FitsSigned, true, List, length, map}
+use Rattle.std.specs.Prelude.{◌≡◌, ◌≤◌, ◌↔◌, ℕ, ℤ, FitsSigned, true, List, [], length, map}
 use Rattle.std.specs.Int.{w64}
 use Rattle.std.specs.List.{AllByRecursion}
 use Rattle.oat_asm.specs.Items.{words_needed, code_limit, AddressesHaveRegisters, BranchesAreInRange, InstructionsAreInRange, NoMarkIsLeft, UsedLabelsStandOnce}
@@ -10,7 +10,12 @@ use Rattle.oat_image.specs.declared.image.Image.{Image}
 use Rattle.oat_image.specs.Grammar.{IsWellFormedImage}
 use Rattle.oat_shape.specs.Shape.{IsShaped}
 use Rattle.oat_ir.specs.declared.program.Program.{Program}
+use Rattle.oat_ir.specs.Size.{most_words}
+use Rattle.oat_blob.specs.Body.{Body}
 use Rattle.oat_map.specs.Rows.{BeginsAt, IsOperation}
+use Rattle.oat_map.specs.Turns.{GoesBack, turn_of}
+use Rattle.oat_journal.specs.Measured.{HasBody, dev, window_of}
+use Rattle.oat_journal.specs.Window.{executed_path}
 use Rattle.oat_measure.specs.declared.opening.Opening.{Opening}
 use Rattle.oat_check.specs.Rules.{IsChecked, has_operation}
 use Rattle.oat_check.specs.Runs.{source_of}
@@ -21,7 +26,6 @@ use Rattle.oat_parts.specs.Built.{built_address, built_image, in_map, in_table}
 use Rattle.oat_symbols.specs.Programs.{symbols_of, HasValidNames}
 use Rattle.oat_frames.specs.Frames.{World}
 use Rattle.oat_gen.specs.Code.{program_items}
-use Rattle.oat_ir.specs.Size.{most_words}
 use Rattle.oat_match.specs.Compiled.{IsCompiled, world_of}
 use Rattle.oat_match.specs.Placed.{EdgesAreNamed}
 
@@ -54,6 +58,9 @@ pub record RunsAsProgram (p : Program) (image : Image) : Type 0 where
   pub begins : (op begin_at : ℕ) → BeginsAt image.map op begin_at → placement.begin op ≡ begin_at
   pub runs : (inputs : List ℤ) → AllByRecursion (FitsSigned w64) inputs → RunsAs (source_of p inputs) image placement inputs
   pub means : (o : Opening) (inputs : List ℤ) → AllByRecursion (FitsSigned w64) inputs → BeginsAt image.map o.op o.begin_at → Means (source_of p inputs) image placement o inputs
+  -- and each window that it seals goes back as it called
+  pub goes_back : (o : Opening) (inputs : List ℤ) → AllByRecursion (FitsSigned w64) inputs → BeginsAt image.map o.op o.begin_at → (n s : ℕ) (body : Body) → HasBody o (dev image o inputs [] n) s body
+      → GoesBack turn_of [] (executed_path image.map o.op (window_of o s (dev image o inputs [] n)))
 
 -- the map's functions are the program's, main first: with their names and numbers of parameters, and one is referenced just where a `ref` names it
 abbrev pub HasFunctionsOf : Program → Image → Type 0

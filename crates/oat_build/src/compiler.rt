@@ -3,11 +3,11 @@ ghost use Rattle.std.specs.Prelude.{◌≡◌, ℕ, ◌<◌, ◌≤◌, Err, IfE
 ghost use Rattle.oat_asm.specs.Items.{code_limit};
 ghost use Rattle.oat_asm.specs.Expansion.{expansion};
 ghost use Rattle.oat_check.specs.Rules.{IsChecked};
+ghost use Rattle.oat_ir.specs.Size.{most_words};
 ghost use Rattle.oat_image.specs.Grammar.{IsWellFormedImage};
 ghost use Rattle.oat_shape.specs.Shape.{IsShaped};
 ghost use Rattle.oat_symbols.specs.Programs.{HasValidNames};
 ghost use Rattle.oat_gen.specs.Code.{program_items};
-ghost use Rattle.oat_ir.specs.Size.{most_words};
 ghost use Rattle.oat_build.specs.declared.fault.BuildFault.TheVariants.{CodeTooLarge, Memory};
 ghost use Rattle.oat_build.specs.Built.{
   HasFunctionsOf,

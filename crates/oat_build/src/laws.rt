@@ -11,7 +11,9 @@ use oat_gen::laws::{
     functions_have_their_code, globals_have_their_places, marked_code_expands, other_code_stays,
     program_items_can_be_expanded, programs_have_few_words,
 };
-use oat_match::laws::{compiled_programs_mean, compiled_programs_run, programs_have_worlds};
+use oat_match::laws::{
+    compiled_programs_mean, compiled_programs_run, compiled_windows_go_back, programs_have_worlds,
+};
 use oat_shape::laws::operations_open_once;
 use oat_symbols::laws::{
     call_sites_are_found, codes_are_of_the_program, codes_stand, places_are_named_by_source,
@@ -71,4 +73,5 @@ pub fn built_images_are_of_programs()
     built_edges_are_named();
     compiled_programs_run();
     compiled_programs_mean();
+    compiled_windows_go_back();
 }

@@ -1,0 +1,2 @@
+pub mod Attestation
+pub mod Laws
