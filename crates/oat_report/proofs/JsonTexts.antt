@@ -12,7 +12,7 @@ use Rattle.oat_verify.specs.declared.verdict.Verdict.{Verdict}
 use Rattle.oat_verify.specs.declared.verdict.Verdict.TheVariants.{Accept, Refuse}
 use Rattle.oat_report.specs.declared.json_report.Report.{Report}
 use Rattle.oat_report.specs.VerdictLine.{cause_text}
-use Rattle.oat_report.specs.JsonLine.{json_string, json_bool, behind_commas, json_array, json_member, json_object, is_accepted, cause_member, serial_member, json_text, IsPlain, IsPlainReport}
+use Rattle.oat_report.specs.JsonLine.{json_string, json_bool, behind_commas, json_array, json_member, json_object, is_accepted, cause_member, serial_member, json_text, IsPlainText, IsPlainReport}
 use Rattle.oat_report.specs.JsonData.{number_data, with_cause, serial_members, report_members}
 use Rattle.oat_report.proofs.PlainTexts.{is_plain, plain_text, cause_is_plain, quoted_plain}
 
@@ -31,7 +31,7 @@ pub values_all : {X : Type 0} (f : X → Data) (xs : List X) (values : List Valu
 values_all f xs values k behind before = ap (λ (items : List Data). array (items_of items)) (before ∙ ap (map f) (take_all k xs behind))
 
 -- each of plain texts is plain
-pub plain_at : (texts : List (List ℕ)) (k : ℕ) (or : List ℕ) → AllByRecursion IsPlain texts → k < length texts → IsPlain (get_or texts k or)
+pub plain_at : (texts : List (List ℕ)) (k : ℕ) (or : List ℕ) → AllByRecursion IsPlainText texts → k < length texts → IsPlainText (get_or texts k or)
 plain_at [] k or plain within = absurd (omega (arith, within))
 plain_at (text ∷ texts) zero or plain within = plain.0
 plain_at (text ∷ texts) (suc k) or plain within = plain_at texts k or plain.1 (omega (arith, within))
@@ -50,7 +50,7 @@ number_said : (z : ℤ) → IsSaid (number_data z) (signed_decimal z)
 number_said (pos n) = record { is = refl }
 number_said (negsuc n) = record { is = refl }
 
-string_said : (text : List ℕ) → IsPlain text → IsSaid (string text) (json_string text)
+string_said : (text : List ℕ) → IsPlainText text → IsSaid (string text) (json_string text)
 string_said text plain = record { is = quoted_plain text plain }
 
 bool_said : (value : Bool) → IsSaid (boolean value) (json_bool value)
@@ -75,13 +75,13 @@ numbers_said : (zs : List ℤ) → AllByRecursion (λ z. IsSaid (number_data z) 
 numbers_said [] = tt
 numbers_said (z ∷ zs) = (number_said z, numbers_said zs)
 
-strings_said : (texts : List (List ℕ)) → AllByRecursion IsPlain texts → AllByRecursion (λ text. IsSaid (string text) (json_string text)) texts
+strings_said : (texts : List (List ℕ)) → AllByRecursion IsPlainText texts → AllByRecursion (λ text. IsSaid (string text) (json_string text)) texts
 strings_said [] plain = tt
 strings_said (text ∷ texts) plain = (string_said text plain.0, strings_said texts plain.1)
 
 -- ---- members
 
-member_said : (key : List ℕ) (d : Data) (said : List ℕ) (ms : Members) (rest : List (List ℕ)) → IsPlain key → IsSaid d said → AreSaid ms rest
+member_said : (key : List ℕ) (d : Data) (said : List ℕ) (ms : Members) (rest : List (List ℕ)) → IsPlainText key → IsSaid d said → AreSaid ms rest
     → quoted key ++ 58 ∷ (compact_text d ++ members_text true ms) ≡ (json_member key said ++ behind_commas rest) ++ 125 ∷ []
 member_said key d said ms rest plain value behind =
     ap (λ (q : List ℕ). q ++ 58 ∷ (compact_text d ++ members_text true ms)) (quoted_plain key plain)
@@ -90,7 +90,7 @@ member_said key d said ms rest plain value behind =
     ∙ simp append_assoc
 
 -- one member more in front
-more_said : (key : List ℕ) {d : Data} {said : List ℕ} {ms : Members} {rest : List (List ℕ)} → IsPlain key → IsSaid d said → AreSaid ms rest
+more_said : (key : List ℕ) {d : Data} {said : List ℕ} {ms : Members} {rest : List (List ℕ)} → IsPlainText key → IsSaid d said → AreSaid ms rest
     → AreSaid (member key d ms) (json_member key said ∷ rest)
 more_said key {d} {said} {ms} {rest} plain value behind = record { are = ap (λ (t : List ℕ). 44 ∷ t) (member_said key d said ms rest plain value behind) }
 
@@ -105,7 +105,7 @@ unfolding is_plain
 serial_said None = record { are = refl }
 serial_said (Some serial) = more_said (codes "serial") (plain_text (codes "serial") refl) (record { is = refl }) (record { are = refl })
 
-first_said : (key : List ℕ) {d : Data} {said : List ℕ} {ms : Members} {rest : List (List ℕ)} → IsPlain key → IsSaid d said → AreSaid ms rest
+first_said : (key : List ℕ) {d : Data} {said : List ℕ} {ms : Members} {rest : List (List ℕ)} → IsPlainText key → IsSaid d said → AreSaid ms rest
     → compact_text (object (member key d ms)) ≡ json_object (json_member key said ∷ rest)
 first_said key {d} {said} {ms} {rest} plain value behind = ap (λ (t : List ℕ). 123 ∷ t) (member_said key d said ms rest plain value behind)
 

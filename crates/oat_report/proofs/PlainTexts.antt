@@ -15,7 +15,7 @@ use Rattle.oat_verify.specs.declared.verdict.Cause.{Cause}
 use Rattle.oat_verify.specs.declared.verdict.Cause.TheVariants as causes
 use Rattle.oat_report.specs.PathLine.{space, address_digits}
 use Rattle.oat_report.specs.VerdictLine.{value_text, replay_text, cause_text}
-use Rattle.oat_report.specs.JsonLine.{IsPlainByte, IsPlain, json_string}
+use Rattle.oat_report.specs.JsonLine.{IsPlainByte, IsPlainText, json_string}
 
 unfoldable pub is_plain : ℕ → Bool
 is_plain byte = nat_le 32 byte && nat_le byte 126 && not (byte == 34) && not (byte == 92)
@@ -30,15 +30,15 @@ plain_byte byte test = record {
 }
 
 -- a text that was written out
-pub plain_text : (text : List ℕ) → list_all is_plain text ≡ true → IsPlain text
+pub plain_text : (text : List ℕ) → list_all is_plain text ≡ true → IsPlainText text
 plain_text [] test = tt
 plain_text (byte ∷ text) test = let both = and_parts (is_plain byte) (list_all is_plain text) test in (plain_byte byte both.0, plain_text text both.1)
 
-plain_append : (first second : List ℕ) → IsPlain first → IsPlain second → IsPlain (first ++ second)
+plain_append : (first second : List ℕ) → IsPlainText first → IsPlainText second → IsPlainText (first ++ second)
 plain_append [] second first_plain second_plain = second_plain
 plain_append (byte ∷ first) second first_plain second_plain = (first_plain.0, plain_append first second first_plain.1 second_plain)
 
-plain_drop : (n : ℕ) (text : List ℕ) → IsPlain text → IsPlain (drop n text)
+plain_drop : (n : ℕ) (text : List ℕ) → IsPlainText text → IsPlainText (drop n text)
 plain_drop zero text plain = plain
 plain_drop (suc n) [] plain = tt
 plain_drop (suc n) (byte ∷ text) plain = plain_drop n text plain.1
@@ -51,21 +51,21 @@ between byte low high = record { low = omega arith; high = omega arith; unquoted
 glyph : (n : ℕ) → IsPlainByte (digit_glyph false (n % 10))
 glyph n = between (digit_glyph false (n % 10)) (grind (arith, nat_tests)) (grind (arith, nat_tests))
 
-plain_either : (last : Bool) (short long : List ℕ) → IsPlain short → IsPlain long → IsPlain (cond last short long)
+plain_either : (last : Bool) (short long : List ℕ) → IsPlainText short → IsPlainText long → IsPlainText (cond last short long)
 plain_either true short long short_plain long_plain = short_plain
 plain_either false short long short_plain long_plain = long_plain
 
-plain_onto : (k n : ℕ) (behind : List ℕ) → IsPlain behind → IsPlain (digits_onto k 10 false n behind)
+plain_onto : (k n : ℕ) (behind : List ℕ) → IsPlainText behind → IsPlainText (digits_onto k 10 false n behind)
 plain_onto zero n behind plain = plain
 plain_onto (suc k) n behind plain =
     let longer : List ℕ = digit_glyph false (n % 10) ∷ behind in
     plain_either (n / 10 == 0) longer (digits_onto k 10 false (n / 10) longer) (glyph n, plain) (plain_onto k (n / 10) longer (glyph n, plain))
 
-plain_decimal : (n : ℕ) → IsPlain (decimal n)
+plain_decimal : (n : ℕ) → IsPlainText (decimal n)
 unfolding digits
 plain_decimal n = plain_onto 64 n [] tt
 
-plain_signed : (z : ℤ) → IsPlain (signed_decimal z)
+plain_signed : (z : ℤ) → IsPlainText (signed_decimal z)
 unfolding is_plain
 plain_signed (pos n) = plain_decimal n
 plain_signed (negsuc n) = (plain_byte 45 refl, plain_decimal (suc n))
@@ -73,21 +73,21 @@ plain_signed (negsuc n) = (plain_byte 45 refl, plain_decimal (suc n))
 hexadecimal_glyph : (d : ℕ) → d < 16 → IsPlainByte (hexadecimal_digit d)
 hexadecimal_glyph d low = between (hexadecimal_digit d) (grind (arith, nat_tests)) (grind (arith, nat_tests))
 
-plain_hexadecimal : (k n : ℕ) → IsPlain (hexadecimal k n)
+plain_hexadecimal : (k n : ℕ) → IsPlainText (hexadecimal k n)
 unfolding hexadecimal
 plain_hexadecimal zero n = tt
 plain_hexadecimal (suc k) n =
     plain_append (hexadecimal k (n / 16)) (hexadecimal_digit (n % 16) ∷ []) (plain_hexadecimal k (n / 16)) (hexadecimal_glyph (n % 16) (omega arith), tt)
 
-plain_address : (n : ℕ) → IsPlain (address_digits n)
+plain_address : (n : ℕ) → IsPlainText (address_digits n)
 plain_address n = plain_drop _ (hexadecimal 16 n) (plain_hexadecimal 16 n)
 
 -- ---- causes
 
-counted : (keyword : List ℕ) (n : ℕ) → list_all is_plain keyword ≡ true → IsPlain (keyword ++ decimal n)
+counted : (keyword : List ℕ) (n : ℕ) → list_all is_plain keyword ≡ true → IsPlainText (keyword ++ decimal n)
 counted keyword n test = plain_append keyword (decimal n) (plain_text keyword test) (plain_decimal n)
 
-plain_replay : (cause : ReplayCause) → IsPlain (replay_text cause)
+plain_replay : (cause : ReplayCause) → IsPlainText (replay_text cause)
 unfolding is_plain
 plain_replay BitsEnd = plain_text (codes "BitsEnd") refl
 plain_replay TargetsEnd = plain_text (codes "TargetsEnd") refl
@@ -102,11 +102,11 @@ plain_replay (TargetsLeft count) = counted (codes "TargetsLeft ") count refl
 plain_replay PathLimit = plain_text (codes "PathLimit") refl
 
 -- text behind a space
-spaced : (first second : List ℕ) → IsPlain first → IsPlain second → IsPlain ((first ++ space) ++ second)
+spaced : (first second : List ℕ) → IsPlainText first → IsPlainText second → IsPlainText ((first ++ space) ++ second)
 unfolding is_plain
 spaced first second first_plain second_plain = plain_append (first ++ space) second (plain_append first space first_plain (plain_text space refl)) second_plain
 
-pub cause_is_plain : (cause : Cause) → IsPlain (cause_text cause)
+pub cause_is_plain : (cause : Cause) → IsPlainText (cause_text cause)
 unfolding is_plain
 cause_is_plain (causes.Form offset) = counted (codes "form ") offset refl
 cause_is_plain causes.Mac = plain_text (codes "mac") refl
@@ -124,22 +124,22 @@ cause_is_plain (causes.Critical violation) =
 
 -- ---- what a plain text is to others
 
-plain_ascii : (text : List ℕ) → IsPlain text → IsAscii text
+plain_ascii : (text : List ℕ) → IsPlainText text → IsAscii text
 plain_ascii [] plain i = omega arith
 plain_ascii (byte ∷ text) plain zero = omega (arith, plain.0.high)
 plain_ascii (byte ∷ text) plain (suc i) = plain_ascii text plain.1 i
 
-pub plain_utf8 : (text : List ℕ) → IsPlain text → IsUtf8 text
+pub plain_utf8 : (text : List ℕ) → IsPlainText text → IsUtf8 text
 plain_utf8 text plain = IsUtf8-from_ascii text (plain_ascii text plain)
 
 unescaped_byte : (byte : ℕ) → IsPlainByte byte → escape_byte byte ≡ byte ∷ []
 unfolding escape_byte
 unescaped_byte byte plain = let a = plain.low in let b = plain.unquoted in let c = plain.unescaped in grind (arith, nat_tests)
 
-unescaped : (text : List ℕ) → IsPlain text → escape text ≡ text
+unescaped : (text : List ℕ) → IsPlainText text → escape text ≡ text
 unescaped [] plain = refl
 unescaped (byte ∷ text) plain = rw (unescaped_byte byte plain.0, unescaped text plain.1) refl
 
 -- a plain text is quoted as it is
-pub quoted_plain : (text : List ℕ) → IsPlain text → quoted text ≡ json_string text
+pub quoted_plain : (text : List ℕ) → IsPlainText text → quoted text ≡ json_string text
 quoted_plain text plain = ap (λ (inner : List ℕ). 34 ∷ (inner ++ 34 ∷ [])) (unescaped text plain)

@@ -69,10 +69,10 @@ pub record IsPlainByte (byte : ℕ) : Type 0 where
   pub unquoted : byte ≢ 34
   pub unescaped : byte ≢ 92
 
-abbrev pub IsPlain : List ℕ → Type 0
-IsPlain = AllByRecursion IsPlainByte
+abbrev pub IsPlainText : List ℕ → Type 0
+IsPlainText = AllByRecursion IsPlainByte
 
 -- A report's texts are plain.
 pub record IsPlainReport (report : Report) : Type 0 where
-  pub end : IsPlain report.end
-  pub path : AllByRecursion IsPlain report.path
+  pub end : IsPlainText report.end
+  pub path : AllByRecursion IsPlainText report.path

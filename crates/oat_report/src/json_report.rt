@@ -5,7 +5,7 @@ ghost use Rattle.std.specs.List.{AllByRecursion};
 ghost use Rattle.serde_json.specs.Data.{string, array};
 ghost use Rattle.serde_json.specs.View.{view, items_of, members_view};
 ghost use Rattle.oat_report.specs.VerdictLine.{cause_text};
-ghost use Rattle.oat_report.specs.JsonLine.{IsPlain, IsPlainReport, is_accepted, json_text};
+ghost use Rattle.oat_report.specs.JsonLine.{IsPlainText, IsPlainReport, is_accepted, json_text};
 ghost use Rattle.oat_report.specs.JsonData.{number_data, report_members};
 
 use crate::verdict::put_cause;
@@ -29,7 +29,7 @@ pub struct Report {
 }
 
 fn plain_value(alloc: Global, text: &[u8]) -> Result<Value, AllocError>
-    requires { IsPlain text.now }
+    requires { IsPlainText text.now }
     ensures { IfOk result (λ value. view value ≡ string text.now) }
 {
     Value::try_from_str(alloc, str::from_utf8(text).unwrap())
@@ -60,7 +60,7 @@ fn outputs_value(alloc: Global, outputs: &[i64]) -> Result<Value, AllocError>
 }
 
 fn path_value(alloc: Global, path: &[Listed<u8>]) -> Result<Value, AllocError>
-    requires { AllByRecursion IsPlain path.now }
+    requires { AllByRecursion IsPlainText path.now }
     ensures { IfOk result (λ value. view value ≡ array (items_of (map string path.now))) }
 {
     let mut values = Vec::new(alloc);

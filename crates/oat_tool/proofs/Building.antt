@@ -1,9 +1,8 @@
 -- The room of `build`: where its work stops and goes on, that it has one answer but for the image, and what its status says.
-use Rattle.std.proofs.Common.{◌≡◌, ◌∙◌, ◌⊎◌, ℕ, List, [], ◌∷◌, inl, inr, ap, sym, subst}
+use Rattle.std.proofs.Common.{◌∙◌, ℕ, List, [], ◌∷◌, inl, inr, ap, sym, subst}
 use Rattle.oat_world.specs.Outside.{Contents}
-use Rattle.oat_image.specs.declared.image.Image.{Image}
 use Rattle.oat_ir.specs.declared.program.Program.{Program}
-use Rattle.oat_first.specs.First.{First, fails, passes}
+use Rattle.oat_first.specs.First.{fails, passes}
 use Rattle.oat_first.proofs.FirstLaws.{First-through}
 use Rattle.oat_tool.specs.declared.page.Page.{Page}
 use Rattle.std.proofs.Common.{Result}

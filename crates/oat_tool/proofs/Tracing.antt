@@ -87,18 +87,18 @@ statuses : (few refused : Bool) (status : ℕ) → status ≡ status_of (if few 
     → (status ≡ 7 ↔ (few ≡ true)) × ((status ≡ 1 ↔ ((few ≡ false) × (refused ≡ true))) × (status ≡ 0 ↔ ((few ≡ false) × (refused ≡ false))))
 statuses true refused status is = (
     (λ seven. refl, λ few. is),
-    (λ one. absurd (omega (arith, is, one)), λ both. absurd (let q = both.0 in cc)),
-    (λ none. absurd (omega (arith, is, none)), λ both. absurd (let q = both.0 in cc)),
+    ((λ one. absurd (omega (arith, is, one)), λ both. absurd (let q = both.0 in cc)),
+    (λ none. absurd (omega (arith, is, none)), λ both. absurd (let q = both.0 in cc))),
   )
 statuses false true status is = (
     (λ seven. absurd (omega (arith, is, seven)), λ few. absurd (let q = few in cc)),
-    (λ one. (refl, refl), λ both. is),
-    (λ none. absurd (omega (arith, is, none)), λ both. absurd (let q = both.1 in cc)),
+    ((λ one. (refl, refl), λ both. is),
+    (λ none. absurd (omega (arith, is, none)), λ both. absurd (let q = both.1 in cc))),
   )
 statuses false false status is = (
     (λ seven. absurd (omega (arith, is, seven)), λ few. absurd (let q = few in cc)),
-    (λ one. absurd (omega (arith, is, one)), λ both. absurd (let q = both.1 in cc)),
-    (λ none. (refl, refl), λ both. is),
+    ((λ one. absurd (omega (arith, is, one)), λ both. absurd (let q = both.1 in cc)),
+    (λ none. (refl, refl), λ both. is)),
   )
 
 trace_shown : (words : List (List ℕ)) (contents : Contents) (files : List File) (a : Answer) → AreLoaded contents (files_of words commands.Trace) files

@@ -7,7 +7,7 @@ use Rattle.oat_tool.specs.declared.command.Command.TheVariants.{Run, Build, Veri
 use Rattle.oat_tool.specs.Loads.{Wanted, wanted_of}
 
 abbrev pub commands : List Command
-commands = Run ∷ Build ∷ Verify ∷ Device ∷ Trace ∷ Policy ∷ []
+commands = Run ∷ Verify ∷ Device ∷ Policy ∷ Build ∷ Trace ∷ []
 
 abbrev pub fixed_of : Command → List (List ℕ)
 fixed_of Run = codes "run" ∷ []

@@ -61,9 +61,9 @@ impl Command {
 /// The commands of the program.
 pub const COMMANDS: [Command; 6] = [
     Command::Run,
-    Command::Build,
     Command::Verify,
     Command::Device,
-    Command::Trace,
     Command::Policy,
+    Command::Build,
+    Command::Trace,
 ];

@@ -10,7 +10,7 @@ ghost use Rattle.oat_report.specs.TraceLine.{apart_text};
 ghost use Rattle.oat_report.specs.VerdictLine.{verdict_text};
 ghost use Rattle.oat_tool.specs.Outcome.{line};
 ghost use Rattle.oat_tool.specs.Report.{path_text};
-ghost use Rattle.oat_tool.specs.Trace.{TracesCase, Traces, ended_with, is_refusal, number_in, part_text, parting_text, parts_from, use_line, want_text};
+ghost use Rattle.oat_tool.specs.Trace.{TracesCase, Traces, ended_with, is_refusal, number_in, part_text, parting_text, parts_from, refuses_one, use_line, want_text};
 ghost use Rattle.oat_tool.specs.Works.{Works, answer_in};
 
 use crate::admit::admit;
@@ -148,6 +148,12 @@ fn is_refusal(verdict: &Verdict) -> bool
     matches!(verdict, Verdict::Refuse(_))
 }
 
+fn refuses_one(windows: &[WatchedWindow]) -> bool
+    ensures { result ≡ refuses_one windows.now }
+{
+    windows.iter().any(|shown| is_refusal(&shown.verdict))
+}
+
 /// How the work ends by the windows that sealed, of so many that the case calls for.
 fn ended_with(calls: Option<u32>, windows: &[WatchedWindow]) -> Ended
     ensures { result ≡ ended_with calls windows.now }
@@ -155,7 +161,7 @@ fn ended_with(calls: Option<u32>, windows: &[WatchedWindow]) -> Ended
     if windows.len() < calls.unwrap_or(1) as usize {
         return Ended::Unsealed;
     }
-    if windows.iter().any(|shown| is_refusal(&shown.verdict)) {
+    if refuses_one(windows) {
         Ended::Rejected
     } else {
         Ended::Done

@@ -1,6 +1,6 @@
 use Rattle.std.proofs.Common.{◌≡◌, ◌∙◌, ◌+◌, List, map, take, ap, sym, subst}
 use Rattle.serde_json.specs.Data.{string}
-use Rattle.oat_report.specs.JsonLine.{IsPlain}
+use Rattle.oat_report.specs.JsonLine.{IsPlainText}
 use Rattle.serde_json.specs.View.{view}
 use Rattle.serde_json.specs.declared.value.Value.{Value}
 use Rattle.oat_report.proofs.JsonTexts.{plain_at, value_more, values_all}
@@ -8,7 +8,7 @@ use Rattle.oat_report.proofs.json_report.path_value.Goals as goal
 
 pub plain_value-requires : goal.plain_value-requires
 plain_value-requires c =
-    subst IsPlain (sym (c.as_slice.ensures ∙ c.line-item.is)) (plain_at c.args.path.now c.loop-line.line-index c.line-item.result c.requires c.loop-line-test.true)
+    subst IsPlainText (sym (c.as_slice.ensures ∙ c.line-item.is)) (plain_at c.args.path.now c.loop-line.line-index c.line-item.result c.requires c.loop-line-test.true)
 
 pub loop-line-init : goal.loop-line-init
 loop-line-init c = ap (map view) c.new-values.ensures.items
