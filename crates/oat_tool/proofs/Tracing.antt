@@ -24,7 +24,7 @@ use Rattle.oat_tool.specs.Answer.{Answer, as_outcome, status_of}
 use Rattle.oat_tool.specs.Loads.{File, AreLoaded}
 use Rattle.oat_tool.specs.Commands.{files_of}
 use Rattle.oat_tool.specs.Admits.{Rejects, AreAdmitted}
-use Rattle.oat_tool.specs.Trace.{Traces, TracesCase, are_few, ended_with, number_in, part_text, parts_from, refuses_one}
+use Rattle.oat_tool.specs.Trace.{Traces, TracesCase, are_few, ended_with, window_number, part_text, parts_from, refuses_one}
 use Rattle.oat_tool.specs.TraceLaws.{IsTracedRun, TraceIsShown}
 use Rattle.oat_tool.specs.Works.{StopsWith}
 use Rattle.oat_tool.proofs.Working.{StopsWith-more, IsDone}
@@ -44,22 +44,23 @@ traces_admitted image case i c a admitted traces = Admits-admitted image case Tr
 -- ---- one more part
 
 pub parts_more : (flow : Map) (calls : Option ℕ) (s : ℕ) (windows : List WatchedWindow) (shown : WatchedWindow)
-    → parts_from flow calls s (windows ++ shown ∷ []) ≡ parts_from flow calls s windows ++ part_text flow (number_in calls (s + length windows)) shown
+    → parts_from flow calls s (windows ++ shown ∷ []) ≡ parts_from flow calls s windows ++ part_text flow (window_number calls (s + length windows)) shown
 parts_more flow calls s [] shown =
     let same : s ≡ s + 0 = omega arith in
-    append-nil (part_text flow (number_in calls s) shown) ∙ ap (λ (n : ℕ). part_text flow (number_in calls n) shown) same
+    append-nil (part_text flow (window_number calls s) shown) ∙ ap (λ (n : ℕ). part_text flow (window_number calls n) shown) same
 parts_more flow calls s (w ∷ ws) shown =
     let same : s + 1 + length ws ≡ s + length (w ∷ ws) = omega arith in
-    ap (λ (rest : List ℕ). part_text flow (number_in calls s) w ++ rest)
-    (parts_more flow calls (s + 1) ws shown ∙ ap (λ (n : ℕ). parts_from flow calls (s + 1) ws ++ part_text flow (number_in calls n) shown) same)
-    ∙ sym (append_assoc (part_text flow (number_in calls s) w) (parts_from flow calls (s + 1) ws) (part_text flow (number_in calls (s + length (w ∷ ws))) shown))
+    ap (λ (rest : List ℕ). part_text flow (window_number calls s) w ++ rest)
+    (parts_more flow calls (s + 1) ws shown ∙ ap (λ (n : ℕ). parts_from flow calls (s + 1) ws ++ part_text flow (window_number calls n) shown) same)
+    ∙ sym (append_assoc (part_text flow (window_number calls s) w) (parts_from flow calls (s + 1) ws) (part_text flow (window_number calls (s + length (w ∷ ws))) shown))
 
 pub part_taken : (flow : Map) (calls : Option ℕ) (windows : List WatchedWindow) (s : ℕ) (shown : WatchedWindow) → s < length windows → shown ≡ get_or windows s shown
-    → parts_from flow calls 0 (take (s + 1) windows) ≡ parts_from flow calls 0 (take s windows) ++ part_text flow (number_in calls s) shown
+    → parts_from flow calls 0 (take (s + 1) windows) ≡ parts_from flow calls 0 (take s windows) ++ part_text flow (window_number calls s) shown
 part_taken flow calls windows s shown below at =
-    let taken : length (take s windows) ≡ s = length-take-le s windows (omega (arith, below)) in
+    let long : length (take s windows) ≡ s = length-take-le s windows (omega (arith, below)) in
+    let taken : 0 + length (take s windows) ≡ s = omega (arith, long) in
     ap (λ (ws : List WatchedWindow). parts_from flow calls 0 ws) (take_more windows s shown below ∙ ap (λ (w : WatchedWindow). take s windows ++ w ∷ []) (sym at))
-    ∙ (parts_more flow calls 0 (take s windows) shown ∙ ap (λ (n : ℕ). parts_from flow calls 0 (take s windows) ++ part_text flow (number_in calls n) shown) taken)
+    ∙ (parts_more flow calls 0 (take s windows) shown ∙ ap (λ (n : ℕ). parts_from flow calls 0 (take s windows) ++ part_text flow (window_number calls n) shown) taken)
 
 -- ---- a case calls for few windows
 
@@ -74,32 +75,38 @@ few_windows image case begin_at n fit count =
     let counted = windows_are_counted image o case.inputs case.writes case.steps (first_window case.session.calls fit) in
     let most = most_calls case.session.calls fit in
     by (ltb n 4294967296) refl counted most where
-  by : (b : Bool) → ltb n 4294967296 ≡ b → CountsItsWindows (opening_of image case.session begin_at) (run_of image case begin_at) → unwrap_or case.session.calls 1 ≤ 1024 → n < 4294967296
-  by true is counted most = ltb-true n 4294967296 is
-  by false is counted most =
-      let long = ltb-false n 4294967296 is in
-      let open_still : ¬ IsSealed (run_of image case begin_at) = λ shut. let all = counted.all shut in omega (arith, count, all, most, long) in
-      let fewer = counted.fewer open_still in absurd (omega (arith, count, fewer, most, long))
+      by : (b : Bool) → ltb n 4294967296 ≡ b → CountsItsWindows (opening_of image case.session begin_at) (run_of image case begin_at) → unwrap_or case.session.calls 1 ≤ 1024 → n < 4294967296
+      by true is counted most = ltb-true n 4294967296 is
+      by false is counted most =
+          let long = ltb-false n 4294967296 is in
+          let open_still : ¬ IsSealed (run_of image case begin_at) = λ shut. let all = counted.all shut in omega (arith, count, all, most, long) in
+          let fewer = counted.fewer open_still in absurd (omega (arith, count, fewer, most, long))
 
 -- ---- what the statuses say
 
 statuses : (few refused : Bool) (status : ℕ) → status ≡ status_of (if few then Unsealed else (if refused then Rejected else Done))
     → (status ≡ 7 ↔ (few ≡ true)) × ((status ≡ 1 ↔ ((few ≡ false) × (refused ≡ true))) × (status ≡ 0 ↔ ((few ≡ false) × (refused ≡ false))))
 statuses true refused status is = (
-    (λ seven. refl, λ few. is),
-    ((λ one. absurd (omega (arith, is, one)), λ both. absurd (let q = both.0 in cc)),
-    (λ none. absurd (omega (arith, is, none)), λ both. absurd (let q = both.0 in cc))),
-  )
+  (λ seven. refl, λ few. is),
+  (
+    (λ one. absurd (omega (arith, is, one)), λ both. absurd (let q = both.0 in cc)),
+    (λ none. absurd (omega (arith, is, none)), λ both. absurd (let q = both.0 in cc)),
+  ),
+)
 statuses false true status is = (
-    (λ seven. absurd (omega (arith, is, seven)), λ few. absurd (let q = few in cc)),
-    ((λ one. (refl, refl), λ both. is),
-    (λ none. absurd (omega (arith, is, none)), λ both. absurd (let q = both.1 in cc))),
-  )
+  (λ seven. absurd (omega (arith, is, seven)), λ few. absurd (let q = few in cc)),
+  (
+    (λ one. (refl, refl), λ both. is),
+    (λ none. absurd (omega (arith, is, none)), λ both. absurd (let q = both.1 in cc)),
+  ),
+)
 statuses false false status is = (
-    (λ seven. absurd (omega (arith, is, seven)), λ few. absurd (let q = few in cc)),
-    ((λ one. absurd (omega (arith, is, one)), λ both. absurd (let q = both.1 in cc)),
-    (λ none. (refl, refl), λ both. is)),
-  )
+  (λ seven. absurd (omega (arith, is, seven)), λ few. absurd (let q = few in cc)),
+  (
+    (λ one. absurd (omega (arith, is, one)), λ both. absurd (let q = both.1 in cc)),
+    (λ none. (refl, refl), λ both. is),
+  ),
+)
 
 trace_shown : (words : List (List ℕ)) (contents : Contents) (files : List File) (a : Answer) → AreLoaded contents (files_of words commands.Trace) files
     → Traces files a → IsDone (as_outcome a).status → IsTracedRun words contents (as_outcome a)

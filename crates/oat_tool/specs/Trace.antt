@@ -44,13 +44,13 @@ part_text flow number shown =
     line (verdict_text number shown.verdict) ++ path_text flow shown.path ++ flat_map use_line shown.uses.items ++ parting_text shown.verdict shown.apart
 
 -- the number of window s, where the case numbers its windows
-abbrev pub number_in : Option ℕ → ℕ → Option ℕ
-number_in calls s = option_map (λ count. s) calls
+abbrev pub window_number : Option ℕ → ℕ → Option ℕ
+window_number calls s = option_map (λ count. s) calls
 
 -- the parts of windows, of which the first is window s
 abbrev pub parts_from : Map → Option ℕ → ℕ → List WatchedWindow → List ℕ
 parts_from flow calls s [] = []
-parts_from flow calls s (shown ∷ others) = part_text flow (number_in calls s) shown ++ parts_from flow calls (s + 1) others
+parts_from flow calls s (shown ∷ others) = part_text flow (window_number calls s) shown ++ parts_from flow calls (s + 1) others
 
 -- ---- how it ends
 

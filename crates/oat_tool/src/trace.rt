@@ -10,7 +10,7 @@ ghost use Rattle.oat_report.specs.TraceLine.{apart_text};
 ghost use Rattle.oat_report.specs.VerdictLine.{verdict_text};
 ghost use Rattle.oat_tool.specs.Outcome.{line};
 ghost use Rattle.oat_tool.specs.Report.{path_text};
-ghost use Rattle.oat_tool.specs.Trace.{TracesCase, Traces, ended_with, is_refusal, number_in, part_text, parting_text, parts_from, refuses_one, use_line, want_text};
+ghost use Rattle.oat_tool.specs.Trace.{TracesCase, Traces, ended_with, is_refusal, window_number, part_text, parting_text, parts_from, refuses_one, use_line, want_text};
 ghost use Rattle.oat_tool.specs.Works.{Works, answer_in};
 
 use crate::admit::admit;
@@ -93,11 +93,7 @@ fn put_parting(
     }
 }
 
-fn put_verdict(
-    text: &mut Vec<u8>,
-    number: Option<u32>,
-    verdict: &Verdict,
-) -> Result<(), AllocError>
+fn put_verdict(text: &mut Vec<u8>, number: Option<u32>, verdict: &Verdict) -> Result<(), AllocError>
     ensures { OnOk result (text.new.items ≡ text.old.items ++ line (verdict_text number verdict.now)) }
 {
     let words = verdict_line(*text.allocator(), number, verdict)?;
@@ -119,8 +115,8 @@ fn put_part(
     put_parting(text, &shown.verdict, &shown.apart)
 }
 
-fn number_in(calls: Option<u32>, serial: u32) -> Option<u32>
-    ensures { result ≡ number_in calls serial }
+fn window_number(calls: Option<u32>, serial: u32) -> Option<u32>
+    ensures { result ≡ window_number calls serial }
 {
     calls.map(|_| serial)
 }
@@ -137,7 +133,12 @@ fn parts_of(
 {
     let mut text = Vec::new(alloc);
     for serial in 0..windows.len() as u32 {
-        put_part(&mut text, map, number_in(calls, serial), &windows[serial as usize])?;
+        put_part(
+            &mut text,
+            map,
+            window_number(calls, serial),
+            &windows[serial as usize],
+        )?;
     }
     Ok(text)
 }
