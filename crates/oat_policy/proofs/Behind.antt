@@ -1,12 +1,14 @@
 -- The bytes with which a text begins, one piece behind the other.
 use Rattle.std.proofs.Common.{◌≡◌, ℕ, ◌<◌, true, false, eqb, List, [], ◌∷◌, ◌++◌, length, take, drop, Option, Some, None, refl, sym, ap, ◌∙◌, inl, inr, arith}
-use Rattle.std.specs.Option.{option_and_then}
+use Rattle.std.specs.Option.{option_and_then, option_copied}
 use Rattle.std.specs.Str.{bytes_eq}
 use Rattle.std.proofs.lemmas.Bool.{cases_Bool, eqb-true, eq-eqb, ne_eqb, false≢true}
 use Rattle.std.proofs.lemmas.List.{take_at, take-append-drop, append-nil}
 use Rattle.std.proofs.lemmas.Slice.Eq.{bytes_eq-Decides}
 use Rattle.oat_lines.proofs.Steps.{some_is}
-use Rattle.oat_policy.specs.Behind.{rest_behind, is_whole}
+use Rattle.oat_policy.specs.declared.words.PathWord.{PathWord}
+use Rattle.oat_policy.specs.Behind.{rest_behind, rest_behind_sign, rest_behind_word, is_whole}
+use Rattle.oat_policy.specs.Pieces.{with_piece, place_word, path_word}
 
 pub both : (front more text : List ℕ) → rest_behind (front ++ more) text ≡ option_and_then (rest_behind more) (rest_behind front text)
 unfolding rest_behind
@@ -18,9 +20,28 @@ both (b ∷ front) more (c ∷ text) =
       | inr other ↦ rw other refl
     ]
 
-pub three : (first second third text : List ℕ)
+three : (first second third text : List ℕ)
     → option_and_then (rest_behind third) (option_and_then (rest_behind second) (rest_behind first text)) ≡ rest_behind ((first ++ second) ++ third) text
 three first second third text = sym (both (first ++ second) third text ∙ ap (option_and_then (rest_behind third)) (both first second text))
+
+unchanged : (found : Option (List ℕ)) → option_and_then (λ text. Some text) found ≡ found
+unchanged None = refl
+unchanged (Some text) = refl
+
+regrouped : (sign piece : List ℕ) (found : Option (List ℕ))
+    → option_and_then (λ text. option_and_then (rest_behind piece) (rest_behind sign text)) found ≡ option_and_then (rest_behind piece) (option_and_then (rest_behind sign) found)
+regrouped sign piece None = refl
+regrouped sign piece (Some text) = refl
+
+further : (front sign : List ℕ) (piece : Option (List ℕ)) (text : List ℕ)
+    → option_and_then (rest_behind_sign sign piece) (rest_behind front text) ≡ rest_behind (with_piece front sign piece) text
+further front sign None text = unchanged (rest_behind front text)
+further front sign (Some piece) text = regrouped sign piece (rest_behind front text) ∙ three front sign piece text
+
+by_pieces : (word : PathWord) (text : List ℕ) → rest_behind_word word text ≡ rest_behind (path_word word) text
+by_pieces word text =
+    ap (option_and_then (rest_behind_sign (35 ∷ []) (option_copied word.number))) (further word.place.name.now (46 ∷ []) (option_copied word.place.label) text)
+    ∙ further (place_word word.place) (35 ∷ []) (option_copied word.number) text
 
 again : (front rest : List ℕ) → rest_behind front (front ++ rest) ≡ Some rest
 unfolding rest_behind
@@ -85,5 +106,8 @@ nothing_left front text (Some (c ∷ rest)) e =
     endless (b ∷ front) c rest e = let tail : front ≡ front ++ c ∷ rest = cc in endless front c rest tail
 
 -- a text is the front where nothing is left behind it
-pub whole : (front text : List ℕ) → is_whole (rest_behind front text) ≡ bytes_eq text front
+whole : (front text : List ℕ) → is_whole (rest_behind front text) ≡ bytes_eq text front
 whole front text = nothing_left front text (rest_behind front text) refl
+
+pub whole_word : (word : PathWord) (text : List ℕ) → is_whole (rest_behind_word word text) ≡ bytes_eq text (path_word word)
+whole_word word text = ap is_whole (by_pieces word text) ∙ whole (path_word word) text

@@ -11,7 +11,7 @@ use Rattle.oat_map.specs.declared.edge.Edge.{Edge}
 use Rattle.oat_policy.specs.declared.policy.PathRule.{PathRule}
 use Rattle.oat_policy.specs.declared.policy.PathRule.TheVariants.{Never, Before, Most, Order}
 use Rattle.oat_policy.specs.declared.rule.Standing.{Standing}
-use Rattle.oat_policy.specs.EdgeWords.{matches}
+use Rattle.oat_policy.specs.EdgeWords.{edge_words, matches}
 use Rattle.oat_policy.specs.Rules.{forbids, first_forbidden}
 use Rattle.oat_policy.specs.Standing.{counts, counted_next, counted, forbids_behind, standing}
 
@@ -23,7 +23,7 @@ counted_more flow rule path edge = fold-append (counted_next flow rule) 0 path (
 
 next_bound : (flow : Map) (rule : PathRule) (count : ℕ) (edge : Edge) → counted_next flow rule count edge ≤ count + 1
 next_bound flow rule count edge =
-    elim (cases_Bool (counts flow rule count edge)) [
+    elim (cases_Bool (counts rule count (edge_words flow edge))) [
       | inl passes ↦ rw passes (omega arith)
       | inr fails ↦ rw fails (omega arith)
     ]
@@ -70,7 +70,7 @@ none_counted test (edge ∷ path) =
     ]
 
 -- what the rule forbids, by the number of edges that count
-forbids_is : (flow : Map) (rule : PathRule) (path : List Edge) (edge : Edge) → forbids flow rule path edge ≡ forbids_behind flow rule (counted flow rule path) edge
+forbids_is : (flow : Map) (rule : PathRule) (path : List Edge) (edge : Edge) → forbids flow rule path edge ≡ forbids_behind rule (counted flow rule path) (edge_words flow edge)
 unfolding counted
 forbids_is flow (Never pattern) path edge = refl
 forbids_is flow (Before first second) path edge =
@@ -101,7 +101,7 @@ forbidden_more flow rule before (first ∷ path) edge =
 
 pub next_standing : (flow : Map) (rule : PathRule) (path : List Edge) (edge : Edge) (s : Standing) (count : ℕ) (broken : Option ℕ)
     → s ≡ standing flow path rule → count ≡ counted_next flow rule s.count edge
-    → broken ≡ option_or s.broken (if forbids_behind flow rule s.count edge then Some (length path + 1) else None)
+    → broken ≡ option_or s.broken (if forbids_behind rule s.count (edge_words flow edge) then Some (length path + 1) else None)
     → Path Standing (record { count = count; broken = broken }) (standing flow (path ++ edge ∷ []) rule)
 next_standing flow rule path edge s count broken same count_is broken_is =
     let n : s.count ≡ counted flow rule path = ap (λ (z : Standing). z.count) same in
@@ -110,8 +110,8 @@ next_standing flow rule path edge s count broken same count_is broken_is =
     count_is ∙ ap (λ (m : ℕ). counted_next flow rule m edge) n ∙ sym (counted_more flow rule path edge) in
     let breaks_so : broken ≡ first_forbidden flow rule [] (path ++ edge ∷ []) =
     broken_is
-    ∙ ap (λ (o : Option ℕ). option_or o (if forbids_behind flow rule s.count edge then Some (length path + 1) else None)) b
-    ∙ ap (λ (m : ℕ). option_or (first_forbidden flow rule [] path) (if forbids_behind flow rule m edge then Some (length path + 1) else None)) n
+    ∙ ap (λ (o : Option ℕ). option_or o (if forbids_behind rule s.count (edge_words flow edge) then Some (length path + 1) else None)) b
+    ∙ ap (λ (m : ℕ). option_or (first_forbidden flow rule [] path) (if forbids_behind rule m (edge_words flow edge) then Some (length path + 1) else None)) n
     ∙ ap (λ (t : Bool). option_or (first_forbidden flow rule [] path) (if t then Some (length path + 1) else None)) (sym (forbids_is flow rule path edge))
     ∙ sym (forbidden_more flow rule [] path edge) in
     ap (λ (m : ℕ). record { count = m; broken = broken }) counts_so

@@ -9,10 +9,10 @@ use Rattle.oat_map.specs.declared.edge.Edge.{Edge}
 use Rattle.oat_policy.specs.declared.policy.PathRule.{PathRule}
 use Rattle.oat_policy.specs.declared.policy.PathRule.TheVariants.{Order}
 use Rattle.oat_lines.specs.Lines.{TextWord}
-use Rattle.oat_policy.specs.EdgeWords.{matches}
+use Rattle.oat_policy.specs.EdgeWords.{edge_words, matches}
 use Rattle.oat_policy.specs.declared.rule.Standing.{Standing}
 use Rattle.oat_policy.specs.Rules.{is_in_turn, broken_at}
-use Rattle.oat_policy.specs.Standing.{counted_next, counted, matches_some, standing}
+use Rattle.oat_policy.specs.Standing.{counted_next, counted, meets_some, standing}
 
 abbrev Patterns : Type 0
 Patterns = List (List TextWord)
@@ -88,7 +88,7 @@ missing flow ps n (edge ∷ path) =
           let first : is_in_turn flow (drop n ps) (edge ∷ path) ≡ (if matches flow p edge then is_in_turn flow (drop (n + 1) ps) path else is_in_turn flow (p ∷ drop (n + 1) ps) path) =
           ap (λ (qs : Patterns). is_in_turn flow qs (edge ∷ path)) split ∙ one_edge flow p (drop (n + 1) ps) edge path in
           let next : counted_next flow (Order ps) n edge ≡ (if matches flow p edge then n + 1 else n) =
-          ap (λ (o : Option (List TextWord)). if matches_some flow o edge then n + 1 else n) (get_some ps n within) in
+          ap (λ (o : Option (List TextWord)). if meets_some o (edge_words flow edge) then n + 1 else n) (get_some ps n within) in
           elim (cases_Bool (matches flow p edge)) [
             | inl passes ↦
                 ap (λ (m : ℕ). ltb (fold (counted_next flow (Order ps)) m path) (length ps)) (next ∙ ap (λ (t : Bool). if t then n + 1 else n) passes)
@@ -103,7 +103,7 @@ missing flow ps n (edge ∷ path) =
       | inr past ↦
           let none : drop n ps ≡ [] = drop_all n ps past in
           let next : counted_next flow (Order ps) n edge ≡ n =
-          ap (λ (o : Option (List TextWord)). if matches_some flow o edge then n + 1 else n) (get_none ps n past) in
+          ap (λ (o : Option (List TextWord)). if meets_some o (edge_words flow edge) then n + 1 else n) (get_none ps n past) in
           ap (λ (m : ℕ). ltb (fold (counted_next flow (Order ps)) m path) (length ps)) next
           ∙ missing flow ps n path
           ∙ ap not (ap (λ (qs : Patterns). is_in_turn flow qs path) none ∙ kept_by_none flow path)

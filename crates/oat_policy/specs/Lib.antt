@@ -5,4 +5,5 @@ pub mod Verdict
 pub mod Standing
 pub mod Reading
 pub mod Behind
+pub mod Pieces
 pub mod Laws

@@ -11,6 +11,7 @@ mod rule;
 mod rules;
 mod verdict;
 mod watch;
+mod words;
 
 pub use fault::{PolicyFault, PolicyFaultKind};
 pub use policy::{PathRule, Pattern, Policy, PolicyRule};

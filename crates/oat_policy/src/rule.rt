@@ -1,15 +1,16 @@
 //! How one rule stands while the edges of a path come in.
 
-ghost use Rattle.std.specs.Prelude.{◌≡◌, ℕ, ◌+◌, ◌^◌, ◌<◌, ◌≤◌, nat_lt, List, [], ◌∷◌, ◌++◌, length, Some, None, if◌then◌else◌};
+ghost use Rattle.std.specs.Prelude.{◌≡◌, ℕ, ◌+◌, ◌^◌, ◌<◌, ◌≤◌, nat_lt, List, length, map, Some, None, if◌then◌else◌};
 ghost use Rattle.std.specs.Option.{option_or};
 ghost use Rattle.oat_map.specs.declared.map.Map.{Map};
 ghost use Rattle.oat_map.specs.declared.edge.Edge.{Edge};
+ghost use Rattle.oat_policy.specs.Pieces.{path_word};
 ghost use Rattle.oat_policy.specs.Rules.{broken_at};
-ghost use Rattle.oat_policy.specs.Standing.{counts, forbids_behind, standing};
+ghost use Rattle.oat_policy.specs.Standing.{counts, forbids_behind, standing, StandsNext};
 
-use crate::matching::matches;
+use crate::matching::meets_each;
 use crate::policy::PathRule;
-use oat_map::{Edge, Map};
+use crate::words::PathWord;
 
 /// What is kept of one rule.
 #[derive(Clone, Copy, Debug)]
@@ -20,43 +21,30 @@ pub struct Standing {
     pub broken: Option<u64>,
 }
 
-/// Whether an edge counts behind so many that do.
-fn counts(rule: &PathRule, map: &Map, count: usize, edge: &Edge) -> bool
-    ensures { result ≡ counts map.now rule.now count edge.now }
+/// Whether an edge of these words counts behind so many that do.
+fn counts(rule: &PathRule, count: usize, words: &[PathWord<'_>]) -> bool
+    ensures { result ≡ counts rule.now count (map path_word words.now) }
 {
     match rule {
         PathRule::Never(_) => false,
-        PathRule::Before(first, _) => matches(first, map, edge),
-        PathRule::Most(_, pattern) => matches(pattern, map, edge),
+        PathRule::Before(first, _) => meets_each(first, words),
+        PathRule::Most(_, pattern) => meets_each(pattern, words),
         PathRule::Order(patterns) => match patterns.as_slice().get(count) {
-            Some(pattern) => matches(pattern, map, edge),
+            Some(pattern) => meets_each(pattern, words),
             None => false,
         },
     }
 }
 
-/// Whether the rule forbids an edge behind so many that count.
-fn forbids(rule: &PathRule, map: &Map, count: usize, edge: &Edge) -> bool
-    ensures { result ≡ forbids_behind map.now rule.now count edge.now }
+/// Whether the rule forbids an edge of these words behind so many that count.
+fn forbids(rule: &PathRule, count: usize, words: &[PathWord<'_>]) -> bool
+    ensures { result ≡ forbids_behind rule.now count (map path_word words.now) }
 {
     match rule {
-        PathRule::Never(pattern) => matches(pattern, map, edge),
-        PathRule::Before(_, second) => matches(second, map, edge) && count == 0,
-        PathRule::Most(limit, pattern) => {
-            matches(pattern, map, edge) && count == *limit as usize
-        }
+        PathRule::Never(pattern) => meets_each(pattern, words),
+        PathRule::Before(_, second) => count == 0 && meets_each(second, words),
+        PathRule::Most(limit, pattern) => count == *limit as usize && meets_each(pattern, words),
         PathRule::Order(_) => false,
-    }
-}
-
-/// The first place so far.
-fn first_of(broken: Option<u64>, is_forbidden: bool, place: u64) -> Option<u64>
-    ensures { result ≡ option_or broken (if is_forbidden then Some place else None) }
-{
-    match broken {
-        Some(first) => Some(first),
-        None if is_forbidden => Some(place),
-        None => None,
     }
 }
 
@@ -83,16 +71,25 @@ fn broken_order(count: usize, patterns: usize, edges: u64) -> Option<u64>
 }
 
 impl Standing {
-    /// How the rule stands behind the edge at this place, counted from 1.
-    pub fn behind(self, rule: &PathRule, map: &Map, place: u64, edge: &Edge) -> Standing
-        ensures { (path : List Edge) → place ≡ length path + 1 → self ≡ standing map.now path rule.now
-            → result ≡ standing map.now (path ++ edge.now ∷ []) rule.now }
+    /// The first place so far that the rule forbids, with an edge of these words at `place`.
+    fn broken_behind(self, rule: &PathRule, place: u64, words: &[PathWord<'_>]) -> Option<u64>
+        ensures { result ≡ option_or self.broken (if forbids_behind rule.now self.count (map path_word words.now) then Some place else None) }
     {
-        let is_forbidden = forbids(rule, map, self.count, edge);
-        let is_counted = counts(rule, map, self.count, edge);
+        match self.broken {
+            Some(first) => Some(first),
+            None if forbids(rule, self.count, words) => Some(place),
+            None => None,
+        }
+    }
+
+    /// How the rule stands behind an edge of these words at this place, counted from 1.
+    pub fn behind(self, rule: &PathRule, place: u64, words: &[PathWord<'_>]) -> Standing
+        ensures { StandsNext (λ flow path. standing flow path rule.now) place words.now self result }
+    {
+        let is_counted = counts(rule, self.count, words);
         Standing {
             count: next_count(self.count, is_counted),
-            broken: first_of(self.broken, is_forbidden, place),
+            broken: self.broken_behind(rule, place, words),
         }
     }
 

@@ -1,24 +1,23 @@
 //! How the rules of a policy stand while the edges of a path come in.
 
-ghost use Rattle.std.specs.Prelude.{◌≡◌, ℕ, ◌+◌, ◌≤◌, List, [], ◌∷◌, ◌++◌, length};
+ghost use Rattle.std.specs.Prelude.{◌≡◌, ◌≤◌, List, length};
 ghost use Rattle.oat_map.specs.declared.map.Map.{Map};
 ghost use Rattle.oat_map.specs.declared.edge.Edge.{Edge};
-ghost use Rattle.oat_policy.specs.Standing.{standings};
+ghost use Rattle.oat_policy.specs.Standing.{standings, StandsNext};
 ghost use Rattle.oat_policy.specs.Verdict.{verdict_of};
 
 use crate::policy::PolicyRule;
 use crate::rule::Standing;
 use crate::verdict::PolicyVerdict;
-use oat_map::{Edge, Map};
+use crate::words::PathWord;
 
-/// Each rule's standing behind one more edge.
-pub fn follow(rules: &[PolicyRule], map: &Map, place: u64, edge: &Edge, states: &mut [Standing])
-    ensures { (path : List Edge) → place ≡ length path + 1 → states.old ≡ standings map.now path rules.now
-        → states.new ≡ standings map.now (path ++ edge.now ∷ []) rules.now }
+/// Each rule's standing behind one more edge, of these words.
+pub fn follow(rules: &[PolicyRule], place: u64, words: &[PathWord<'_>], states: &mut [Standing])
+    ensures { StandsNext (λ flow path. standings flow path rules.now) place words.now states.old states.new }
 {
     let end = rules.len().min(states.len());
     for i in 0..end {
-        states[i] = states[i].behind(&rules[i].rule, map, place, edge);
+        states[i] = states[i].behind(&rules[i].rule, place, words);
     }
 }
 

@@ -4,6 +4,7 @@ use crate::policy::Policy;
 use crate::rule::Standing;
 use crate::rules::{first_broken, follow};
 use crate::verdict::PolicyVerdict;
+use crate::words::{DigitRoom, words_of};
 use oat_map::{Edge, Map};
 use std::alloc::{AllocError, Global};
 
@@ -48,11 +49,12 @@ impl<'a> Watch<'a> {
             → HasSeen self.new policy flow (path ++ edge.now ∷ []) }
     {
         self.given += 1;
+        let mut digits = DigitRoom::new();
+        let words = words_of(self.map, edge, &mut digits);
         follow(
             self.policy.as_slice(),
-            self.map,
             self.given,
-            edge,
+            words.as_slice(),
             &mut self.standings,
         );
     }

@@ -1,8 +1,10 @@
-use Rattle.std.proofs.Common.{◌≡◌, ◌+◌, List, length}
+use Rattle.std.proofs.Common.{◌≡◌, List}
+use Rattle.oat_map.specs.declared.map.Map.{Map}
 use Rattle.oat_map.specs.declared.edge.Edge.{Edge}
-use Rattle.oat_policy.specs.Standing.{standings}
+use Rattle.oat_policy.specs.Standing.{standings, ComesNext}
 use Rattle.oat_policy.proofs.Standings.{Followed}
 use Rattle.oat_policy.proofs.rules.follow.Given as goal
 
 abbrev pub invariant-loop-i : goal.invariant-loop-i
-invariant-loop-i l = (path : List Edge) → l.place ≡ length path + 1 → l.initial.states ≡ standings l.map path l.rules → Followed l.map path l.edge l.rules l.states l.i
+invariant-loop-i l = (flow : Map) (path : List Edge) (edge : Edge) → ComesNext flow path edge l.place l.words
+    → l.initial.states ≡ standings flow path l.rules → Followed flow path edge l.rules l.states l.i
