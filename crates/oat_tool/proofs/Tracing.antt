@@ -1,5 +1,5 @@
 -- The room of `trace`: where its work stops and goes on, and what its statuses say.
-use Rattle.std.proofs.Common.{◌≡◌, ◌↔◌, ◌<◌, ◌≤◌, ◌+◌, ◌++◌, ◌∙◌, ℕ, zero, suc, Bool, true, false, length, take, List, [], ◌∷◌, Option, Some, None, get_or, ltb, append-nil, append_assoc, length-take-le, refl, sym, ap, subst, arith}
+use Rattle.std.proofs.Common.{◌≡◌, ◌↔◌, ◌<◌, ◌≤◌, ◌+◌, ◌++◌, ◌∙◌, ℕ, Bool, true, false, length, take, List, [], ◌∷◌, Option, Some, None, get_or, ltb, append-nil, append_assoc, length-take-le, refl, sym, ap, subst, arith}
 use Rattle.std.specs.Prelude.{IfSome, IsTrue, if◌then◌else◌, nat_le, unwrap_or}
 use Rattle.std.proofs.lemmas.Bool.{and_parts, leb-true, ltb-true, ltb-false}
 use Rattle.std.proofs.lemmas.List.{take_more}
@@ -16,7 +16,6 @@ use Rattle.oat_map.specs.declared.map.Map.{Map}
 use Rattle.oat_case.specs.declared.case.Case.{Case}
 use Rattle.oat_watch.specs.declared.watched.WatchedWindow.{WatchedWindow}
 use Rattle.oat_tool.specs.declared.page.Stop.{Stop}
-use Rattle.oat_tool.specs.declared.page.Ended.{Ended}
 use Rattle.oat_tool.specs.declared.page.Ended.TheVariants.{Done, Rejected, Unsealed}
 use Rattle.oat_tool.specs.declared.command.Command.TheVariants as commands
 use Rattle.oat_tool.specs.Outcome.{Outcome}
@@ -24,7 +23,7 @@ use Rattle.oat_tool.specs.Answer.{Answer, as_outcome, status_of}
 use Rattle.oat_tool.specs.Loads.{File, AreLoaded}
 use Rattle.oat_tool.specs.Commands.{files_of}
 use Rattle.oat_tool.specs.Admits.{Rejects, AreAdmitted}
-use Rattle.oat_tool.specs.Trace.{Traces, TracesCase, are_few, ended_with, window_number, part_text, parts_from, refuses_one}
+use Rattle.oat_tool.specs.Trace.{Traces, TracesCase, are_few, window_number, part_text, parts_from, refuses_one}
 use Rattle.oat_tool.specs.TraceLaws.{IsTracedRun, TraceIsShown}
 use Rattle.oat_tool.specs.Works.{StopsWith}
 use Rattle.oat_tool.proofs.Working.{StopsWith-more, IsDone}

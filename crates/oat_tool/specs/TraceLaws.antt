@@ -1,5 +1,5 @@
 -- What the statuses of `trace` say of the defined outcome (docs/PROMISES.md).
-use Rattle.std.specs.Prelude.{◌≡◌, ◌<◌, ◌↔◌, ℕ, true, false, List, [], ◌∷◌}
+use Rattle.std.specs.Prelude.{◌≡◌, ◌↔◌, ℕ, true, false, List, [], ◌∷◌}
 use Rattle.oat_world.specs.Outside.{Contents}
 use Rattle.oat_image.specs.declared.image.Image.{Image}
 use Rattle.oat_case.specs.declared.case.Case.{Case}

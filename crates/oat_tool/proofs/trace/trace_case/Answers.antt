@@ -1,4 +1,4 @@
-use Rattle.std.proofs.Common.{◌≡◌, ◌<◌, ◌∙◌, ◌++◌, ◌+◌, ℕ, List, length, refl, sym, ap, subst}
+use Rattle.std.proofs.Common.{◌<◌, ◌∙◌, ◌++◌, ◌+◌, List, length, refl, sym, ap, subst}
 use Rattle.oat_image.specs.declared.image.Image.{Image}
 use Rattle.oat_map.specs.Rows.{BeginsAt}
 use Rattle.oat_watch.specs.declared.watched.WatchedWindow.{WatchedWindow}
