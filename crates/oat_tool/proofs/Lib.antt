@@ -18,6 +18,7 @@ mod Verifying
 mod Policing
 mod PolicySaying
 mod Running
+mod Tracing
 mod Naming
 mod Lines
 mod Settling

@@ -120,7 +120,7 @@ statuses o key run a (unsealed none blobs all shown) =
     ((λ zeroth. absurd (omega (arith, zeroth)), λ all. absurd (none all)), (λ seven. none, λ is. refl))
 
 -- a case's session begins with the first window that it calls for
-first_window : (calls : Option ℕ) → IfSome calls (λ k. IsTrue (calls_fit k)) → MatchOption (option_map (λ (k : ℕ). 0) calls) (unwrap_or calls 1 ≡ 1) (λ (serial : ℕ). (serial ≡ 0) × (1 ≤ unwrap_or calls 1))
+pub first_window : (calls : Option ℕ) → IfSome calls (λ k. IsTrue (calls_fit k)) → MatchOption (option_map (λ (k : ℕ). 0) calls) (unwrap_or calls 1 ≡ 1) (λ (serial : ℕ). (serial ≡ 0) × (1 ≤ unwrap_or calls 1))
 first_window None fit = refl
 first_window (Some k) fit = (refl, leb-true 1 k (and_parts (nat_le 1 k) (nat_le k 1024) fit).0)
 

@@ -3,17 +3,18 @@
 use Rattle.std.specs.Prelude.{◌≡◌, ◌+◌, ℕ, Bool, true, false, not, ◌&&◌, ◌||◌, nat_eq, List, [], ◌∷◌, length, take, drop, Contains, codes}
 use Rattle.std.specs.Str.{bytes_eq}
 use Rattle.oat_tool.specs.declared.command.Command.{Command}
-use Rattle.oat_tool.specs.declared.command.Command.TheVariants.{Run, Build, Verify, Device, Policy}
+use Rattle.oat_tool.specs.declared.command.Command.TheVariants.{Run, Build, Verify, Device, Trace, Policy}
 use Rattle.oat_tool.specs.Loads.{Wanted, wanted_of}
 
 abbrev pub commands : List Command
-commands = Run ∷ Verify ∷ Device ∷ Policy ∷ Build ∷ []
+commands = Run ∷ Verify ∷ Device ∷ Policy ∷ Build ∷ Trace ∷ []
 
 abbrev pub fixed_of : Command → List (List ℕ)
 fixed_of Run = codes "run" ∷ []
 fixed_of Build = codes "build" ∷ []
 fixed_of Verify = codes "verify" ∷ []
 fixed_of Device = codes "device" ∷ []
+fixed_of Trace = codes "trace" ∷ []
 fixed_of Policy = codes "policy" ∷ []
 
 abbrev pub program_limit : ℕ
@@ -36,6 +37,7 @@ limits_of Run = program_limit ∷ case_limit ∷ []
 limits_of Build = program_limit ∷ []
 limits_of Verify = image_limit ∷ case_limit ∷ blob_limit ∷ []
 limits_of Device = image_limit ∷ case_limit ∷ []
+limits_of Trace = image_limit ∷ case_limit ∷ []
 limits_of Policy = image_limit ∷ case_limit ∷ blob_limit ∷ policy_limit ∷ []
 
 -- Words are of a command: they begin as it does, and name as many files as it loads.

@@ -3,7 +3,7 @@ use Rattle.std.specs.Prelude.{◌≡◌, ℕ, List}
 use Rattle.oat_world.specs.Outside.{Contents}
 use Rattle.oat_first.specs.First.{First}
 use Rattle.oat_tool.specs.declared.command.Command.{Command}
-use Rattle.oat_tool.specs.declared.command.Command.TheVariants.{Run, Build, Verify, Device, Policy}
+use Rattle.oat_tool.specs.declared.command.Command.TheVariants.{Run, Build, Verify, Device, Trace, Policy}
 use Rattle.oat_tool.specs.Outcome.{Outcome}
 use Rattle.oat_tool.specs.Texts.{usage}
 use Rattle.oat_tool.specs.Answer.{Answer, IsAnswered}
@@ -13,6 +13,7 @@ use Rattle.oat_tool.specs.Interpret.{Interprets}
 use Rattle.oat_tool.specs.Build.{Builds}
 use Rattle.oat_tool.specs.Verify.{Verifies}
 use Rattle.oat_tool.specs.Device.{Runs}
+use Rattle.oat_tool.specs.Trace.{Traces}
 use Rattle.oat_tool.specs.Policy.{Polices}
 
 -- what a command answers to its files
@@ -21,6 +22,7 @@ Does Run = Interprets
 Does Build = Builds
 Does Verify = Verifies
 Does Device = Runs
+Does Trace = Traces
 Does Policy = Polices
 
 -- The first load that fails decides, and else the command's answer; a load may fail where the count of faults rose.

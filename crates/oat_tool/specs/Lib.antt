@@ -27,6 +27,8 @@ pub mod VerifyLaws
 pub mod Headline
 pub mod Device
 pub mod DeviceLaws
+pub mod Trace
+pub mod TraceLaws
 pub mod Policy
 pub mod PolicyLaws
 pub mod Settles

@@ -22,6 +22,8 @@ pub enum Command {
     Verify,
     /// Runs a case on an image, measured.
     Device,
+    /// Runs a case on an image, and shows the run beside the verdicts on its blobs.
+    Trace,
     /// Judges a blob as `Verify` does, and the accepted path by a policy.
     Policy,
 }
@@ -36,6 +38,7 @@ impl Command {
             Command::Build => &["build"],
             Command::Verify => &["verify"],
             Command::Device => &["device"],
+            Command::Trace => &["trace"],
             Command::Policy => &["policy"],
         }
     }
@@ -49,16 +52,18 @@ impl Command {
             Command::Build => &[PROGRAM_LIMIT],
             Command::Verify => &[IMAGE_LIMIT, CASE_LIMIT, BLOB_LIMIT],
             Command::Device => &[IMAGE_LIMIT, CASE_LIMIT],
+            Command::Trace => &[IMAGE_LIMIT, CASE_LIMIT],
             Command::Policy => &[IMAGE_LIMIT, CASE_LIMIT, BLOB_LIMIT, POLICY_LIMIT],
         }
     }
 }
 
 /// The commands of the program.
-pub const COMMANDS: [Command; 5] = [
+pub const COMMANDS: [Command; 6] = [
     Command::Run,
     Command::Verify,
     Command::Device,
     Command::Policy,
     Command::Build,
+    Command::Trace,
 ];

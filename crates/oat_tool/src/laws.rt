@@ -7,6 +7,7 @@ pub mod build;
 pub mod device;
 pub mod interpret;
 pub mod policy;
+pub mod trace;
 pub mod verify;
 
 /// Of each call whose contents are told.

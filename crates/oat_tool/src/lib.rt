@@ -30,6 +30,7 @@ mod run_lines;
 mod source_path;
 mod texts;
 mod top_call;
+mod trace;
 mod verify;
 
 pub use top_call::run;

@@ -17,6 +17,7 @@ use crate::page::Halt;
 use crate::policy::police;
 use crate::put::{finish, say, say_starved};
 use crate::texts::USAGE;
+use crate::trace::trace;
 use crate::verify::verify;
 use oat_world::{Files, Sink};
 use std::alloc::Global;
@@ -41,6 +42,7 @@ fn work<O: Sink, E: Sink>(
         Command::Build => finish(alloc, build_program(alloc, files), out, err),
         Command::Verify => verify(alloc, files, out, err),
         Command::Device => finish(alloc, device(alloc, files), out, err),
+        Command::Trace => finish(alloc, trace(alloc, files), out, err),
         Command::Policy => police(alloc, files, out, err),
     }
 }

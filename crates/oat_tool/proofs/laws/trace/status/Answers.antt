@@ -1,0 +1,5 @@
+use Rattle.oat_tool.proofs.Tracing.{trace_is_shown}
+use Rattle.oat_tool.proofs.laws.trace.status.Goals as goal
+
+pub returns : goal.returns
+returns c = trace_is_shown
