@@ -186,21 +186,34 @@ fn put_by(alloc: Global, line: &str, files: Vec<MemoryFile>) -> Result<Vec<u8>, 
     Vec::from_slice(alloc, out.held())
 }
 
-/// The device puts, of the image that is built of a program, the run lines of the program's run.
+/// The files of programs, and besides an image and a blob.
+fn files_with(alloc: Global, image: &[u8], blob: &[u8]) -> Result<Vec<MemoryFile>, AllocError> {
+    let mut files = program_files(alloc)?;
+    files.push(file(alloc, "IMAGE", image)?)?;
+    files.push(file(alloc, "BLOB", blob)?)?;
+    Ok(files)
+}
+
+/// The device puts, of the image that is built of a program, the run lines of the program's run; and where the program's
+/// operation completed, a blob that is accepted with the program's path.
 #[test]
 fn built_images_run_as_their_programs(rt: HostRuntime) -> Result<(), Fail> {
     let alloc = rt.alloc();
-    for (program, case, lines, _) in RAN {
+    for (program, case, lines, path) in RAN {
         let build = format!(in alloc; "build {program}")?;
         let image = put_by(alloc, build.as_str(), program_files(alloc)?)?;
-        let mut files = program_files(alloc)?;
-        files.push(file(alloc, "IMAGE", image.as_slice())?)?;
         let device = format!(in alloc; "device IMAGE {case}")?;
+        let files = files_with(alloc, image.as_slice(), &[])?;
         let text = put_by(alloc, device.as_str(), files)?;
-        assert!(rt;
-            text.as_slice().starts_with(lines.as_bytes()),
-            "{program} {case}"
-        );
+        let blob = text.as_slice().strip_prefix(lines.as_bytes());
+        assert!(rt; blob.is_some(), "{program} {case}");
+        if !path.is_empty() {
+            let verify = format!(in alloc; "verify IMAGE {case} BLOB")?;
+            let files = files_with(alloc, image.as_slice(), blob.unwrap_or(&[]))?;
+            let report = format!(in alloc; "accept\n{path}")?;
+            let put = put_by(alloc, verify.as_str(), files)?;
+            assert_eq!(rt; put.as_slice(), report.as_bytes(), "{program} {case}");
+        }
     }
     Ok(())
 }
