@@ -107,9 +107,9 @@ module _ (p : Program) (case : Case) (a : Attested) (formed : IsWellFormedCase c
         record { ended = ap Some (ended ∙ ap ended_by whole.ended); same = put ∙ whole.same };
     back = back_by quiet.end refl;
     prefix = (
-      let rest = means.ends.prefix case.steps in
-      (rest.0, ap (λ (xs : List ℤ). xs ++ rest.0) put ∙ rest.1)
-    );
+        let rest = means.ends.prefix case.steps in
+        (rest.0, ap (λ (xs : List ℤ). xs ++ rest.0) put ∙ rest.1)
+        );
   }
 
   -- ---- a window
@@ -121,9 +121,9 @@ module _ (p : Program) (case : Case) (a : Attested) (formed : IsWellFormedCase c
       let has : HasBody o quiet s w.body = subst (λ (run : Run). HasBody o run s w.body) same w.has in
       let completed = means.sealed s case.steps w.body has in
       let shows = λ (k : ℕ) (done : has_completed op s (source_events p case.inputs k) ≡ true).
-          subst (λ (run : Run). RunShowsTheCall (source_of p case.inputs) a.shaped place o s k run) (sym same) (means.shows s k case.steps w.body done has) in
+      subst (λ (run : Run). RunShowsTheCall (source_of p case.inputs) a.shaped place o s k run) (sym same) (means.shows s k case.steps w.body done has) in
       let back : GoesBack turn_of [] (executed_path a.shaped.map op (window_of o s (run_told h.tells))) =
-          subst (λ (run : Run). GoesBack turn_of [] (executed_path a.shaped.map op (window_of o s run))) (sym same) (h.image.runs.goes_back o case.inputs fit h.tells.begins case.steps s w.body has) in
+      subst (λ (run : Run). GoesBack turn_of [] (executed_path a.shaped.map op (window_of o s run))) (sym same) (h.image.runs.goes_back o case.inputs fit h.tells.begins case.steps s w.body has) in
       let few = leb-true case.steps 4194304 (and_parts (nat_le 1 case.steps) (nat_le case.steps 4194304) formed.steps).1 in
       record {
         path = executed_path a.shaped.map op (window_of o s (run_told h.tells));
@@ -159,7 +159,7 @@ module _ (counted : CallsAreCounted) (p : Program) (case : Case) (a : Attested) 
       → (s : ℕ) → s < calls_measured case.session → (body : Body) × HasBody (opening_told h.tells) (run_told h.tells) s body
   all_sealed k completes few s below =
       let done : has_completed case.session.op s (source_events p case.inputs k) ≡ true =
-          counted p ok case.inputs k case.session.op s ∙ lt-ltb s (calls_done case.session.op (source_events p case.inputs k)) (omega (arith, below, completes)) in
+      counted p ok case.inputs k case.session.op s ∙ lt-ltb s (calls_done case.session.op (source_events p case.inputs k)) (omega (arith, below, completes)) in
       let found = (means p case a formed h unwritten).seals s k case.steps (called_for case.session.calls s below) done few in
       (found.0, subst (λ (run : Run). HasBody (opening_told h.tells) run s found.0) (sym (same p case a formed h unwritten)) found.1)
 
@@ -170,7 +170,7 @@ attestations_are_complete honest counted called p case a ok formed h unwritten k
     let bodies = sealed_bodies o (run_told h.tells).measurements in
     let some = at_least_one case.session.calls formed.calls in
     let many : length bodies ≡ most = as_many bodies most some (all_sealed counted p case a ok formed h unwritten k completes few)
-        (λ body is. not_called_for case.session.calls some (called a.shaped o case.inputs case.writes case.steps most body is)) in
+    (λ body is. not_called_for case.session.calls some (called a.shaped o case.inputs case.writes case.steps most body is)) in
     let blobs : length a.blobs ≡ most = AllZip-long (λ body bytes. IsBlobOf body case.session.key bytes) bodies a.blobs h.tells.blobs ∙ many in
     let verdicts : length a.verdicts ≡ most = AllZip-long (IsVerdict (subject_of a.shaped case.session)) a.blobs a.verdicts h.tells.verdicts ∙ blobs in
     record {

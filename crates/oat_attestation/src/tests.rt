@@ -90,8 +90,11 @@ fn accepts(verdict: &Verdict, path: &[Edge]) -> bool {
 #[test]
 fn idle_calls_are_accepted(rt: HostRuntime) -> Result<(), Fail> {
     // how often `main` calls, how many calls are measured, how many verdicts there are, and how long a blob is
-    let table: [(usize, Option<u32>, usize, usize); 3] =
-        [(1, None, 1, 128), (2, Some(2), 2, 132), (2, Some(3), 2, 132)];
+    let table: [(usize, Option<u32>, usize, usize); 3] = [
+        (1, None, 1, 128),
+        (2, Some(2), 2, 132),
+        (2, Some(3), 2, 132),
+    ];
     for (made, measured, windows, length) in &table {
         let checked = idle(rt.alloc(), *made)?;
         let case = case(rt.alloc(), *measured)?;

@@ -17,7 +17,7 @@ returns-clause-tells c =
     let key = ap (λ (d : DeviceRun). d.case.session.key) c.run-end.ensures.whole ∙ ap (λ (asked : Case). asked.session.key) c.in_ok-device.ensures.case in
     let under = subst (λ (k : List ℕ). AllZip (λ body bytes. IsBlobOf body k bytes) (bodies_so_far device) c.in_ok-windows.windows.blobs.items) key c.in_ok-windows.ensures.blobs in
     let blobs = subst (λ (bodies : List Body). AllZip (λ body bytes. IsBlobOf body case.session.key bytes) bodies c.in_ok-windows.windows.blobs.items)
-        (λ i. sealed_bodies (h.opening i) (h.run i).measurements) under in
+    (λ i. sealed_bodies (h.opening i) (h.run i).measurements) under in
     record {
       begin_at = device.begin_at;
       begins = h.begins;
