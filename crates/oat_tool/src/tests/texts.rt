@@ -124,8 +124,32 @@ pub const FILES: [(&str, &str); 28] = [
     ),
 ];
 
+/// Further ones, with a write that a run beside its verdict shows.
+pub const TRACED: [(&str, &str, &str); 4] = [
+    (
+        "TO_BRANCH",
+        "operation 1\nsteps 100000\n",
+        "operation 2\nsteps 100000\nwrite 15 7FFFFFE0 5C00010000000000\n",
+    ),
+    (
+        "EARLY_LIMIT",
+        "operation 1\nsteps 100000\n",
+        "operation 2\nsteps 100000\nwrite 0 40000000 2000000000000000\n",
+    ),
+    (
+        "EARLY_DOWN",
+        "operation 1\nsteps 100000\n",
+        "operation 2\nsteps 100000\nwrite 0 40000008 A800010000000000\n",
+    ),
+    (
+        "AFTERWARDS",
+        "operation 1\nsteps 100000\n",
+        "operation 2\nsteps 100000\nwrite 41 7FFFFFF0 1000010000000000\n",
+    ),
+];
+
 /// The texts of files that have one part of the case changed.
-pub const CASES: [(&str, &str, &str); 28] = [
+pub const CASES: [(&str, &str, &str); 24] = [
     ("K1", "100000\n", "100000\ncalls 1\n"),
     ("K2", "100000\n", "100000\ncalls 2\n"),
     (
@@ -162,26 +186,6 @@ pub const CASES: [(&str, &str, &str); 28] = [
         "TO_BEGIN",
         "operation 1\nsteps 100000\n",
         "operation 2\nsteps 100000\nwrite 15 7FFFFFE0 1000010000000000\n",
-    ),
-    (
-        "TO_BRANCH",
-        "operation 1\nsteps 100000\n",
-        "operation 2\nsteps 100000\nwrite 15 7FFFFFE0 5C00010000000000\n",
-    ),
-    (
-        "EARLY_LIMIT",
-        "operation 1\nsteps 100000\n",
-        "operation 2\nsteps 100000\nwrite 0 40000000 2000000000000000\n",
-    ),
-    (
-        "EARLY_DOWN",
-        "operation 1\nsteps 100000\n",
-        "operation 2\nsteps 100000\nwrite 0 40000008 A800010000000000\n",
-    ),
-    (
-        "AFTERWARDS",
-        "operation 1\nsteps 100000\n",
-        "operation 2\nsteps 100000\nwrite 41 7FFFFFF0 1000010000000000\n",
     ),
     (
         "DOWN",
