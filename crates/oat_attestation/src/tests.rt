@@ -5,21 +5,24 @@ use oat_ir::{Args, BlockIr, Func, Instr, Local, Program, Role, Term, Ty};
 use oat_journal::DeviceEnd;
 use oat_list::Listed;
 use oat_map::{Edge, Name};
+use oat_meaning::Source;
 use oat_verify::Verdict;
 use std::alloc::Global;
 use std::test::Fail;
+
+fn local(name: &[u8]) -> Result<Local, Fail> {
+    let name = Name::new(name).ok_or("no name")?;
+    Ok(Local { name, ty: Ty::I64 })
+}
 
 fn func(
     alloc: Global,
     name: &[u8],
     role: Role,
+    locals: Vec<Local>,
     instrs: Vec<Instr>,
     term: Term,
 ) -> Result<Func, Fail> {
-    let local = Local {
-        name: Name::new(b"x").ok_or("no name")?,
-        ty: Ty::I64,
-    };
     let block = BlockIr {
         label: Name::new(b"b0").ok_or("no name")?,
         instrs: Listed::from_vec(instrs),
@@ -29,29 +32,21 @@ fn func(
         name: Name::new(name).ok_or("no name")?,
         role,
         params: 0,
-        locals: Listed::from_vec(Vec::from_array(alloc, [local])?),
+        locals: Listed::from_vec(locals),
         blocks: Listed::from_vec(Vec::from_array(alloc, [block])?),
     })
 }
 
-/// `main` calls an operation that does nothing, so many times.
-fn idle(alloc: Global, calls: usize) -> Result<Checked, Fail> {
-    let mut instrs = Vec::new(alloc);
-    for _ in 0..calls {
-        instrs.push(Instr::Call {
-            x: 0,
-            func: 0,
-            args: Args::new(&[]).ok_or("no arguments")?,
-        })?;
-    }
+/// An operation that does nothing, and `main`.
+fn with_idle(alloc: Global, main: Func) -> Result<Checked, Fail> {
     let idle = func(
         alloc,
         b"idle",
         Role::Operation(1),
+        Vec::from_array(alloc, [local(b"x")?])?,
         Vec::new(alloc),
         Term::Ret { x: 0 },
     )?;
-    let main = func(alloc, b"main", Role::Main, instrs, Term::Halt)?;
     let program = Program {
         globals: Listed::from_vec(Vec::new(alloc)),
         funcs: Listed::from_vec(Vec::from_array(alloc, [idle, main])?),
@@ -63,6 +58,38 @@ fn idle(alloc: Global, calls: usize) -> Result<Checked, Fail> {
         Ok(checked) => Ok(checked),
         Err(_) => Err(Fail::from("a rule is broken")),
     }
+}
+
+/// `main` calls the operation so many times.
+fn idle(alloc: Global, calls: usize) -> Result<Checked, Fail> {
+    let mut instrs = Vec::new(alloc);
+    for _ in 0..calls {
+        instrs.push(Instr::Call {
+            x: 0,
+            func: 0,
+            args: Args::new(&[]).ok_or("no arguments")?,
+        })?;
+    }
+    let locals = Vec::from_array(alloc, [local(b"x")?])?;
+    let main = func(alloc, b"main", Role::Main, locals, instrs, Term::Halt)?;
+    with_idle(alloc, main)
+}
+
+/// `main` calls nothing, and sets and puts nine locals.
+fn nine(alloc: Global) -> Result<Checked, Fail> {
+    let names: [&[u8]; 9] = [b"a", b"b", b"c", b"d", b"e", b"f", b"g", b"h", b"i"];
+    let mut locals = Vec::new(alloc);
+    let mut instrs = Vec::new(alloc);
+    for (x, name) in names.iter().enumerate() {
+        locals.push(local(name)?)?;
+        let value = 100 + x as i64;
+        instrs.push(Instr::Const { x: x as u32, value })?;
+    }
+    for x in 0..9 {
+        instrs.push(Instr::Output { x })?;
+    }
+    let main = func(alloc, b"main", Role::Main, locals, instrs, Term::Halt)?;
+    with_idle(alloc, main)
 }
 
 fn case(alloc: Global, calls: Option<u32>) -> Result<Case, Fail> {
@@ -112,5 +139,20 @@ fn idle_calls_are_accepted(rt: HostRuntime) -> Result<(), Fail> {
             assert_eq!(rt; blob.len(), *length);
         }
     }
+    Ok(())
+}
+
+#[test]
+fn a_leaf_with_nine_locals_puts_what_its_source_puts(rt: HostRuntime) -> Result<(), Fail> {
+    let checked = nine(rt.alloc())?;
+    let case = case(rt.alloc(), None)?;
+    assert!(rt; case.well_formed());
+    assert!(rt; checked.has_operation(case.session.op));
+    let attested = attest(rt.alloc(), &checked, &case)?;
+    let mut source = Source::start(rt.alloc(), &checked, &[], 1, 100)?;
+    source.run();
+    assert_eq!(rt; attested.outputs.as_slice(), source.outputs());
+    let wanted = [100, 101, 102, 103, 104, 105, 106, 107, 108];
+    assert_eq!(rt; source.outputs(), wanted.as_slice());
     Ok(())
 }

@@ -30,6 +30,7 @@ use Rattle.oat_symbols.specs.Codes.{CodesStand, FunctionStands, IsBuiltWhole, co
 use Rattle.oat_frames.specs.Frames.{World, IsLow}
 use Rattle.oat_frames.specs.Lines.{IsBlockAt, lines_code}
 use Rattle.oat_frames.specs.Calls.{prologue_end}
+use Rattle.oat_frames.specs.Leaves.{is_leaf}
 use Rattle.oat_frames.proofs.FrameLaws.{low-code}
 use Rattle.oat_globals.specs.Operations.{start_code, role_words}
 use Rattle.oat_globals.proofs.GlobalLaws.{words_of_global_lines}
@@ -89,11 +90,11 @@ module _ (stand : CodesStand) (expands : MarkedCodeExpands) (stays : OtherCodeSt
       let label = program_label p in
       let s = function_stands f func is in
       let op = operation_number func.role in
-      let code = start_code func.params (length func.locals) op in
-      let start = expands.start func.params (length func.locals) op in
+      let code = start_code (is_leaf func) func.params (length func.locals) op in
+      let start = expands.start (is_leaf func) func.params (length func.locals) op in
       let fine = formed f func is in
       let some : 1 ≤ length (map (block_code (global_places p) (label_of_block p f 0) func) func.blocks) = subst (λ (n : ℕ). 1 ≤ n) (sym (map_length (block_code (global_places p) (label_of_block p f 0) func) func.blocks)) fine.begun in
-      let words : words_become (function_code p f func).prologue ≡ 2 + length func.locals + role_words op = ap words_needed start ∙ words_of_global_lines.start func.params (length func.locals) op in
+      let words : words_become (function_code p f func).prologue ≡ 2 + length func.locals + role_words op = ap words_needed start ∙ words_of_global_lines.start (is_leaf func) func.params (length func.locals) op in
       let first = s.first some in
       let zero_block : label_of_block p f 0 ≡ (own_symbol p f func).first = omega arith in
       let here : label (label_of_block p f 0) ≡ label (own_symbol p f func).first = ap label zero_block in

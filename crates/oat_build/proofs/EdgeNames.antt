@@ -43,12 +43,12 @@ use Rattle.oat_parts.proofs.Making.{words_add}
 use Rattle.oat_symbols.specs.Programs.{label_of_block, symbols_of, HasValidNames}
 use Rattle.oat_symbols.specs.Codes.{CodesAreOfTheProgram, IsBuiltWhole, IsCodeOf, codes_of}
 use Rattle.oat_symbols.specs.Names.{CallSitesAreFound, HasSourceNames, PlacesAreNamedBySource, SitesAreNamedBySource, is_site_item}
-use Rattle.oat_frames.specs.Frames.{World, frame_size, return_address}
-use Rattle.oat_frames.specs.Code.{argument_loads, behind_call, depth_tested, icall_code}
+use Rattle.oat_frames.specs.Frames.{World, slot, home_of, frame_size, return_address}
+use Rattle.oat_frames.specs.Leaves.{is_leaf}
+use Rattle.oat_frames.specs.Code.{home_load, argument_loads, behind_call, depth_tested, icall_code}
 use Rattle.oat_frames.specs.Lines.{IsBlockAt, IsLineAt, lines_code, words_before_line}
 use Rattle.oat_frames.proofs.FrameLaws.{lines-stand, found-contains}
 use Rattle.oat_globals.specs.Operations.{role_words}
-use Rattle.oat_globals.specs.Code.{slot_load}
 use Rattle.oat_gen.specs.Code.{block_code, code_lines, expanded_lines, function_code, line_code, program_items}
 use Rattle.oat_gen.specs.Marked.{marked_return}
 use Rattle.oat_gen.specs.GlobalPlaces.{global_places, GlobalsHaveTheirPlaces}
@@ -100,7 +100,7 @@ loads_need r [] = refl
 loads_need r (k ∷ ks) = let rest = loads_need (r + 1) ks in omega arith
 
 many_lines : (p : Program) (f : ℕ) (func : Func) (block : BlockIr) → length (block_items p f func block) ≡ length block.instrs + 1
-many_lines p f func block = length-append (map (instruction_items p) block.instrs) (terminator_items p f func block.term ∷ []) ∙ ap (λ (n : ℕ). n + 1) (map_length (instruction_items p) block.instrs)
+many_lines p f func block = length-append (map (instruction_items p (is_leaf func)) block.instrs) (terminator_items p f func (is_leaf func) block.term ∷ []) ∙ ap (λ (n : ℕ). n + 1) (map_length (instruction_items p (is_leaf func)) block.instrs)
 
 -- ---- sites
 
@@ -197,7 +197,7 @@ module _ (expands : MarkedCodeExpands) (stays : OtherCodeStays) (placing : Globa
 
     branch_site : (from : LinePlace) (x first second : ℕ) (found : LineFound p from (terminator (Branch x first second))) → site (program_image p).map (address_of_line (program_world p) from + 4) ≡ source_site_name p (site_of_line p from)
     branch_site from x first second found =
-        site_is from (terminator (Branch x first second)) found (slot_load 9 x ∷ []) [] (mark.Branch (label_of_block p from.func 0 + first) (label_of_block p from.func 0 + second)) 1 refl refl refl
+        site_is from (terminator (Branch x first second)) found (home_load 9 (home_of (is_leaf found.func) x) ∷ []) [] (mark.Branch (label_of_block p from.func 0 + first) (label_of_block p from.func 0 + second)) 1 refl refl refl
 
     branch_named : (from : LinePlace) (bit : Bool) (to x other : ℕ) → code_line_at p from ≡ Some (terminator (cond bit (Branch x to other) (Branch x other to)))
         → name_of (program_image p).map (edge_in_image p (program_world p) (branches from bit to)) ≡ line_edge_name p (branches from bit to)
@@ -229,8 +229,8 @@ module _ (expands : MarkedCodeExpands) (stays : OtherCodeStays) (placing : Globa
         let there : address_of_line (program_world p) from + 28 + 4 * length args ≡ address_of_line (program_world p) from + 4 * (7 + length args) = omega arith in
         let rest = call_words_before args in
         ap (site (program_image p).map) there
-        ∙ site_is from (instruction (ICall x y args)) found (slot_load 9 y ∷ item.Note note.Check ∷ item.Inst (Cbnz 9 (pos 2)) ∷ item.Inst (Brk 3) ∷ before_call args) (behind_call x) (mark.ICall (length args)) (7 + length args)
-        (ap (λ (is : List Item). slot_load 9 y ∷ item.Note note.Check ∷ item.Inst (Cbnz 9 (pos 2)) ∷ item.Inst (Brk 3) ∷ is) (front_is args (item.Mark (mark.ICall (length args)) ∷ behind_call x))) (before_call_sites args) (omega arith)
+        ∙ site_is from (instruction (ICall x y args)) found (home_load 9 (slot (y + 1)) ∷ item.Note note.Check ∷ item.Inst (Cbnz 9 (pos 2)) ∷ item.Inst (Brk 3) ∷ before_call args) (behind_call x) (mark.ICall (length args)) (7 + length args)
+        (ap (λ (is : List Item). home_load 9 (slot (y + 1)) ∷ item.Note note.Check ∷ item.Inst (Cbnz 9 (pos 2)) ∷ item.Inst (Brk 3) ∷ is) (front_is args (item.Mark (mark.ICall (length args)) ∷ behind_call x))) (before_call_sites args) (omega arith)
 
     call_named : (from : LinePlace) (g x : ℕ) (args : List ℕ) → code_line_at p from ≡ Some (instruction (Call x g args)) → name_of (program_image p).map (edge_in_image p (program_world p) (calls from g)) ≡ line_edge_name p (calls from g)
     call_named from g x args h =
@@ -253,11 +253,11 @@ module _ (expands : MarkedCodeExpands) (stays : OtherCodeStays) (placing : Globa
     return_site_by : (from : LinePlace) (x : ℕ) (found : LineFound p from (terminator (Ret x))) (op : Option ℕ) → operation_number found.func.role ≡ op
         → site (program_image p).map (address_of_line (program_world p) from + 4 * (role_words op + 3)) ≡ source_site_name p (site_of_line p from)
     return_site_by from x found None is =
-        site_is from (terminator (Ret x)) found (slot_load 0 x ∷ item.Inst (Ldr 30 31 0) ∷ item.Inst (AddImm 31 31 (frame_size (length found.func.locals))) ∷ []) [] mark.Ret 3
-        (ap (λ (o : Option ℕ). marked_return (length found.func.locals) x o) is) refl refl
+        site_is from (terminator (Ret x)) found (home_load 0 (home_of (is_leaf found.func) x) ∷ item.Inst (Ldr 30 31 0) ∷ item.Inst (AddImm 31 31 (frame_size (length found.func.locals))) ∷ []) [] mark.Ret 3
+        (ap (λ (o : Option ℕ). marked_return (length found.func.locals) (home_of (is_leaf found.func) x) o) is) refl refl
     return_site_by from x found (Some op) is =
-        site_is from (terminator (Ret x)) found (item.Mark (mark.End op) ∷ slot_load 0 x ∷ item.Inst (Ldr 30 31 0) ∷ item.Inst (AddImm 31 31 (frame_size (length found.func.locals))) ∷ []) [] mark.Ret 5
-        (ap (λ (o : Option ℕ). marked_return (length found.func.locals) x o) is) refl refl
+        site_is from (terminator (Ret x)) found (item.Mark (mark.End op) ∷ home_load 0 (home_of (is_leaf found.func) x) ∷ item.Inst (Ldr 30 31 0) ∷ item.Inst (AddImm 31 31 (frame_size (length found.func.locals))) ∷ []) [] mark.Ret 5
+        (ap (λ (o : Option ℕ). marked_return (length found.func.locals) (home_of (is_leaf found.func) x) o) is) refl refl
 
     return_site_is : (from : LinePlace) (x : ℕ) → LineFound p from (terminator (Ret x)) → site (program_image p).map (address_of_line (program_world p) from + 4 * role_words (operation_of p from.func) + 12) ≡ source_site_name p (site_of_line p from)
     return_site_is from x found =
@@ -275,7 +275,7 @@ module _ (expands : MarkedCodeExpands) (stays : OtherCodeStays) (placing : Globa
         let same = block_same expands stays p ok.well_formed placing at.func found.func found.block (block_formed at.func at.block found.func found.block found.is found.has).0 in
         let is = expansion (line_code (global_places p) (label_of_block p at.func 0) found.func line) in
         lines-stand (program_world p) (frame_at at) (label_of_block p at.func at.block) (block_items p at.func found.func found.block) is b
-        (subst (λ (cs : List (List Item)). slice_get cs at.line ≡ Some is) same code) (whole.data_of.slots at.func)
+        (subst (λ (cs : List (List Item)). slice_get cs at.line ≡ Some is) same code)
 
     module _ (called_back : CallSitesAreFound) (formed_image : IsWellFormedImage (program_image p)) where
       -- a return site is named by the row that stands before it

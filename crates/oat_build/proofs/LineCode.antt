@@ -27,6 +27,8 @@ use Rattle.oat_globals.specs.Code.{load_code, store_code, loadx_code, storex_cod
 use Rattle.oat_gen.specs.declared.globals.GlobalPlace.{GlobalPlace}
 use Rattle.oat_gen.specs.declared.globals.GlobalPlace.TheVariants.{Ordinary, Critical}
 use Rattle.oat_gen.specs.GlobalPlaces.{placed, global_places, place_in, GlobalsHaveTheirPlaces}
+use Rattle.oat_frames.specs.Frames.{Home, home_of}
+use Rattle.oat_frames.specs.Leaves.{is_leaf}
 use Rattle.oat_gen.specs.Marked.{scalar_load, scalar_store, element_load, element_store}
 use Rattle.oat_gen.specs.Code.{instruction_code, terminator_code, line_code, code_lines, expanded_lines}
 use Rattle.oat_gen.specs.Laws.{MarkedCodeExpands, OtherCodeStays}
@@ -62,57 +64,57 @@ module _ (p : Program) (formed : IsProgram p) (placing : GlobalsHaveTheirPlaces)
 -- ---- lines
 
 module _ (expands : MarkedCodeExpands) (stays : OtherCodeStays) where
-  loads : (o : Option ℕ) (word len : ℕ) (place : GlobalPlace) (x : ℕ) → place_by o word len place → expansion (scalar_load place x) ≡ by_cell o (load_code x word) (λ cell. use_code x word cell)
+  loads : (o : Option ℕ) (word len : ℕ) (place : GlobalPlace) (x : Home) → place_by o word len place → expansion (scalar_load place x) ≡ by_cell o (load_code x word) (λ cell. use_code x word cell)
   loads None word len place x is = ap (λ (q : GlobalPlace). expansion (scalar_load q x)) is ∙ stays.load x word
   loads (Some cell) word len place x is = ap (λ (q : GlobalPlace). expansion (scalar_load q x)) is ∙ expands.load word cell len x
 
-  stores : (o : Option ℕ) (word len : ℕ) (place : GlobalPlace) (x : ℕ) → place_by o word len place → expansion (scalar_store place x) ≡ by_cell o (store_code word x) (λ cell. define_code word cell x)
+  stores : (o : Option ℕ) (word len : ℕ) (place : GlobalPlace) (x : Home) → place_by o word len place → expansion (scalar_store place x) ≡ by_cell o (store_code word x) (λ cell. define_code word cell x)
   stores None word len place x is = ap (λ (q : GlobalPlace). expansion (scalar_store q x)) is ∙ stays.store word x
   stores (Some cell) word len place x is = ap (λ (q : GlobalPlace). expansion (scalar_store q x)) is ∙ expands.store word cell len x
 
-  element_loads : (o : Option ℕ) (word len : ℕ) (place : GlobalPlace) (x i : ℕ) → place_by o word len place
+  element_loads : (o : Option ℕ) (word len : ℕ) (place : GlobalPlace) (x i : Home) → place_by o word len place
       → expansion (element_load place x i) ≡ by_cell o (loadx_code x word len i) (λ cell. use_at_code x word cell len i)
   element_loads None word len place x i is = ap (λ (q : GlobalPlace). expansion (element_load q x i)) is ∙ stays.loadx x word len i
   element_loads (Some cell) word len place x i is = ap (λ (q : GlobalPlace). expansion (element_load q x i)) is ∙ expands.loadx word cell len x i
 
-  element_stores : (o : Option ℕ) (word len : ℕ) (place : GlobalPlace) (i x : ℕ) → place_by o word len place
+  element_stores : (o : Option ℕ) (word len : ℕ) (place : GlobalPlace) (i x : Home) → place_by o word len place
       → expansion (element_store place i x) ≡ by_cell o (storex_code word len i x) (λ cell. define_at_code word cell len i x)
   element_stores None word len place i x is = ap (λ (q : GlobalPlace). expansion (element_store q i x)) is ∙ stays.storex word len i x
   element_stores (Some cell) word len place i x is = ap (λ (q : GlobalPlace). expansion (element_store q i x)) is ∙ expands.storex word cell len i x
 
   module _ (p : Program) (formed : IsProgram p) (placing : GlobalsHaveTheirPlaces) where
-    instruction_same : (func : Func) (i : Instr) → IsInstr p func i → expansion (instruction_code (global_places p) i) ≡ instruction_items p i
-    instruction_same func (Const x value) ok = stays.const x value
-    instruction_same func (Copy x y) ok = stays.copy x y
-    instruction_same func (Binary op x y z) ok = stays.binary op x y z
-    instruction_same func (Load x g) ok = loads (cell_number p g 0) (first_word_of p g) (length_at p g) (place_in (global_places p) g) x (place_is p formed placing g ok.1)
-    instruction_same func (Store g x) ok = stores (cell_number p g 0) (first_word_of p g) (length_at p g) (place_in (global_places p) g) x (place_is p formed placing g ok.0)
-    instruction_same func (LoadX x g i) ok = element_loads (cell_number p g 0) (first_word_of p g) (length_at p g) (place_in (global_places p) g) x i (place_is p formed placing g ok.1)
-    instruction_same func (StoreX g i x) ok = element_stores (cell_number p g 0) (first_word_of p g) (length_at p g) (place_in (global_places p) g) i x (place_is p formed placing g ok.0)
-    instruction_same func (RefTo x callee) ok = stays.ref x callee
+    instruction_same : (func : Func) (i : Instr) → IsInstr p func i → expansion (instruction_code (global_places p) (is_leaf func) i) ≡ instruction_items p (is_leaf func) i
+    instruction_same func (Const x value) ok = stays.const (home_of (is_leaf func) x) value
+    instruction_same func (Copy x y) ok = stays.copy (home_of (is_leaf func) x) (home_of (is_leaf func) y)
+    instruction_same func (Binary op x y z) ok = stays.binary op (home_of (is_leaf func) x) (home_of (is_leaf func) y) (home_of (is_leaf func) z)
+    instruction_same func (Load x g) ok = loads (cell_number p g 0) (first_word_of p g) (length_at p g) (place_in (global_places p) g) (home_of (is_leaf func) x) (place_is p formed placing g ok.1)
+    instruction_same func (Store g x) ok = stores (cell_number p g 0) (first_word_of p g) (length_at p g) (place_in (global_places p) g) (home_of (is_leaf func) x) (place_is p formed placing g ok.0)
+    instruction_same func (LoadX x g i) ok = element_loads (cell_number p g 0) (first_word_of p g) (length_at p g) (place_in (global_places p) g) (home_of (is_leaf func) x) (home_of (is_leaf func) i) (place_is p formed placing g ok.1)
+    instruction_same func (StoreX g i x) ok = element_stores (cell_number p g 0) (first_word_of p g) (length_at p g) (place_in (global_places p) g) (home_of (is_leaf func) i) (home_of (is_leaf func) x) (place_is p formed placing g ok.0)
+    instruction_same func (RefTo x callee) ok = stays.ref (home_of (is_leaf func) x) callee
     instruction_same func (Call x callee args) ok = expands.call args callee x
     instruction_same func (ICall x y args) ok = expands.icall args y x
-    instruction_same func (Input x) ok = stays.input x
-    instruction_same func (Output x) ok = stays.output x
+    instruction_same func (Input x) ok = stays.input (home_of (is_leaf func) x)
+    instruction_same func (Output x) ok = stays.output (home_of (is_leaf func) x)
 
     label_is : (f to : ℕ) → label_of_block p f 0 + to ≡ label_of_block p f to
     label_is f to = omega arith
 
-    terminator_same : (f : ℕ) (func : Func) (t : Term) → expansion (terminator_code (label_of_block p f 0) func t) ≡ terminator_items p f func t
+    terminator_same : (f : ℕ) (func : Func) (t : Term) → expansion (terminator_code (label_of_block p f 0) func t) ≡ terminator_items p f func (is_leaf func) t
     terminator_same f func (Jump to) = expands.jump (label_of_block p f 0 + to) ∙ ap jump_code (label_is f to)
     terminator_same f func (Branch x first second) =
-        expands.branch x (label_of_block p f 0 + first) (label_of_block p f 0 + second)
-        ∙ ap (λ (l : ℕ). branch_code x l (label_of_block p f 0 + second)) (label_is f first)
-        ∙ ap (λ (l : ℕ). branch_code x (label_of_block p f first) l) (label_is f second)
-    terminator_same f func (Ret x) = expands.leave (length func.locals) x (operation_number func.role)
+        expands.branch (home_of (is_leaf func) x) (label_of_block p f 0 + first) (label_of_block p f 0 + second)
+        ∙ ap (λ (l : ℕ). branch_code (home_of (is_leaf func) x) l (label_of_block p f 0 + second)) (label_is f first)
+        ∙ ap (λ (l : ℕ). branch_code (home_of (is_leaf func) x) (label_of_block p f first) l) (label_is f second)
+    terminator_same f func (Ret x) = expands.leave (length func.locals) (home_of (is_leaf func) x) (operation_number func.role)
     terminator_same f func Halt = stays.halt
 
     lines_same : (f : ℕ) (func : Func) (instrs : List Instr) (t : Term) → All (IsInstr p func) instrs
-        → map (λ (line : CodeLine). expansion (line_code (global_places p) (label_of_block p f 0) func line)) (map instruction instrs ++ terminator t ∷ []) ≡ map (instruction_items p) instrs ++ terminator_items p f func t ∷ []
+        → map (λ (line : CodeLine). expansion (line_code (global_places p) (label_of_block p f 0) func line)) (map instruction instrs ++ terminator t ∷ []) ≡ map (instruction_items p (is_leaf func)) instrs ++ terminator_items p f func (is_leaf func) t ∷ []
     lines_same f func [] t each = ap (λ (is : List Item). is ∷ []) (terminator_same f func t)
     lines_same f func (i ∷ instrs) t each =
         ap (λ (is : List Item). is ∷ map (λ (line : CodeLine). expansion (line_code (global_places p) (label_of_block p f 0) func line)) (map instruction instrs ++ terminator t ∷ [])) (instruction_same func i (each_at (IsInstr p func) (i ∷ instrs) 0 i each refl))
-        ∙ ap (λ (rest : List (List Item)). instruction_items p i ∷ rest) (lines_same f func instrs t (λ k d l. each (suc k) d (let e : k < length instrs = l in omega arith)))
+        ∙ ap (λ (rest : List (List Item)). instruction_items p (is_leaf func) i ∷ rest) (lines_same f func instrs t (λ k d l. each (suc k) d (let e : k < length instrs = l in omega arith)))
 
     pub block_same : (f : ℕ) (func : Func) (block : BlockIr) → All (IsInstr p func) block.instrs → expanded_lines (global_places p) (label_of_block p f 0) func block ≡ block_items p f func block
     block_same f func block each = lines_same f func block.instrs block.term each

@@ -24,6 +24,7 @@ use Rattle.oat_symbols.specs.Programs.{ProgramsHaveTheirLabels, block_names, sym
 use Rattle.oat_symbols.specs.Codes.{IsBuiltWhole}
 use Rattle.oat_frames.specs.Code.{prologue}
 use Rattle.oat_frames.specs.Calls.{prologue_end}
+use Rattle.oat_frames.specs.Leaves.{is_leaf}
 use Rattle.oat_frames.proofs.FrameLaws.{found-contains}
 use Rattle.oat_globals.specs.Operations.{begin_code, start_code}
 use Rattle.oat_globals.proofs.GlobalLaws.{prologue_words}
@@ -113,12 +114,12 @@ module _ (labelled : ProgramsHaveTheirLabels) (p : Program) (ok : IsChecked p) (
         let found = find_operation p.funcs op ((operations_are op).0 is) in
         let f = function_of_operation p op in
         let b : FunctionBegins p (program_world p) f found.func = whole.functions f found.func found.is in
-        let start = prologue found.func.params (length found.func.locals) in
+        let start = prologue (is_leaf found.func) found.func.params (length found.func.locals) in
         let code = subst (λ (o : Option ℕ). ItemsStand (program_image p) (program_label p) (program_label p f) (start ++ begin_code o)) found.number b.code in
         let at = program_label p f + 4 * words_needed start in
         let behind = (stand_in_two (program_image p) (program_label p) (program_label p f) start (begin_code (Some op)) code).1 in
         let has = found-contains (is_over at) (program_image p).map.rows (row.Begin at op) (behind.0 at (omega arith) (omega arith)) in
-        let words = prologue_words found.func.params (length found.func.locals) in
+        let words = prologue_words (is_leaf found.func) found.func.params (length found.func.locals) in
         let locals = whole.data_of.locals f found.func found.is in
         (at, has, omega arith)
 

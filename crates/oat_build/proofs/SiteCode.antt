@@ -25,11 +25,13 @@ use Rattle.oat_parts.proofs.Lists.{get_before, map_length}
 use Rattle.oat_symbols.specs.Names.{is_site_item}
 use Rattle.oat_frames.specs.Code.{argument_loads, depth_tested}
 use Rattle.oat_frames.specs.Lines.{lines_code, words_before_line}
-use Rattle.oat_locals.specs.Code.{binary_code}
+use Rattle.oat_locals.specs.Code.{operand_in, operand_load, operand_store, operation_code, binary_code}
 use Rattle.oat_gen.specs.declared.globals.GlobalPlace.{GlobalPlace}
 use Rattle.oat_gen.specs.declared.globals.GlobalPlace.TheVariants.{Ordinary, Critical}
 use Rattle.oat_gen.specs.GlobalPlaces.{place_in}
 use Rattle.oat_gen.specs.Marked.{marked_call, marked_icall, scalar_load, scalar_store, element_load, element_store}
+use Rattle.oat_frames.specs.Frames.{Home, slot, register, home_of}
+use Rattle.oat_frames.specs.Leaves.{is_leaf}
 use Rattle.oat_gen.specs.Code.{instruction_code, line_code, code_lines, expanded_lines}
 
 -- ---- how many sites an instruction has
@@ -65,56 +67,73 @@ call_sites args is = sites_join (argument_loads 0 args) is ∙ ap (λ (n : ℕ).
 pub before_call_sites : (args : List ℕ) → sites (before_call args) ≡ 0
 before_call_sites args = call_sites args []
 
-binary_sites : (op : BinOp) (x y z : ℕ) → sites (binary_code op x y z) ≡ 0
-binary_sites Add x y z = refl
-binary_sites Sub x y z = refl
-binary_sites Mul x y z = refl
-binary_sites And x y z = refl
-binary_sites Or x y z = refl
-binary_sites Xor x y z = refl
-binary_sites Shl x y z = refl
-binary_sites Shr x y z = refl
-binary_sites Sar x y z = refl
-binary_sites Eq x y z = refl
-binary_sites Ne x y z = refl
-binary_sites Lt x y z = refl
-binary_sites Le x y z = refl
-binary_sites Ltu x y z = refl
-binary_sites Leu x y z = refl
-binary_sites Div x y z = refl
-binary_sites Rem x y z = refl
-binary_sites Divu x y z = refl
-binary_sites Remu x y z = refl
+operand_sites : (r : ℕ) (home : Home) → sites (operand_load r home) ≡ 0
+operand_sites r (slot k) = refl
+operand_sites r (register q) = refl
 
-load_sites : (place : GlobalPlace) (x : ℕ) → sites (scalar_load place x) ≡ 0
+result_sites : (r : ℕ) (home : Home) → sites (operand_store r home) ≡ 0
+result_sites r (slot k) = refl
+result_sites r (register q) = refl
+
+operation_sites : (op : BinOp) (d a b : ℕ) → sites (operation_code op d a b) ≡ 0
+operation_sites Add d a b = refl
+operation_sites Sub d a b = refl
+operation_sites Mul d a b = refl
+operation_sites And d a b = refl
+operation_sites Or d a b = refl
+operation_sites Xor d a b = refl
+operation_sites Shl d a b = refl
+operation_sites Shr d a b = refl
+operation_sites Sar d a b = refl
+operation_sites Eq d a b = refl
+operation_sites Ne d a b = refl
+operation_sites Lt d a b = refl
+operation_sites Le d a b = refl
+operation_sites Ltu d a b = refl
+operation_sites Leu d a b = refl
+operation_sites Div d a b = refl
+operation_sites Rem d a b = refl
+operation_sites Divu d a b = refl
+operation_sites Remu d a b = refl
+
+binary_sites : (op : BinOp) (x y z : Home) → sites (binary_code op x y z) ≡ 0
+binary_sites op x y z =
+    let code : List Item = operation_code op (operand_in 9 x) (operand_in 9 y) (operand_in 10 z) in
+    let one = sites_join (operand_load 9 y) (operand_load 10 z ++ (code ++ operand_store 9 x)) in
+    let two = sites_join (operand_load 10 z) (code ++ operand_store 9 x) in
+    let three = sites_join code (operand_store 9 x) in
+    let own = operation_sites op (operand_in 9 x) (operand_in 9 y) (operand_in 10 z) in
+    omega (arith, one, two, three, operand_sites 9 y, operand_sites 10 z, own, result_sites 9 x)
+
+load_sites : (place : GlobalPlace) (x : Home) → sites (scalar_load place x) ≡ 0
 load_sites (Ordinary word len) x = refl
 load_sites (Critical word cell len) x = refl
 
-store_sites : (place : GlobalPlace) (x : ℕ) → sites (scalar_store place x) ≡ 0
+store_sites : (place : GlobalPlace) (x : Home) → sites (scalar_store place x) ≡ 0
 store_sites (Ordinary word len) x = refl
 store_sites (Critical word cell len) x = refl
 
-element_load_sites : (place : GlobalPlace) (x i : ℕ) → sites (element_load place x i) ≡ 0
+element_load_sites : (place : GlobalPlace) (x i : Home) → sites (element_load place x i) ≡ 0
 element_load_sites (Ordinary word len) x i = refl
 element_load_sites (Critical word cell len) x i = refl
 
-element_store_sites : (place : GlobalPlace) (i x : ℕ) → sites (element_store place i x) ≡ 0
+element_store_sites : (place : GlobalPlace) (i x : Home) → sites (element_store place i x) ≡ 0
 element_store_sites (Ordinary word len) i x = refl
 element_store_sites (Critical word cell len) i x = refl
 
-instruction_sites : (places : List GlobalPlace) (i : Instr) → sites (instruction_code places i) ≡ cond (is_calling i) 1 0
-instruction_sites places (Const x value) = refl
-instruction_sites places (Copy x y) = refl
-instruction_sites places (Binary op x y z) = binary_sites op x y z
-instruction_sites places (Load x g) = load_sites (place_in places g) x
-instruction_sites places (Store g x) = store_sites (place_in places g) x
-instruction_sites places (LoadX x g i) = element_load_sites (place_in places g) x i
-instruction_sites places (StoreX g i x) = element_store_sites (place_in places g) i x
-instruction_sites places (RefTo x g) = refl
-instruction_sites places (Call x g args) = call_sites args _
-instruction_sites places (ICall x y args) = call_sites args _
-instruction_sites places (Input x) = refl
-instruction_sites places (Output x) = refl
+instruction_sites : (places : List GlobalPlace) (leaf : Bool) (i : Instr) → sites (instruction_code places leaf i) ≡ cond (is_calling i) 1 0
+instruction_sites places leaf (Const x value) = refl
+instruction_sites places leaf (Copy x y) = refl
+instruction_sites places leaf (Binary op x y z) = binary_sites op (home_of leaf x) (home_of leaf y) (home_of leaf z)
+instruction_sites places leaf (Load x g) = load_sites (place_in places g) (home_of leaf x)
+instruction_sites places leaf (Store g x) = store_sites (place_in places g) (home_of leaf x)
+instruction_sites places leaf (LoadX x g i) = element_load_sites (place_in places g) (home_of leaf x) (home_of leaf i)
+instruction_sites places leaf (StoreX g i x) = element_store_sites (place_in places g) (home_of leaf i) (home_of leaf x)
+instruction_sites places leaf (RefTo x g) = refl
+instruction_sites places leaf (Call x g args) = call_sites args _
+instruction_sites places leaf (ICall x y args) = call_sites args _
+instruction_sites places leaf (Input x) = refl
+instruction_sites places leaf (Output x) = refl
 
 -- ---- the sites and the words before a line
 
@@ -124,8 +143,8 @@ module _ (places : List GlobalPlace) (first : ℕ) (func : Func) where
   sites_before instrs t zero less = refl
   sites_before [] t (suc l) less = absurd (omega arith)
   sites_before (i ∷ instrs) t (suc l) less =
-      sites_join (instruction_code places i) (lines_code (take l (map (line_code places first func) (map instruction instrs ++ terminator t ∷ []))))
-      ∙ ap (λ (n : ℕ). n + sites (lines_code (take l (map (line_code places first func) (map instruction instrs ++ terminator t ∷ []))))) (instruction_sites places i)
+      sites_join (instruction_code places (is_leaf func) i) (lines_code (take l (map (line_code places first func) (map instruction instrs ++ terminator t ∷ []))))
+      ∙ ap (λ (n : ℕ). n + sites (lines_code (take l (map (line_code places first func) (map instruction instrs ++ terminator t ∷ []))))) (instruction_sites places (is_leaf func) i)
       ∙ ap (λ (n : ℕ). cond (is_calling i) 1 0 + n) (sites_before instrs t l (omega arith))
       ∙ sym (sum_by-cons (λ j. cond (is_calling j) 1 0) i (take l instrs))
 

@@ -40,7 +40,7 @@ line-stands w (c ∷ cs) (suc l) p is all h =
       later p a b c e = omega arith
 
 pub lines-stand : LinesStand
-lines-stand w f label codes is this at slots =
+lines-stand w f label codes is this at =
     let p : ℕ = w.label label in
     let inside : f.line < length codes = slice_get_within codes f.line is at in
     let here : line_address w f ≡ p + 4 * words_before_line codes f.line = this.places f.line (omega arith) in
@@ -48,7 +48,6 @@ lines-stand w f label codes is this at slots =
       code = subst (λ (t : ℕ). CodeStands w t is) (sym here) (line-stands w codes f.line p is this.stands at);
       next = step (line_address w f) (w.place f.func f.block (f.line + 1)) p (words_before_line codes f.line) (words_before_line codes (f.line + 1)) (words_needed is) here
           (this.places (f.line + 1) (omega arith)) (words-step codes f.line is at);
-      slots = slots;
     } where
       step : (a b p n k d : ℕ) → a ≡ p + 4 * n → b ≡ p + 4 * k → k ≡ n + d → b ≡ a + 4 * d
       step a b p n k d h l e = omega arith

@@ -12,7 +12,7 @@ use Rattle.oat_journal.specs.Run.{Running}
 use Rattle.oat_ir.specs.declared.func.Ty.{Ty}
 use Rattle.oat_check.specs.Steps.{Frame}
 use Rattle.oat_frames.specs.Code.{CodeStands, depth_tested, behind_call, prologue}
-use Rattle.oat_frames.specs.Frames.{World, IsWorld, Represents, IsAt, HoldsState, CallersAt, IsStackPointer, IsSlotted, ReturnsTo, frame_size}
+use Rattle.oat_frames.specs.Frames.{World, IsWorld, Represents, IsAt, HoldsState, CallersAt, IsStackPointer, IsSlotted, ReturnsTo, frame_size, home_of, home_word}
 use Rattle.oat_frames.specs.Calls.{CallSite, IsFunctionAt, IsBehindPrologue, callee_frame, prologue_end}
 use Rattle.oat_frames.specs.Phases.{CallCounted, FrameLaid, first_value}
 use Rattle.oat_follow.specs.Reaching.{RunsTo}
@@ -45,7 +45,7 @@ no-argument f (k ∷ ks) (suc i) h = no-argument f ks i (omega arith)
 abbrev pub Given : World → Frame → CallSite → (ℕ → ℕ) → Type 0
 Given w f c x = (i : ℕ) → i < length c.args → Represents w (w.ty c.callee i) (f.locals (get_or c.args i 0)) (x i)
 
--- a slot holds its argument, or zero
+-- a home begins with its argument, or zero
 filled-value : (w : World) (f : Frame) (c : CallSite) (x : ℕ → ℕ) → Given w f c x → (i : ℕ) → Represents w (w.ty c.callee i) ((callee_frame c f).locals i) (first_value x (length c.args) i)
 filled-value w f c x given i = elim (cases_lt i (length c.args)) [
   | inl l ↦ word-is w (w.ty c.callee i) _ _ (x i) (ap (λ (t : Bool). cond t (x i) 0) (lt-ltb i (length c.args) l))
@@ -97,10 +97,10 @@ enters w ok f callers globals c m k r few caller_slots four function e =
     let lies_sp : IsStackPointer sp (suc (length callers)) = lies w ok memory sp (f ∷ callers) callers_hold in
     let room0 : HasRoom sp size (w.locals c.callee) = has-room sp (suc (length callers)) (w.locals c.callee) lies_sp few (ok.few c.callee) in
     let room : HasRoom k.machine.regs.sp size (w.locals c.callee) = subst (λ (s : ℕ). HasRoom s size (w.locals c.callee)) (sym e.sp) room0 in
-    let o = opened w ok.low n (w.locals c.callee) k e.going (subst (λ (p : ℕ). CodeStands w p (prologue n (w.locals c.callee))) (sym e.pc) function.start) (omega arith) room e.link
+    let o = opened w ok.low (w.is_leaf c.callee) n (w.locals c.callee) k e.going (subst (λ (p : ℕ). CodeStands w p (prologue (w.is_leaf c.callee) n (w.locals c.callee))) (sym e.pc) function.start) (omega arith) room e.link
     (λ j l. value-small w ok (w.ty c.callee j) (f.locals (get_or c.args j 0)) (k.machine.regs.x j) (e.given j l)) in
     let l : Running = o.0 in
-    let opened1 : FrameLaid w.image n (w.locals c.callee) size k l = o.1 in
+    let opened1 : FrameLaid w.image (w.is_leaf c.callee) n (w.locals c.callee) size k l = o.1 in
     let top : l.machine.regs.sp + size ≡ sp = opened1.sp ∙ e.sp in
     let same_above : (b : ℕ) → sp ≤ b → word_in l.machine.memory b ≡ word_in memory b =
     λ b i. opened1.others b (inr (subst (λ (s : ℕ). s ≤ b) (sym e.sp) i)) ∙ ap (λ (g : ℕ → ℕ). word_in g b) e.memory in
@@ -114,10 +114,9 @@ enters w ok f callers globals c m k r few caller_slots four function e =
         going = opened1.kept.going;
         pc = opened1.pc ∙ ap (λ (p : ℕ). p + 8 + 4 * w.locals c.callee) e.pc;
         holds = record {
-          depth = ap (λ (x : ℕ → ℕ). x 28) opened1.x ∙ e.depth;
+          depth = opened1.registers 28 (inr (omega arith)) ∙ e.depth;
           few = few;
-          frame = frame-of w l.machine.regs.x l.machine.memory l.machine.regs.sp c.callee (callee_frame c f).locals function.slots
-              (λ i j. word-is w (w.ty c.callee i) ((callee_frame c f).locals i) (word_in l.machine.memory (l.machine.regs.sp + 8 * (i + 1))) (first_value k.machine.regs.x n i) (opened1.slots i j) (filled-value w f c k.machine.regs.x e.given i));
+          frame = λ i j. word-is w (w.ty c.callee i) ((callee_frame c f).locals i) (home_word l.machine.regs.x l.machine.memory l.machine.regs.sp (home_of (w.is_leaf c.callee) i)) (first_value k.machine.regs.x n i) (opened1.homes i j) (filled-value w f c k.machine.regs.x e.given i);
           back = subst (ReturnsTo w f) (sym opened1.saved) e.back;
           above = subst (λ (s : ℕ). CallersAt w l.machine.memory s (f ∷ callers)) (sym top) (above w memory l.machine.memory sp (f ∷ callers) same_above callers_hold);
           words = globals-stay w ok memory l.machine.memory l.machine.regs.sp globals low_sp same_below h.words;

@@ -6,8 +6,12 @@ use Rattle.oat_mem.proofs.Words.{words_read_back, other_words_stay}
 use Rattle.oat_ir.specs.declared.func.Ty.{Ty}
 use Rattle.oat_ir.specs.declared.func.Ty.TheVariants.{I64, Fn}
 use Rattle.oat_check.specs.Steps.{Frame, assigned}
-use Rattle.oat_frames.specs.Frames.{World, IsWorld, Home, slot, register, home_word, IsOfType, value_word, Represents, IsSlotted, FrameAt, ReturnsToFirst, CallersAt, GlobalsAt, HoldsState, frame_size}
+use Rattle.oat_frames.specs.Frames.{World, IsWorld, Home, slot, register, home_word, home_of, IsOfType, value_word, Represents, IsSlotted, FrameAt, ReturnsToFirst, CallersAt, GlobalsAt, HoldsState, frame_size}
+use Rattle.oat_image.specs.declared.image.Image.{Image}
+use Rattle.oat_journal.specs.Run.{Running}
 use Rattle.oat_frames.specs.Phases.{HasSlots}
+use Rattle.oat_frames.specs.Readied.{KeepsHomes}
+use Rattle.oat_frames.proofs.Homes.{held-on, HomeWritten, other-home}
 use Rattle.oat_frames.proofs.Slots.{IsFrameSize, frame-size-is, frame-opens}
 
 -- ---- values
@@ -38,11 +42,11 @@ zero-value w (Fn k) = record { known = inl refl; is = refl }
 -- where all locals have slots, a frame is its words
 pub slot-of : (w : World) (x memory : ℕ → ℕ) (sp func : ℕ) (locals : ℕ → ℕ) → IsSlotted w func → FrameAt w x memory sp func locals
     → (i : ℕ) → i < w.locals func → Represents w (w.ty func i) (locals i) (word_in memory (sp + 8 * (i + 1)))
-slot-of w x memory sp func locals slots h i l = word-is w (w.ty func i) (locals i) _ _ (sym (ap (home_word x memory sp) (slots i l))) (h i l)
+slot-of w x memory sp func locals slots h i l = word-is w (w.ty func i) (locals i) _ _ (sym (ap (λ (leaf : Bool). home_word x memory sp (home_of leaf i)) slots)) (h i l)
 
 pub frame-of : (w : World) (x memory : ℕ → ℕ) (sp func : ℕ) (locals : ℕ → ℕ) → IsSlotted w func
     → ((i : ℕ) → i < w.locals func → Represents w (w.ty func i) (locals i) (word_in memory (sp + 8 * (i + 1)))) → FrameAt w x memory sp func locals
-frame-of w x memory sp func locals slots h i l = word-is w (w.ty func i) (locals i) _ _ (ap (home_word x memory sp) (slots i l)) (h i l)
+frame-of w x memory sp func locals slots h i l = word-is w (w.ty func i) (locals i) _ _ (ap (λ (leaf : Bool). home_word x memory sp (home_of leaf i)) slots) (h i l)
 
 held-above : (x old new : ℕ → ℕ) (sp : ℕ) → ((a : ℕ) → sp ≤ a → word_in new a ≡ word_in old a) → (home : Home) → home_word x new sp home ≡ home_word x old sp home
 held-above x old new sp same (slot k) = same (sp + 8 * k) (omega arith)
@@ -55,7 +59,7 @@ back-same w gs a b e h = subst (ReturnsToFirst w gs) (sym e) h
 pub above : (w : World) (old new : ℕ → ℕ) (sp : ℕ) (fs : List Frame) → ((a : ℕ) → sp ≤ a → word_in new a ≡ word_in old a) → CallersAt w old sp fs → CallersAt w new sp fs
 above w old new sp [] same h = h
 above w old new sp (g ∷ gs) same h = (
-  λ x i l. word-is w (w.ty g.func i) (g.locals i) _ _ (held-above x old new sp same (w.home g.func i)) (h.0 x i l),
+  λ x i l. word-is w (w.ty g.func i) (g.locals i) _ _ (held-above x old new sp same (home_of (w.is_leaf g.func) i)) (h.0 x i l),
   back-same w gs (word_in new sp) (word_in old sp) (same sp (omega arith)) h.1,
   above w old new (sp + frame_size (w.locals g.func)) gs (λ a l. same a (omega arith)) h.2,
 )
@@ -87,45 +91,59 @@ assigned-words w ty old new at values n d v was others here i h = by (eqb i d) r
       value-is w (ty i) (assigned values d v i) v _ (ap (λ (t : Bool). cond t v (values i)) is) (subst (λ (j : ℕ). Represents w (ty j) v (word_in new (at j))) (sym e) here)
   by false is = other (eqb-false i d is)
 
--- a local is stored into its slot; scratch registers may be anything
-pub puts-local : (w : World) → IsWorld w → (func : ℕ) (locals : ℕ → ℕ) (callers : List Frame) (globals x y : ℕ → ℕ) (sp : ℕ) (memory : ℕ → ℕ) → IsSlotted w func → HoldsState w func locals callers globals x sp memory → y 28 ≡ x 28
-    → (to v word : ℕ) → to < w.locals func → Represents w (w.ty func to) v word
-    → HoldsState w func (assigned locals to v) callers globals y sp (with_word memory (sp + 8 * (to + 1)) word)
-puts-local w ok func locals callers globals x y sp memory slots h count to v word inside value =
-    let s : ℕ = sp + 8 * (to + 1) in
-    let new : ℕ → ℕ = with_word memory s word in
+-- scratch registers may be anything
+pub scratched : (w : World) (func : ℕ) (locals : ℕ → ℕ) (callers : List Frame) (globals x y : ℕ → ℕ) (sp : ℕ) (memory : ℕ → ℕ) → HoldsState w func locals callers globals x sp memory → y 28 ≡ x 28 → KeepsHomes x y
+    → HoldsState w func locals callers globals y sp memory
+scratched w func locals callers globals x y sp memory h count keeps = record {
+  depth = count ∙ h.depth;
+  few = h.few;
+  frame = λ i l. word-is w (w.ty func i) (locals i) _ _ (held-on (w.is_leaf func) x y memory memory sp i keeps (λ a m. refl)) (h.frame i l);
+  back = h.back;
+  above = h.above;
+  words = h.words;
+}
+
+-- a local is assigned: its home was written
+pub puts-home : (w : World) → IsWorld w → (func : ℕ) (locals : ℕ → ℕ) (callers : List Frame) (globals : ℕ → ℕ) (to v word : ℕ) (m k : Running)
+    → HoldsState w func locals callers globals m.machine.regs.x m.machine.regs.sp m.machine.memory → HomeWritten w.image (w.is_leaf func) to word m k → to < w.locals func → Represents w (w.ty func to) v word
+    → HoldsState w func (assigned locals to v) callers globals k.machine.regs.x k.machine.regs.sp k.machine.memory
+puts-home w ok func locals callers globals to v word m k h put inside value =
+    let sp : ℕ = m.machine.regs.sp in
+    let old : ℕ → ℕ = m.machine.memory in
+    let new : ℕ → ℕ = k.machine.memory in
+    let x : ℕ → ℕ = m.machine.regs.x in
     let f : IsFrameSize (w.locals func) = frame-size-is (w.locals func) (ok.few func) in
     let room : 8 * (w.locals func + 1) ≤ frame_size (w.locals func) = f.room in
-    let o : HasSlots sp (w.locals func + 1) = opens w ok func locals callers globals x sp memory h in
+    let o : HasSlots sp (w.locals func + 1) = opens w ok func locals callers globals x sp old h in
     let low : 0x7FF0_0000 ≤ sp = o.low in
-    record {
-      depth = count ∙ h.depth;
+    subst (λ (s : ℕ). HoldsState w func (assigned locals to v) callers globals k.machine.regs.x s k.machine.memory) (sym put.sp)
+    (record {
+      depth = put.registers 28 (λ e. omega arith) ∙ h.depth;
       few = h.few;
-      frame = frame-of w y new sp func (assigned locals to v) slots
-          (assigned-words w (w.ty func) memory new (λ i. sp + 8 * (i + 1)) locals (w.locals func) to v (slot-of w x memory sp func locals slots h.frame)
-          (λ i l apart. apart_words memory word sp to i apart)
-          (word-is w (w.ty func to) v (word_in new s) word (words_read_back memory s word (value-small w ok (w.ty func to) v word value)) value));
-      back = back-same w callers (word_in new sp) (word_in memory sp) (other_words_stay memory s word sp (inr (omega arith))) h.back;
-      above = above w memory new (sp + frame_size (w.locals func)) callers
-          (λ a l. other_words_stay memory s word a (inl (over a sp (frame_size (w.locals func)) (w.locals func) to room inside l))) h.above;
-      words = globals-stay w ok memory new sp globals low (λ a l. other_words_stay memory s word a (inr (omega arith))) h.words;
-    } where
+      frame = λ i l. by i l (eqb i to) refl;
+      back = back-same w callers (word_in new sp) (word_in old sp) (put.others sp (inr (omega arith))) h.back;
+      above = above w old new (sp + frame_size (w.locals func)) callers
+          (λ a l. put.others a (inl (over a sp (frame_size (w.locals func)) (w.locals func) to room inside l))) h.above;
+      words = globals-stay w ok old new sp globals low (λ a l. put.others a (inr (omega arith))) h.words;
+    }) where
       over : (a sp size n to : ℕ) → 8 * (n + 1) ≤ size → to < n → sp + size ≤ a → sp + 8 * (to + 1) + 8 ≤ a
       over a sp size n to room low h = omega arith
 
-      apart_words : (memory : ℕ → ℕ) (word sp to i : ℕ) → (i ≡ to → ⊥) → word_in (with_word memory (sp + 8 * (to + 1)) word) (sp + 8 * (i + 1)) ≡ word_in memory (sp + 8 * (i + 1))
-      apart_words memory word sp to i apart = elim (cases_lt i to) [
-        | inl less ↦ other_words_stay memory (sp + 8 * (to + 1)) word (sp + 8 * (i + 1)) (inr (omega arith))
-        | inr from ↦ other_words_stay memory (sp + 8 * (to + 1)) word (sp + 8 * (i + 1)) (inl (more from))
-      ] where
-        more : to ≤ i → sp + 8 * (to + 1) + 8 ≤ sp + 8 * (i + 1)
-        more from = omega (arith, apart)
+      by : (i : ℕ) → i < w.locals func → (t : Bool) → eqb i to ≡ t → Represents w (w.ty func i) (assigned locals to v i) (home_word k.machine.regs.x k.machine.memory m.machine.regs.sp (home_of (w.is_leaf func) i))
+      by i l true is =
+          let e : i ≡ to = eqb-true i to is in
+          let here : Represents w (w.ty func to) v (home_word k.machine.regs.x k.machine.memory m.machine.regs.sp (home_of (w.is_leaf func) to)) = word-is w (w.ty func to) v _ word put.here value in
+          value-is w (w.ty func i) (assigned locals to v i) v _ (ap (λ (t : Bool). cond t v (locals i)) is)
+          (subst (λ (j : ℕ). Represents w (w.ty func j) v (home_word k.machine.regs.x k.machine.memory m.machine.regs.sp (home_of (w.is_leaf func) j))) (sym e) here)
+      by i l false is =
+          value-is w (w.ty func i) (assigned locals to v i) (locals i) _ (ap (λ (t : Bool). cond t v (locals i)) is)
+          (word-is w (w.ty func i) (locals i) _ _ (other-home w.image (w.is_leaf func) to word m k put i (eqb-false i to is)) (h.frame i l))
 
 -- a word of global data is stored
-pub puts-global : (w : World) → IsWorld w → (func : ℕ) (locals : ℕ → ℕ) (callers : List Frame) (globals x y : ℕ → ℕ) (sp : ℕ) (memory : ℕ → ℕ) → HoldsState w func locals callers globals x sp memory → y 28 ≡ x 28 → IsSlotted w func
+pub puts-global : (w : World) → IsWorld w → (func : ℕ) (locals : ℕ → ℕ) (callers : List Frame) (globals x y : ℕ → ℕ) (sp : ℕ) (memory : ℕ → ℕ) → HoldsState w func locals callers globals x sp memory → y 28 ≡ x 28 → KeepsHomes x y
     → (to v word : ℕ) → to < w.globals → Represents w (w.global_ty to) v word
     → HoldsState w func locals callers (assigned globals to v) y sp (with_word memory (global_address to) word)
-puts-global w ok func locals callers globals x y sp memory h count slots to v word inside value =
+puts-global w ok func locals callers globals x y sp memory h count keeps to v word inside value =
     let s : ℕ = global_address to in
     let new : ℕ → ℕ = with_word memory s word in
     let o : HasSlots sp (w.locals func + 1) = opens w ok func locals callers globals x sp memory h in
@@ -133,7 +151,7 @@ puts-global w ok func locals callers globals x y sp memory h count slots to v wo
     record {
       depth = count ∙ h.depth;
       few = h.few;
-      frame = frame-of w y new sp func locals slots (λ i l. word-is w (w.ty func i) (locals i) _ _ (same (sp + 8 * (i + 1)) (omega arith)) (slot-of w x memory sp func locals slots h.frame i l));
+      frame = λ i l. word-is w (w.ty func i) (locals i) _ _ (held-on (w.is_leaf func) x y memory new sp i keeps same) (h.frame i l);
       back = back-same w callers (word_in new sp) (word_in memory sp) (same sp (omega arith)) h.back;
       above = above w memory new (sp + frame_size (w.locals func)) callers (λ a l. same a (omega arith)) h.above;
       words = assigned-words w w.global_ty memory new global_address globals w.globals to v h.words (λ i l apart. apart_words memory word to i apart)

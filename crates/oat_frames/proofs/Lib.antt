@@ -4,6 +4,7 @@ mod Steps
 mod Transfers
 mod MonitorCalls
 mod Slots
+mod Homes
 mod Runs
 mod Holding
 mod Arming
@@ -14,7 +15,6 @@ mod Calling
 mod IndirectCalling
 mod Returning
 mod Starting
-mod Homes
 mod LowCode
 mod Blocks
 mod Landing

@@ -1,10 +1,10 @@
 -- The start of a function lays its frame: for a call, and for the start of the whole run.
-use Rattle.std.proofs.Common.{◌≡◌, ◌+◌, ◌*◌, ◌%◌, ◌^◌, ◌<◌, ◌≤◌, ◌-◌, inl, inr, ℕ, [], None, refl, ap, subst, ◌∙◌, arith}
+use Rattle.std.proofs.Common.{◌≡◌, ◌+◌, ◌*◌, ◌%◌, ◌^◌, ◌<◌, ◌≤◌, ◌-◌, inl, inr, ℕ, Bool, [], None, refl, ap, subst, ◌∙◌, arith}
 use Rattle.oat_mem.specs.DataMemory.{word_in, with_word}
 use Rattle.oat_mem.proofs.Words.{words_read_back, other_words_stay}
 use Rattle.oat_journal.specs.Run.{Running}
 use Rattle.oat_frames.specs.Code.{CodeStands, prologue}
-use Rattle.oat_frames.specs.Frames.{World, IsLow, IsStackPointer, frame_size}
+use Rattle.oat_frames.specs.Frames.{World, IsLow, IsStackPointer, frame_size, home_of, home_word}
 use Rattle.oat_frames.specs.Phases.{HasSlots, LocalsStored, FrameLaid}
 use Rattle.oat_follow.specs.Reaching.{RunsTo}
 use Rattle.oat_frames.specs.Moments.{next_moment}
@@ -28,10 +28,10 @@ has-room sp n locals l few h =
       by : (size : ℕ) → 8 * (locals + 1) ≤ size → size ≤ 2048 → size % 16 ≡ 0 → sp % 16 ≡ 0 → sp ≤ 0x8000_0000 → 0x8000_0000 ≤ sp + 2048 * n → HasRoom sp size locals
       by size room most whole aligned below near = record { fits = omega arith; small = omega arith; open_ = record { aligned = omega arith; low = omega arith; high = omega arith }; inside = room }
 
-pub opened : (w : World) → IsLow w.image → (params locals : ℕ) (m : Running) → m.end ≡ None → CodeStands w m.machine.regs.pc (prologue params locals) → params ≤ 30
+pub opened : (w : World) → IsLow w.image → (leaf : Bool) (params locals : ℕ) (m : Running) → m.end ≡ None → CodeStands w m.machine.regs.pc (prologue leaf params locals) → params ≤ 19
     → HasRoom m.machine.regs.sp (frame_size locals) locals → m.machine.regs.x 30 < 2 ^ 64 → ((j : ℕ) → j < params → m.machine.regs.x j < 2 ^ 64)
-    → (k : Running) × FrameLaid w.image params locals (frame_size locals) m k
-opened w low params locals m going at few room saved small =
+    → (k : Running) × FrameLaid w.image leaf params locals (frame_size locals) m k
+opened w low leaf params locals m going at few room saved small =
     let size : ℕ = frame_size locals in
     let s : ℕ = m.machine.regs.sp - size in
     let link : ℕ = m.machine.regs.x 30 in
@@ -39,9 +39,9 @@ opened w low params locals m going at few room saved small =
     let m2 : Running = next_moment m1 (with_slot m1.machine (s + 8 * 0) link) in
     let one : RunsTo w.image 1 m m1 [] = sub-sp w.image low m size going at.0 room.fits room.small in
     let two : RunsTo w.image 1 m1 m2 [] = str w.image low m1 30 0 going at.1.0 (slot-small s (locals + 1) 0 room.open_ (omega arith)) (slot-opens s (locals + 1) 0 room.open_ (omega arith)) in
-    let rest = filled w low locals params 0 (locals + 1) m2 going at.1.1 (omega arith) room.open_ (omega arith) small in
+    let rest = filled w low leaf locals params 0 (locals + 1) m2 going at.1.1 few room.open_ (omega arith) small in
     let k : Running = rest.0 in
-    let f : LocalsStored w.image params 0 locals m2 k = rest.1 in
+    let f : LocalsStored w.image leaf params 0 locals m2 k = rest.1 in
     let first : s + 8 * 0 ≡ s = omega arith in
     let fits : size ≤ m.machine.regs.sp = room.fits in
     let inside : 8 * (locals + 1) ≤ size = room.inside in
@@ -52,11 +52,14 @@ opened w low params locals m going at few room saved small =
         runs = counted w.image (1 + (1 + locals)) (2 + locals) m k [] (omega arith)
             (thence w.image 1 (1 + locals) m m1 k [] [] one (thence w.image 1 locals m1 m2 k [] [] two f.runs));
         kept = kept-on m m2 k (record { going = going; inputs = refl; outputs = refl }) f.kept;
-        x = f.x;
+        registers = λ j h. elim h [
+          | inl a ↦ f.registers j (inl (omega arith))
+          | inr a ↦ f.registers j (inr a)
+        ];
         sp = ap (λ (a : ℕ). a + size) f.sp ∙ joined m.machine.regs.sp size fits;
         pc = f.pc ∙ plus m.machine.regs.pc locals;
         saved = ap (word_in k.machine.memory) f.sp ∙ back;
-        slots = λ i h. ap (λ (a : ℕ). word_in k.machine.memory (a + 8 * (i + 1))) f.sp ∙ f.slots i (omega arith) (omega arith);
+        homes = λ i h. ap (λ (a : ℕ). home_word k.machine.regs.x k.machine.memory a (home_of leaf i)) f.sp ∙ f.homes i (omega arith) (omega arith);
         others = λ a h. elim h [
           | inl b ↦ let c : a + 8 ≤ s = subst (λ (q : ℕ). a + 8 ≤ q) f.sp b in
               f.others a (inl (omega arith)) ∙ other_words_stay m.machine.memory (s + 8 * 0) link a (inr (omega arith))

@@ -1,5 +1,5 @@
 -- A return leads from the relation to the relation, in 7 instructions, through the X30 that memory holds.
-use Rattle.std.proofs.Common.{◌≡◌, ◌+◌, ◌*◌, ◌^◌, ◌<◌, ◌≤◌, ◌-◌, ℕ, suc, true, List, [], ◌∷◌, length, Some, refl, sym, ap, subst, ◌∙◌, arith}
+use Rattle.std.proofs.Common.{◌≡◌, ◌+◌, ◌*◌, ◌^◌, ◌<◌, ◌≤◌, ◌-◌, ℕ, suc, Bool, true, List, [], ◌∷◌, length, Some, refl, sym, ap, subst, ◌∙◌, arith}
 use Rattle.std.specs.List.{list_any}
 use Rattle.oat_a64.specs.declared.inst.Inst.TheVariants.{SubImm, Str}
 use Rattle.oat_a64.specs.Step.{goes_on, with_reg, difference}
@@ -9,20 +9,21 @@ use Rattle.oat_mem.specs.DataMemory.{word_in}
 use Rattle.oat_shape.specs.Groups.{Stands}
 use Rattle.oat_journal.specs.Run.{Running}
 use Rattle.oat_map.specs.Rows.{row_over, is_returned_to}
-use Rattle.oat_frames.specs.Code.{CodeStands, return_code}
+use Rattle.oat_frames.specs.Code.{CodeStands, store_inst, return_code}
 use Rattle.oat_follow.specs.Events.{MachineEvent, moves}
 use Rattle.oat_ir.specs.declared.func.Ty.{Ty}
 use Rattle.oat_check.specs.Steps.{Frame}
-use Rattle.oat_frames.specs.Frames.{line_address, Represents, HoldsState, ReturnsTo, return_address, frame_size}
+use Rattle.oat_frames.specs.Frames.{line_address, Represents, HoldsState, ReturnsTo, return_address, frame_size, home_of, home_word, home_in}
 use Rattle.oat_frames.specs.Returns.{ReturnComesBack, ReturnsComeBack, ReturnsLead}
 use Rattle.oat_frames.specs.Phases.{HasSlots}
 use Rattle.oat_follow.specs.Reaching.{RunsTo}
 use Rattle.oat_frames.specs.Moments.{next_moment, jumped}
-use Rattle.oat_frames.proofs.Reaching.{thence}
-use Rattle.oat_frames.proofs.Holding.{opens, slot-of, puts-local, popped}
+use Rattle.oat_frames.proofs.Reaching.{thence, kept-on}
+use Rattle.oat_frames.proofs.Homes.{reads-home, writes-home, HomeWritten}
+use Rattle.oat_frames.proofs.Holding.{value-small, opens, puts-home, popped}
 use Rattle.oat_frames.proofs.Slots.{slot-opens, slot-small}
-use Rattle.oat_frames.proofs.Registers.{with_x, with_sp, with_slot, difference-is}
-use Rattle.oat_frames.proofs.Steps.{sets, ldr, str, add-sp}
+use Rattle.oat_frames.proofs.Registers.{with_x, with_sp, difference-is}
+use Rattle.oat_frames.proofs.Steps.{sets, ldr, add-sp}
 use Rattle.oat_frames.proofs.MonitorCalls.{svc-return}
 use Rattle.oat_frames.proofs.Transfers.{ret}
 
@@ -46,21 +47,21 @@ returns-come-back w ok f g callers globals from to at m going pc h code this =
     let open_ : HasSlots sp (w.locals f.func + 1) = opens w ok f.func f.locals (g ∷ callers) globals m.machine.regs.x sp memory h in
     let under : (y : ℕ → ℕ) → y 28 ≡ length callers → HoldsState w g.func g.locals callers globals y top memory = λ y count. popped w f.func f.locals g callers globals m.machine.regs.x y sp memory h count in
     let open_top : HasSlots top (w.locals g.func + 1) = opens w ok g.func g.locals callers globals (λ i. length callers) top memory (under (λ i. length callers) refl) in
-    let here : CodeStands w m.machine.regs.pc (return_code (w.locals f.func) from) = subst (λ (q : ℕ). CodeStands w q (return_code (w.locals f.func) from)) (sym pc) code in
+    let here : CodeStands w m.machine.regs.pc (return_code (w.locals f.func) (home_in w f from)) = subst (λ (q : ℕ). CodeStands w q (return_code (w.locals f.func) (home_in w f from))) (sym pc) code in
     let from_low : from < w.locals f.func = this.from_local in
     let to_low : to < w.locals g.func = this.to_local in
     -- the moments
-    let value : ℕ = word_in memory (sp + 8 * (from + 1)) in
+    let value : ℕ = home_word m.machine.regs.x memory sp (home_in w f from) in
+    let represents : Represents w (w.ty g.func to) (f.locals from) value = subst (λ (ty : Ty). Represents w ty (f.locals from) value) this.types (h.frame from from_low) in
     let m1 : Running = next_moment m (with_x m.machine 0 value) in
     let m2 : Running = next_moment m1 (with_x m1.machine 30 (word_in memory (sp + 8 * 0))) in
     let m3 : Running = next_moment m2 (with_sp m2.machine top) in
     let m4 : Running = next_moment m3 m3.machine in
     let m5 : Running = jumped m4 m4.machine.regs back in
     let m6 : Running = next_moment m5 (with_x m5.machine 28 (length callers)) in
-    let m7 : Running = next_moment m6 (with_slot m6.machine (top + 8 * (to + 1)) value) in
     let es : List MachineEvent = moves (edges.Ret (at + 12) back) ∷ [] in
     -- the instructions
-    let one : RunsTo w.image 1 m m1 [] = ldr w.image ok.low m 0 (from + 1) going here.0 (slot-small sp (w.locals f.func + 1) (from + 1) open_ (omega arith)) (slot-opens sp (w.locals f.func + 1) (from + 1) open_ (omega arith)) in
+    let one : RunsTo w.image 1 m m1 [] = reads-home w.image ok.low (w.is_leaf f.func) m 0 from (w.locals f.func + 1) value going here.0 open_ (omega arith) refl in
     let two : RunsTo w.image 1 m1 m2 [] = ldr w.image ok.low m1 30 0 going here.1.0 (slot-small sp (w.locals f.func + 1) 0 open_ (omega arith)) (slot-opens sp (w.locals f.func + 1) 0 open_ (omega arith)) in
     let three : RunsTo w.image 1 m2 m3 [] = add-sp w.image ok.low m2 size going here.1.1.0 (small-sum top (w.locals g.func) open_top.high) in
     let four : RunsTo w.image 1 m3 m4 [] = svc-return w.image ok.low m3 going here.1.1.1.1.0 in
@@ -73,17 +74,19 @@ returns-come-back w ok f g callers globals from to at m going pc h code this =
     let five : RunsTo w.image 1 m4 m5 es = ret w.image ok.low m4 (at + 12) back going here.1.1.1.1.1.0 leads row site in
     let six : RunsTo w.image 1 m5 m6 [] = sets w.image ok.low m5 (SubImm 28 28 1) 28 (length callers) going counts (λ r next. refl)
     (ap (λ (v : ℕ). goes_on m5.machine (with_reg m5.machine.regs 28 v)) (one-less callers (m.machine.regs.x 28) h.depth h.few)) in
-    let seven : RunsTo w.image 1 m6 m7 [] = str w.image ok.low m6 0 (to + 1) going stores (slot-small top (w.locals g.func + 1) (to + 1) open_top (omega arith)) (slot-opens top (w.locals g.func + 1) (to + 1) open_top (omega arith)) in
+    let stored = writes-home w.image ok.low (w.is_leaf g.func) m6 0 to (w.locals g.func + 1) going (subst (λ (leaf : Bool). Stands w.image.code (back + 4) (store_inst 0 (home_of leaf to))) (sym this.caller_slots) stores) open_top (omega arith)
+    (value-small w ok (w.ty g.func to) (f.locals from) value represents) in
+    let m7 : Running = stored.0 in
+    let put : HomeWritten w.image (w.is_leaf g.func) to value m6 m7 = stored.1 in
     record {
       end = m7;
       runs = thence w.image 1 6 m m1 m7 [] es one (thence w.image 1 5 m1 m2 m7 [] es two (thence w.image 1 4 m2 m3 m7 [] es three
-          (thence w.image 1 3 m3 m4 m7 [] es four (thence w.image 1 2 m4 m5 m7 es [] five (thence w.image 1 1 m5 m6 m7 [] [] six seven)))));
-      kept = record { going = going; inputs = refl; outputs = refl };
+          (thence w.image 1 3 m3 m4 m7 [] es four (thence w.image 1 2 m4 m5 m7 es [] five (thence w.image 1 1 m5 m6 m7 [] [] six put.runs)))));
+      kept = kept-on m m6 m7 (record { going = going; inputs = refl; outputs = refl }) put.kept;
       is_at = record {
-        going = going;
-        pc = ap (λ (p : ℕ). p + 4 + 4) (sym saved_is) ∙ plus8 (word_in memory sp) ∙ saved.next;
-        holds = puts-local w ok g.func g.locals callers globals m7.machine.regs.x m7.machine.regs.x top memory this.caller_slots (under m7.machine.regs.x refl) refl to (f.locals from) value to_low
-            (subst (λ (ty : Ty). Represents w ty (f.locals from) value) this.types (slot-of w m.machine.regs.x memory sp f.func f.locals this.slots h.frame from from_low));
+        going = put.kept.going;
+        pc = put.pc ∙ ap (λ (p : ℕ). p + 4 + 4) (sym saved_is) ∙ plus8 (word_in memory sp) ∙ saved.next;
+        holds = puts-home w ok g.func g.locals callers globals to (f.locals from) value m6 m7 (under m6.machine.regs.x refl) put to_low represents;
       };
     } where
       before : (a b : ℕ) → a + 8 ≡ b → a ≡ b - 8

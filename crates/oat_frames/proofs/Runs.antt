@@ -3,19 +3,16 @@ use Rattle.std.proofs.Common.{◌≡◌, ◌+◌, ◌*◌, ◌^◌, ◌<◌, ◌
 use Rattle.std.proofs.lemmas.Bool.{lt-ltb, ltb-true, cases_lt}
 use Rattle.oat_a64.specs.Step.{Regs, reg}
 use Rattle.oat_mem.specs.DataMemory.{word_in}
-use Rattle.oat_mem.proofs.Words.{words_read_back, other_words_stay}
 use Rattle.oat_journal.specs.Run.{Running}
 use Rattle.oat_frames.specs.Code.{CodeStands, argument_loads, local_stores}
-use Rattle.oat_frames.specs.Frames.{World, IsLow}
+use Rattle.oat_frames.specs.Frames.{World, IsLow, home_of, home_word}
 use Rattle.oat_frames.specs.Phases.{HasSlots, ArgumentsLoaded, LocalsStored, first_value}
 use Rattle.oat_frames.specs.Moments.{next_moment}
 use Rattle.oat_frames.proofs.Reaching.{still, thence, counted, kept-on}
 use Rattle.oat_frames.proofs.Slots.{slot-opens, slot-small}
-use Rattle.oat_frames.proofs.Registers.{with_x, with_slot, set-same, set-other}
-use Rattle.oat_frames.proofs.Steps.{ldr, str}
-
-reg-low : (r : Regs) (n : ℕ) → n < 31 → reg r n ≡ r.x n
-reg-low r n h = ap (λ (t : Bool). cond t (r.x n) 0) (lt-ltb n 31 h)
+use Rattle.oat_frames.proofs.Registers.{with_x, set-same, set-other}
+use Rattle.oat_frames.proofs.Steps.{ldr}
+use Rattle.oat_frames.proofs.Homes.{home-cases, reg-low, HomeWritten, writes-home}
 
 reg-filler : (r : Regs) (params i : ℕ) (t : Bool) → ltb i params ≡ t → params ≤ 31 → reg r (cond (ltb i params) i 31) ≡ first_value r.x params i
 reg-filler r params i true is few =
@@ -27,6 +24,13 @@ reg-filler r params i false is few =
 filler-small : (x : ℕ → ℕ) (params i : ℕ) → ((j : ℕ) → j < params → x j < 2 ^ 64) → (t : Bool) → ltb i params ≡ t → first_value x params i < 2 ^ 64
 filler-small x params i small true is = subst (λ (b : Bool). cond b (x i) 0 < 2 ^ 64) (sym is) (small i (ltb-true i params is))
 filler-small x params i small false is = subst (λ (b : Bool). cond b (x i) 0 < 2 ^ 64) (sym is) (omega arith)
+
+-- where the parameters' registers stay, so do the values that locals begin with
+first-same : (x y : ℕ → ℕ) (params i : ℕ) → ((j : ℕ) → j < params → y j ≡ x j) → first_value y params i ≡ first_value x params i
+first-same x y params i same = by (ltb i params) refl where
+  by : (t : Bool) → ltb i params ≡ t → first_value y params i ≡ first_value x params i
+  by true is = ap (λ (t : Bool). cond t (y i) 0) is ∙ same i (ltb-true i params is) ∙ sym (ap (λ (t : Bool). cond t (x i) 0) is)
+  by false is = ap (λ (t : Bool). cond t (y i) 0) is ∙ sym (ap (λ (t : Bool). cond t (x i) 0) is)
 
 module _ (w : World) (low : IsLow w.image) where
   pub loaded : (ks : List ℕ) (n r : ℕ) (m : Running) → m.end ≡ None → CodeStands w m.machine.regs.pc (argument_loads r ks) → r + length ks ≤ 28 → HasSlots m.machine.regs.sp n
@@ -78,49 +82,71 @@ module _ (w : World) (low : IsLow w.image) where
             let e : r + suc i ≡ r + 1 + i = omega arith in
             ap k.machine.regs.x e ∙ l.values i (omega arith)
 
-  pub filled : (n params from room : ℕ) (m : Running) → m.end ≡ None → CodeStands w m.machine.regs.pc (local_stores params from n) → params ≤ 31
-      → HasSlots m.machine.regs.sp room → from + n < room → ((j : ℕ) → j < params → m.machine.regs.x j < 2 ^ 64) → (k : Running) × LocalsStored w.image params from n m k
-  filled zero params from room m going at few open_ fit small = (
+  pub filled : (leaf : Bool) (n params from room : ℕ) (m : Running) → m.end ≡ None → CodeStands w m.machine.regs.pc (local_stores leaf params from n) → params ≤ 19
+      → HasSlots m.machine.regs.sp room → from + n < room → ((j : ℕ) → j < params → m.machine.regs.x j < 2 ^ 64) → (k : Running) × LocalsStored w.image leaf params from n m k
+  filled leaf zero params from room m going at few open_ fit small = (
     m,
     record {
       runs = still w.image m;
       kept = record { going = going; inputs = refl; outputs = refl };
-      x = refl;
       sp = refl;
       pc = omega arith;
-      slots = λ i a b. absurd (omega arith);
+      homes = λ i a b. absurd (omega arith);
+      registers = λ j h. refl;
       others = λ a h. refl;
     },
   )
-  filled (suc n) params from room m going at few open_ fit small =
+  filled leaf (suc n) params from room m going at few open_ fit small =
       let sp : ℕ = m.machine.regs.sp in
-      let s : ℕ = sp + 8 * (from + 1) in
       let v : ℕ = reg m.machine.regs (cond (ltb from params) from 31) in
-      let m1 : Running = next_moment m (with_slot m.machine s v) in
-      let rest = filled n params (from + 1) room m1 going at.1 few open_ (omega arith) small in
-      let k : Running = rest.0 in
-      let f : LocalsStored w.image params (from + 1) n m1 k = rest.1 in
-      let is : v ≡ first_value m.machine.regs.x params from = reg-filler m.machine.regs params from (ltb from params) refl few in
+      let is : v ≡ first_value m.machine.regs.x params from = reg-filler m.machine.regs params from (ltb from params) refl (omega arith) in
       let fine : v < 2 ^ 64 = subst (λ (u : ℕ). u < 2 ^ 64) (sym is) (filler-small m.machine.regs.x params from small (ltb from params) refl) in
-      let there : word_in k.machine.memory s ≡ first_value m.machine.regs.x params from =
-      f.others s (inl (omega arith)) ∙ words_read_back m.machine.memory s v fine ∙ is in (
+      let first = writes-home w.image low leaf m (cond (ltb from params) from 31) from room going at.0 open_ (omega arith) fine in
+      let m1 : Running = first.0 in
+      let put : HomeWritten w.image leaf from v m m1 = first.1 in
+      let same : (j : ℕ) → j < params → m1.machine.regs.x j ≡ m.machine.regs.x j = λ j l. put.registers j (λ e. absurd (omega arith)) in
+      let rest = filled leaf n params (from + 1) room m1 put.kept.going (subst (λ (p : ℕ). CodeStands w p (local_stores leaf params (from + 1) n)) (sym put.pc) at.1) few
+      (subst (λ (s : ℕ). HasSlots s room) (sym put.sp) open_) (omega arith) (λ j l. subst (λ (u : ℕ). u < 2 ^ 64) (sym (same j l)) (small j l)) in
+      let k : Running = rest.0 in
+      let f : LocalsStored w.image leaf params (from + 1) n m1 k = rest.1 in (
         k,
         record {
-          runs = counted w.image (1 + n) (suc n) m k [] (omega arith)
-              (thence w.image 1 n m m1 k [] [] (str w.image low m (cond (ltb from params) from 31) (from + 1) going at.0 (slot-small sp room (from + 1) open_ (omega arith)) (slot-opens sp room (from + 1) open_ (omega arith))) f.runs);
-          kept = kept-on m m1 k (record { going = going; inputs = refl; outputs = refl }) f.kept;
-          x = f.x;
-          sp = f.sp;
-          pc = f.pc ∙ plus m.machine.regs.pc n;
-          slots = λ i a b. elim (cases_lt from i) [
-            | inl more ↦ f.slots i (omega arith) (omega arith)
-            | inr less ↦ let e : from ≡ i = omega arith in subst (λ (j : ℕ). word_in k.machine.memory (sp + 8 * (j + 1)) ≡ first_value m.machine.regs.x params j) e there
+          runs = counted w.image (1 + n) (suc n) m k [] (omega arith) (thence w.image 1 n m m1 k [] [] put.runs f.runs);
+          kept = kept-on m m1 k put.kept f.kept;
+          sp = f.sp ∙ put.sp;
+          pc = f.pc ∙ ap (λ (p : ℕ). p + 4 * n) put.pc ∙ plus m.machine.regs.pc n;
+          homes = homes m m1 k put f is same;
+          registers = λ j h. elim h [
+            | inl a ↦ f.registers j (inl (omega arith)) ∙ put.registers j (λ e. absurd (omega arith))
+            | inr a ↦ f.registers j (inr a) ∙ put.registers j (λ e. a)
           ];
           others = λ a h. elim h [
-            | inl b ↦ f.others a (inl (omega arith)) ∙ other_words_stay m.machine.memory s v a (inr (omega arith))
-            | inr b ↦ f.others a (inr (omega arith)) ∙ other_words_stay m.machine.memory s v a (inl (omega arith))
+            | inl b ↦ f.others a (inl (subst (λ (s : ℕ). a + 8 ≤ s + 8 * (from + 1 + 1)) (sym put.sp) (omega arith))) ∙ put.others a (inr (omega arith))
+            | inr b ↦ f.others a (inr (subst (λ (s : ℕ). s + 8 * (from + 1 + n + 1) ≤ a) (sym put.sp) (omega arith))) ∙ put.others a (inl (omega arith))
           ];
         },
       ) where
         plus : (p n : ℕ) → p + 4 + 4 * n ≡ p + 4 * suc n
         plus p n = omega arith
+
+        -- a home that was written first stays
+        kept-home : (m m1 k : Running) (v : ℕ) → HomeWritten w.image leaf from v m m1 → LocalsStored w.image leaf params (from + 1) n m1 k
+            → home_word k.machine.regs.x k.machine.memory m.machine.regs.sp (home_of leaf from) ≡ home_word m1.machine.regs.x m1.machine.memory m.machine.regs.sp (home_of leaf from)
+        kept-home m m1 k v put f = elim (home-cases leaf from) [
+          | inl h ↦ ap (home_word k.machine.regs.x k.machine.memory m.machine.regs.sp) h
+              ∙ f.others (m.machine.regs.sp + 8 * (from + 1)) (inl (subst (λ (s : ℕ). m.machine.regs.sp + 8 * (from + 1) + 8 ≤ s + 8 * (from + 1 + 1)) (sym put.sp) (omega arith)))
+              ∙ sym (ap (home_word m1.machine.regs.x m1.machine.memory m.machine.regs.sp) h)
+          | inr h ↦ ap (home_word k.machine.regs.x k.machine.memory m.machine.regs.sp) h.0 ∙ f.registers (19 + from) (inl (omega arith)) ∙ sym (ap (home_word m1.machine.regs.x m1.machine.memory m.machine.regs.sp) h.0)
+        ]
+
+        homes : (m m1 k : Running) → HomeWritten w.image leaf from (reg m.machine.regs (cond (ltb from params) from 31)) m m1 → LocalsStored w.image leaf params (from + 1) n m1 k
+            → reg m.machine.regs (cond (ltb from params) from 31) ≡ first_value m.machine.regs.x params from → ((j : ℕ) → j < params → m1.machine.regs.x j ≡ m.machine.regs.x j)
+            → (i : ℕ) → from ≤ i → i < from + suc n → home_word k.machine.regs.x k.machine.memory m.machine.regs.sp (home_of leaf i) ≡ first_value m.machine.regs.x params i
+        homes m m1 k put f is same i a b = elim (cases_lt from i) [
+          | inl more ↦ subst (λ (s : ℕ). home_word k.machine.regs.x k.machine.memory s (home_of leaf i) ≡ first_value m1.machine.regs.x params i) put.sp (f.homes i (omega arith) (omega arith))
+              ∙ first-same m.machine.regs.x m1.machine.regs.x params i same
+          | inr less ↦
+              let e : from ≡ i = omega arith in
+              subst (λ (j : ℕ). home_word k.machine.regs.x k.machine.memory m.machine.regs.sp (home_of leaf j) ≡ first_value m.machine.regs.x params j) e
+              (kept-home m m1 k (reg m.machine.regs (cond (ltb from params) from 31)) put f ∙ put.here ∙ is)
+        ]

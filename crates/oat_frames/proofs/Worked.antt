@@ -3,13 +3,13 @@ use Rattle.std.proofs.Common.{◌≡◌, ◌+◌, ◌^◌, ◌<◌, ℕ, zero, s
 use Rattle.std.specs.List.{slice_get, list_all}
 use Rattle.std.specs.Option.{option_and_then}
 use Rattle.oat_a64.specs.declared.inst.Inst.{Inst}
-use Rattle.oat_a64.specs.declared.inst.Inst.TheVariants.{AddImm, SubImm, SubsImm, Ldr, Str, BCond, Bl, Ret, Svc, Brk}
+use Rattle.oat_a64.specs.declared.inst.Inst.TheVariants.{OrrReg, AddImm, SubImm, SubsImm, Ldr, Str, BCond, Bl, Ret, Svc, Brk}
 use Rattle.oat_a64.specs.Fetch.{inst_of, is_word}
 use Rattle.oat_map.specs.declared.row.Row.TheVariants as rows
 use Rattle.oat_journal.specs.Run.{started}
 use Rattle.oat_asm.specs.Standing.{IsOver}
 use Rattle.oat_frames.specs.Code.{CodeStands, call_code, prologue, return_code}
-use Rattle.oat_frames.specs.Frames.{World, IsWorld}
+use Rattle.oat_frames.specs.Frames.{World, IsWorld, register}
 use Rattle.oat_frames.specs.Calls.{CallSite, IsCallAt, callee_frame}
 use Rattle.oat_frames.specs.Returns.{main_frame}
 use Rattle.oat_frames.specs.Worked.{one_call, one_call_map, one_call_world, OneCallReturns}
@@ -27,8 +27,8 @@ insts =
     SubImm 31 31 32 ∷ Str 30 31 0 ∷ Str 31 31 1 ∷ Str 31 31 2
     ∷ SubsImm 31 28 256 ∷ BCond 3 (pos 2) ∷ Brk 4 ∷ AddImm 28 28 1 ∷ Ldr 0 31 1 ∷ Bl (pos 4) ∷ SubImm 28 28 1 ∷ Str 0 31 2
     ∷ Svc 0
-    ∷ SubImm 31 31 16 ∷ Str 30 31 0 ∷ Str 0 31 1
-    ∷ Ldr 0 31 1 ∷ Ldr 30 31 0 ∷ AddImm 31 31 16 ∷ Svc 5 ∷ Ret 30 ∷ []
+    ∷ SubImm 31 31 16 ∷ Str 30 31 0 ∷ OrrReg 19 31 0
+    ∷ OrrReg 0 31 19 ∷ Ldr 30 31 0 ∷ AddImm 31 31 16 ∷ Svc 5 ∷ Ret 30 ∷ []
 
 encodable : list_all is_encodable insts ≡ true
 unfolding is_word
@@ -65,7 +65,7 @@ is-world = record {
   globals = omega arith;
 }
 
-main_starts : CodeStands w 0x10000 (prologue 0 2)
+main_starts : CodeStands w 0x10000 (prologue false 0 2)
 main_starts = (stands 0, (stands 1, (stands 2, (stands 3, tt))))
 
 abbrev the_call : CallSite
@@ -74,10 +74,10 @@ the_call = record { callee = 1; args = 0 ∷ []; result = 1 }
 main_calls : CodeStands w 0x10010 (call_code (0 ∷ []) 1 1)
 main_calls = (stands 4, (check-over, (stands 5, (stands 6, (stands 7, (stands 8, (call-over, ((pos 4, stands 9, refl), (stands 10, (stands 11, tt))))))))))
 
-same_starts : CodeStands w 0x10034 (prologue 1 1)
+same_starts : CodeStands w 0x10034 (prologue true 1 1)
 same_starts = (stands 13, (stands 14, (stands 15, tt)))
 
-same_returns : CodeStands w 0x10040 (return_code 1 0)
+same_returns : CodeStands w 0x10040 (return_code 1 (register 19))
 same_returns = (stands 16, (stands 17, (stands 18, (ret-over, (stands 19, (stands 20, tt))))))
 
 is-call : IsCallAt w (main_frame 0) the_call
@@ -86,8 +86,8 @@ is-call = record {
   next = refl;
   is = refl;
   few = omega arith;
-  caller_slots = λ i h. refl;
-  function = record { start = same_starts; slots = λ i h. refl };
+  caller_slots = refl;
+  function = record { start = same_starts };
   locals = λ i h. zero-only i h;
   types = λ i h. refl;
 } where
@@ -97,10 +97,10 @@ is-call = record {
 
 pub one-call-returns : OneCallReturns
 one-call-returns =
-    let s = start-leads w is-world 0 [] (λ i. 0) (λ i h. refl) refl main_starts refl (λ i h. absurd (omega arith)) in
+    let s = start-leads w is-world 0 [] (λ i. 0) refl main_starts refl (λ i h. absurd (omega arith)) in
     let c = calls-lead w is-world (main_frame 0) [] (λ i. 0) the_call s.to s.is_at (lit< tt) is-call refl in
     let r = returns-lead w is-world (callee_frame the_call (main_frame 0)) (main_frame 0) [] (λ i. 0) 0 1 c.to c.is_at same_returns
-    (record { slots = λ i h. refl; from_local = lit< tt; result = refl; caller_slots = λ i h. refl; to_local = lit< tt; types = refl }) in (
+    (record { from_local = lit< tt; result = refl; caller_slots = refl; to_local = lit< tt; types = refl }) in (
       _,
       s.count + (c.count + r.count),
       r.to,

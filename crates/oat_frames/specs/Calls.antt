@@ -31,8 +31,7 @@ prologue_end w func = w.label func + 8 + 4 * w.locals func
 
 -- a function with so many parameters
 pub record IsFunctionAt (w : World) (callee params : ℕ) : Type 0 where
-  pub start : CodeStands w (w.label callee) (prologue params (w.locals callee))
-  pub slots : IsSlotted w callee
+  pub start : CodeStands w (w.label callee) (prologue (w.is_leaf callee) params (w.locals callee))
 
 -- The callee's frame is laid, and the run stands behind its prologue.
 pub record IsBehindPrologue (w : World) (f : Frame) (callers : List Frame) (globals : ℕ → ℕ) (c : CallSite) (m : Running) : Type 0 where

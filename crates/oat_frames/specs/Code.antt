@@ -1,26 +1,47 @@
 -- The code of a call, of a function's start and of a return, as items (the instructions are those of the Arm A64 manual).
-use Rattle.std.specs.Prelude.{◌+◌, ℕ, zero, suc, pos, nat_lt, if◌then◌else◌, List, [], ◌∷◌, ◌++◌, length}
-use Rattle.oat_a64.specs.declared.inst.Inst.TheVariants.{AddImm, SubImm, SubsImm, Ldr, Str, BCond, Cbnz, Brk, Svc, Blr, Ret}
+use Rattle.std.specs.Prelude.{◌+◌, ◌<◌, ℕ, Bool, zero, suc, pos, nat_lt, if◌then◌else◌, List, [], ◌∷◌, ◌++◌, length}
+use Rattle.oat_a64.specs.declared.inst.Inst.{Inst}
+use Rattle.oat_a64.specs.declared.inst.Inst.TheVariants.{OrrReg, AddImm, SubImm, SubsImm, Ldr, Str, BCond, Cbnz, Brk, Svc, Blr, Ret}
 use Rattle.oat_asm.specs.declared.branch_form.BranchForm.TheVariants.{Bl}
 use Rattle.oat_asm.specs.declared.item.Item.{Item}
 use Rattle.oat_asm.specs.declared.item.Item.TheVariants as item
 use Rattle.oat_asm.specs.declared.note.Note.TheVariants as note
 use Rattle.oat_asm.specs.Standing.{ItemsStand}
-use Rattle.oat_frames.specs.Frames.{World, frame_size}
+use Rattle.oat_frames.specs.Frames.{World, Home, slot, register, home_of, frame_size}
 
 -- items stand in the image of a compiled program, from an address on
 abbrev pub CodeStands : World → ℕ → List Item → Type 0
 CodeStands w p is = ItemsStand w.image w.label p is
 
--- loads of these locals into registers from one on
+-- a register from where a local is held, and into it: a load or store off SP, or a move, which is ORR with the register that reads as zero
+abbrev pub load_inst : ℕ → Home → Inst
+load_inst r (slot k) = Ldr r 31 k
+load_inst r (register q) = OrrReg r 31 q
+
+abbrev pub store_inst : ℕ → Home → Inst
+store_inst r (slot k) = Str r 31 k
+store_inst r (register q) = OrrReg q 31 r
+
+abbrev pub home_load : ℕ → Home → Item
+home_load r home = item.Inst (load_inst r home)
+
+abbrev pub home_store : ℕ → Home → Item
+home_store r home = item.Inst (store_inst r home)
+
+-- an instruction has room for the number of a home's slot or register
+abbrev pub IsHome : Home → Type 0
+IsHome (slot k) = k < 256
+IsHome (register q) = q < 31
+
+-- loads of these locals from their slots into registers from one on
 abbrev pub argument_loads : ℕ → List ℕ → List Item
 argument_loads r [] = []
 argument_loads r (k ∷ ks) = item.Inst (Ldr r 31 (k + 1)) ∷ argument_loads (r + 1) ks
 
--- stores into the slots of n locals from one on: of parameters, then of zeros, since register 31 reads as zero
-abbrev pub local_stores : ℕ → ℕ → ℕ → List Item
-local_stores params from zero = []
-local_stores params from (suc n) = item.Inst (Str (if nat_lt from params then from else 31) 31 (from + 1)) ∷ local_stores params (from + 1) n
+-- stores into the homes of n locals from one on: of parameters, then of zeros, since register 31 reads as zero
+abbrev pub local_stores : (leaf : Bool) → ℕ → ℕ → ℕ → List Item
+local_stores leaf params from zero = []
+local_stores leaf params from (suc n) = home_store (if nat_lt from params then from else 31) (home_of leaf from) ∷ local_stores leaf params (from + 1) n
 
 -- what a caller does behind the call
 abbrev pub behind_call : ℕ → List Item
@@ -42,11 +63,11 @@ icall_code args from result =
     ∷ depth_tested args (item.Note (note.ICall (length args)) ∷ item.Inst (Svc 4) ∷ item.Inst (Blr 9) ∷ behind_call result)
 
 -- a function's start
-abbrev pub prologue : ℕ → ℕ → List Item
-prologue params locals = item.Inst (SubImm 31 31 (frame_size locals)) ∷ item.Inst (Str 30 31 0) ∷ local_stores params 0 locals
+abbrev pub prologue : (leaf : Bool) (params locals : ℕ) → List Item
+prologue leaf params locals = item.Inst (SubImm 31 31 (frame_size locals)) ∷ item.Inst (Str 30 31 0) ∷ local_stores leaf params 0 locals
 
 -- the result, X30, the frame's end, and the group of a return
-abbrev pub return_code : ℕ → ℕ → List Item
+abbrev pub return_code : (locals : ℕ) → Home → List Item
 return_code locals result =
-    item.Inst (Ldr 0 31 (result + 1)) ∷ item.Inst (Ldr 30 31 0) ∷ item.Inst (AddImm 31 31 (frame_size locals))
+    home_load 0 result ∷ item.Inst (Ldr 30 31 0) ∷ item.Inst (AddImm 31 31 (frame_size locals))
     ∷ item.Note note.Ret ∷ item.Inst (Svc 5) ∷ item.Inst (Ret 30) ∷ []

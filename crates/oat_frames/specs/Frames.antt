@@ -1,5 +1,5 @@
 -- The relation of a compiled program's run to its source: where each value is held, and how the frames of the active calls lie in the stack. Frames are this compiler's own; of the AAPCS64 they take that X0 to X3 pass arguments, X0 a result, X30 a return address, and that SP stays a multiple of 16, and nothing else.
-use Rattle.std.specs.Prelude.{◌≡◌, ◌+◌, ◌-◌, ◌*◌, ◌/◌, ◌%◌, ◌^◌, ◌<◌, ◌≤◌, ◌⊎◌, ℕ, Bool, true, nat_eq, if◌then◌else◌, List, [], ◌∷◌, length, Option, Some, None, ⊤}
+use Rattle.std.specs.Prelude.{◌≡◌, ◌+◌, ◌-◌, ◌*◌, ◌/◌, ◌%◌, ◌^◌, ◌<◌, ◌≤◌, ◌⊎◌, ℕ, Bool, true, nat_eq, nat_lt, ◌&&◌, false, if◌then◌else◌, List, [], ◌∷◌, length, Option, Some, None, ⊤}
 use Rattle.std.specs.List.{list_any}
 use Rattle.oat_a64.specs.declared.inst.Inst.{Inst}
 use Rattle.oat_a64.specs.declared.inst.Inst.TheVariants.{SubImm, Str}
@@ -21,16 +21,20 @@ abbrev pub home_word : (ℕ → ℕ) → (ℕ → ℕ) → ℕ → Home → ℕ
 home_word x memory sp (slot k) = word_in memory (sp + 8 * k)
 home_word x memory sp (register r) = x r
 
+-- A leaf, which calls nothing, has its first eight locals in X19 to X26. Every other local has a slot: slot 0 holds X30, and local i has the slot behind those of the locals before it.
+abbrev pub home_of : (leaf : Bool) → ℕ → Home
+home_of leaf i = if leaf && nat_lt i 8 then register (19 + i) else slot (i + 1)
+
 -- A compiled program: its image and the address of each label (a function has its number), its locals, and where its lines stand.
 pub record World : Type 0 where
   pub image : Image
   pub label : ℕ → ℕ
   -- whether a reference with so many parameters may name a function
   pub may_name : ℕ → ℕ → Bool
-  -- by function: how many locals; by function and local: type and home
+  -- by function: how many locals, and whether it is a leaf; by function and local: the type
   pub locals : ℕ → ℕ
+  pub is_leaf : ℕ → Bool
   pub ty : ℕ → ℕ → Ty
-  pub home : ℕ → ℕ → Home
   -- by function, block and line: the address of its code, and where the result of the call there goes
   pub place : ℕ → ℕ → ℕ → ℕ
   pub result : ℕ → ℕ → ℕ → Option ℕ
@@ -38,7 +42,7 @@ pub record World : Type 0 where
   pub globals : ℕ
   pub global_ty : ℕ → Ty
 
--- slot 0 holds X30, and each local has one
+-- slots for X30 and for each local
 abbrev pub frame_size : ℕ → ℕ
 frame_size locals = 16 * ((locals + 2) / 2)
 
@@ -52,9 +56,9 @@ pub record IsWorld (w : World) : Type 0 where
   pub few : (f : ℕ) → w.locals f ≤ 255
   pub globals : w.globals ≤ 65536
 
--- all locals of a function have slots, as where it calls
+-- all locals of a function that calls have slots
 abbrev pub IsSlotted : World → ℕ → Type 0
-IsSlotted w f = (i : ℕ) → i < w.locals f → w.home f i ≡ slot (i + 1)
+IsSlotted w f = w.is_leaf f ≡ false
 
 -- ---- values
 
@@ -76,7 +80,11 @@ pub record Represents (w : World) (ty : Ty) (value word : ℕ) : Type 0 where
 
 -- The locals of a function are held in the frame at sp, or in registers. By function and values alone, so that it computes where only the line changes.
 abbrev pub FrameAt : World → (ℕ → ℕ) → (ℕ → ℕ) → ℕ → ℕ → (ℕ → ℕ) → Type 0
-FrameAt w x memory sp func locals = (i : ℕ) → i < w.locals func → Represents w (w.ty func i) (locals i) (home_word x memory sp (w.home func i))
+FrameAt w x memory sp func locals = (i : ℕ) → i < w.locals func → Represents w (w.ty func i) (locals i) (home_word x memory sp (home_of (w.is_leaf func) i))
+
+-- where a local of a frame is held
+abbrev pub home_in : World → Frame → ℕ → Home
+home_in w f x = home_of (w.is_leaf f.func) x
 
 -- the address of a frame's line, and that behind the group of its call, two instructions before the next line
 abbrev pub line_address : World → Frame → ℕ

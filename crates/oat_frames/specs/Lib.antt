@@ -1,5 +1,6 @@
 pub mod Moments
 pub mod Frames
+pub mod Leaves
 pub mod Comes
 pub mod Code
 pub mod Phases

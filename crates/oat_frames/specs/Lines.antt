@@ -5,13 +5,12 @@ use Rattle.oat_asm.specs.Items.{words_needed}
 use Rattle.oat_ir.specs.declared.func.Ty.TheVariants.{I64}
 use Rattle.oat_check.specs.Steps.{Frame}
 use Rattle.oat_frames.specs.Code.{CodeStands}
-use Rattle.oat_frames.specs.Frames.{World, IsSlotted, line_address}
+use Rattle.oat_frames.specs.Frames.{World, line_address}
 
 -- the code of the line at which a frame stands, with the next line behind it
 pub record IsLineAt (w : World) (f : Frame) (is : List Item) : Type 0 where
   pub code : CodeStands w (line_address w f) is
   pub next : w.place f.func f.block (f.line + 1) ≡ line_address w f + 4 * words_needed is
-  pub slots : IsSlotted w f.func
 
 -- a local is a number
 pub record IsNumberLocal (w : World) (f : Frame) (x : ℕ) : Type 0 where
@@ -40,7 +39,7 @@ pub record IsBlockAt (w : World) (func block label : ℕ) (codes : List (List It
 abbrev pub LinesStand : Type 0
 LinesStand =
     (w : World) (f : Frame) (label : ℕ) (codes : List (List Item)) (is : List Item)
-    → IsBlockAt w f.func f.block label codes → slice_get codes f.line ≡ Some is → IsSlotted w f.func → IsLineAt w f is
+    → IsBlockAt w f.func f.block label codes → slice_get codes f.line ≡ Some is → IsLineAt w f is
 
 -- where no line has more than n words, the block has at most n for each
 abbrev pub WordsAddUp : Type 0

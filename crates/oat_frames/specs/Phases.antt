@@ -1,9 +1,10 @@
 -- What the parts of a call leave: runs of loads and of stores, each as one record.
-use Rattle.std.specs.Prelude.{◌≡◌, ◌+◌, ◌*◌, ◌%◌, ◌<◌, ◌≤◌, ◌⊎◌, ℕ, nat_lt, if◌then◌else◌, List, [], length, get_or}
+use Rattle.std.specs.Prelude.{◌≡◌, ◌+◌, ◌*◌, ◌%◌, ◌<◌, ◌≤◌, ◌⊎◌, ℕ, Bool, nat_lt, if◌then◌else◌, List, [], length, get_or}
 use Rattle.oat_image.specs.declared.image.Image.{Image}
 use Rattle.oat_mem.specs.DataMemory.{word_in}
 use Rattle.oat_journal.specs.Run.{Running}
 use Rattle.oat_follow.specs.Reaching.{RunsTo}
+use Rattle.oat_frames.specs.Frames.{home_of, home_word}
 use Rattle.oat_frames.specs.Moments.{KeepsGoing}
 
 -- n slots from a stack pointer on can be read and written
@@ -26,14 +27,14 @@ pub record ArgumentsLoaded (image : Image) (r : ℕ) (ks : List ℕ) (m k : Runn
 abbrev pub first_value : (ℕ → ℕ) → ℕ → ℕ → ℕ
 first_value x params i = if nat_lt i params then x i else 0
 
--- n slots from one on are filled
-pub record LocalsStored (image : Image) (params from n : ℕ) (m k : Running) : Type 0 where
+-- n homes from one on are filled, and registers other than theirs stay
+pub record LocalsStored (image : Image) (leaf : Bool) (params from n : ℕ) (m k : Running) : Type 0 where
   pub runs : RunsTo image n m k []
   pub kept : KeepsGoing m k
-  pub x : k.machine.regs.x ≡ m.machine.regs.x
   pub sp : k.machine.regs.sp ≡ m.machine.regs.sp
   pub pc : k.machine.regs.pc ≡ m.machine.regs.pc + 4 * n
-  pub slots : (i : ℕ) → from ≤ i → i < from + n → word_in k.machine.memory (m.machine.regs.sp + 8 * (i + 1)) ≡ first_value m.machine.regs.x params i
+  pub homes : (i : ℕ) → from ≤ i → i < from + n → home_word k.machine.regs.x k.machine.memory m.machine.regs.sp (home_of leaf i) ≡ first_value m.machine.regs.x params i
+  pub registers : (j : ℕ) → (j < 19 + from) ⊎ (27 ≤ j) → k.machine.regs.x j ≡ m.machine.regs.x j
   pub others : (a : ℕ) → (a + 8 ≤ m.machine.regs.sp + 8 * (from + 1)) ⊎ (m.machine.regs.sp + 8 * (from + n + 1) ≤ a) → word_in k.machine.memory a ≡ word_in m.machine.memory a
 
 -- tested, counted, and the arguments in their registers
@@ -47,13 +48,13 @@ pub record CallCounted (image : Image) (args : List ℕ) (m k : Running) : Type 
   pub nine : k.machine.regs.x 9 ≡ m.machine.regs.x 9
   pub values : (i : ℕ) → i < length args → k.machine.regs.x i ≡ word_in m.machine.memory (m.machine.regs.sp + 8 * (get_or args i 0 + 1))
 
--- the frame of a function with so many locals is laid: X30 and each local in its slot, and else the words as they were
-pub record FrameLaid (image : Image) (params locals size : ℕ) (m k : Running) : Type 0 where
+-- the frame of a function with so many locals is laid: X30 in its slot and each local in its home, and else registers and words as they were
+pub record FrameLaid (image : Image) (leaf : Bool) (params locals size : ℕ) (m k : Running) : Type 0 where
   pub runs : RunsTo image (2 + locals) m k []
   pub kept : KeepsGoing m k
-  pub x : k.machine.regs.x ≡ m.machine.regs.x
+  pub registers : (j : ℕ) → (j < 19) ⊎ (27 ≤ j) → k.machine.regs.x j ≡ m.machine.regs.x j
   pub sp : k.machine.regs.sp + size ≡ m.machine.regs.sp
   pub pc : k.machine.regs.pc ≡ m.machine.regs.pc + 8 + 4 * locals
   pub saved : word_in k.machine.memory k.machine.regs.sp ≡ m.machine.regs.x 30
-  pub slots : (i : ℕ) → i < locals → word_in k.machine.memory (k.machine.regs.sp + 8 * (i + 1)) ≡ first_value m.machine.regs.x params i
+  pub homes : (i : ℕ) → i < locals → home_word k.machine.regs.x k.machine.memory k.machine.regs.sp (home_of leaf i) ≡ first_value m.machine.regs.x params i
   pub others : (a : ℕ) → (a + 8 ≤ k.machine.regs.sp) ⊎ (m.machine.regs.sp ≤ a) → word_in k.machine.memory a ≡ word_in m.machine.memory a

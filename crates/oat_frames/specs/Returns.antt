@@ -6,14 +6,13 @@ use Rattle.oat_check.specs.Steps.{Frame}
 use Rattle.oat_follow.specs.Events.{MachineEvent, moves}
 use Rattle.oat_follow.specs.Reaching.{RunsTo}
 use Rattle.oat_frames.specs.Moments.{KeepsGoing}
-use Rattle.oat_frames.specs.Frames.{World, IsWorld, IsSlotted, IsAt, HoldsState, GlobalsAt, line_address, return_address}
+use Rattle.oat_frames.specs.Frames.{World, IsWorld, IsSlotted, IsAt, HoldsState, GlobalsAt, home_in, line_address, return_address}
 use Rattle.oat_frames.specs.Comes.{StepsTo, with_result}
 use Rattle.oat_frames.specs.Calls.{prologue_end}
 use Rattle.oat_frames.specs.Code.{CodeStands, prologue, return_code}
 
 -- a return of a local whose type is that of the caller's result
 pub record IsReturnOf (w : World) (f g : Frame) (from to : ℕ) : Type 0 where
-  pub slots : IsSlotted w f.func
   pub from_local : from < w.locals f.func
   pub result : w.result g.func g.block g.line ≡ Some to
   pub caller_slots : IsSlotted w g.func
@@ -35,13 +34,13 @@ abbrev pub ReturnsComeBack : Type 0
 ReturnsComeBack =
     (w : World) → IsWorld w → (f g : Frame) (callers : List Frame) (globals : ℕ → ℕ) (from to at : ℕ) (m : Running)
     → m.end ≡ None → m.machine.regs.pc ≡ at → HoldsState w f.func f.locals (g ∷ callers) globals m.machine.regs.x m.machine.regs.sp m.machine.memory
-    → CodeStands w at (return_code (w.locals f.func) from) → IsReturnOf w f g from to
+    → CodeStands w at (return_code (w.locals f.func) (home_in w f from)) → IsReturnOf w f g from to
     → ReturnComesBack w f g callers globals from to at m
 
 abbrev pub ReturnsLead : Type 0
 ReturnsLead =
     (w : World) → IsWorld w → (f g : Frame) (callers : List Frame) (globals : ℕ → ℕ) (from to : ℕ) (m : Running)
-    → IsAt w f (g ∷ callers) globals m → CodeStands w (line_address w f) (return_code (w.locals f.func) from) → IsReturnOf w f g from to
+    → IsAt w f (g ∷ callers) globals m → CodeStands w (line_address w f) (return_code (w.locals f.func) (home_in w f from)) → IsReturnOf w f g from to
     → StepsTo w 7 (with_result g to (f.locals from)) callers globals (return_edge w g (line_address w f) ∷ []) m
 
 -- ---- the start
@@ -53,6 +52,6 @@ main_frame main = record { func = main; block = 0; line = 0; locals = λ i. 0 }
 abbrev pub StartLeads : Type 0
 StartLeads =
     (w : World) → IsWorld w → (main : ℕ) (inputs : List ℤ) (globals : ℕ → ℕ)
-    → IsSlotted w main → w.label main ≡ 0x10000 → CodeStands w 0x10000 (prologue 0 (w.locals main)) → w.place main 0 0 ≡ prologue_end w main
+    → w.label main ≡ 0x10000 → CodeStands w 0x10000 (prologue (w.is_leaf main) 0 (w.locals main)) → w.place main 0 0 ≡ prologue_end w main
     → GlobalsAt w (start_memory w.image.words) globals
     → StepsTo w 257 (main_frame main) [] globals [] (started w.image inputs)

@@ -1,5 +1,5 @@
 -- The smallest image with a call: main calls a function with one argument, which gives it back.
-use Rattle.std.specs.Prelude.{◌+◌, ℕ, false, nat_eq, if◌then◌else◌, [], ◌∷◌, Some, None, codes}
+use Rattle.std.specs.Prelude.{◌+◌, ℕ, false, not, nat_eq, if◌then◌else◌, [], ◌∷◌, Some, None, codes}
 use Rattle.oat_image.specs.declared.image.Image.{Image}
 use Rattle.oat_map.specs.declared.map.Map.{Map}
 use Rattle.oat_map.specs.declared.edge.Edge.TheVariants as edges
@@ -7,7 +7,7 @@ use Rattle.oat_map.specs.declared.row.Row.TheVariants as rows
 use Rattle.oat_journal.specs.Run.{Running, started}
 use Rattle.oat_follow.specs.Events.{moves}
 use Rattle.oat_ir.specs.declared.func.Ty.TheVariants.{I64}
-use Rattle.oat_frames.specs.Frames.{World, slot, IsAt}
+use Rattle.oat_frames.specs.Frames.{World, IsAt}
 use Rattle.oat_follow.specs.Reaching.{RunsTo}
 
 abbrev pub one_call_map : Map
@@ -23,14 +23,14 @@ one_call = record {
       0xD10083FF ∷ 0xF90003FE ∷ 0xF90007FF ∷ 0xF9000BFF
       ∷ 0xF104039F ∷ 0x54000043 ∷ 0xD4200080 ∷ 0x9100079C ∷ 0xF94007E0 ∷ 0x94000004 ∷ 0xD100079C ∷ 0xF9000BE0
       ∷ 0xD4000001
-      ∷ 0xD10043FF ∷ 0xF90003FE ∷ 0xF90007E0
-      ∷ 0xF94007E0 ∷ 0xF94003FE ∷ 0x910043FF ∷ 0xD40000A1 ∷ 0xD65F03C0 ∷ [];
+      ∷ 0xD10043FF ∷ 0xF90003FE ∷ 0xAA0003F3
+      ∷ 0xAA1303E0 ∷ 0xF94003FE ∷ 0x910043FF ∷ 0xD40000A1 ∷ 0xD65F03C0 ∷ [];
   words = [];
   cells = [];
   map = one_call_map;
 }
 
--- main is function 0 with the locals n and s, and its block is the call `s same n` and `halt`; same is function 1 with the local v, and its block is `ret v`
+-- main is function 0 with the locals n and s, and its block is the call `s same n` and `halt`; same is function 1 with the local v, and its block is `ret v`: a leaf, whose local stands in X19
 abbrev pub one_call_world : World
 one_call_world = record {
   image = one_call;
@@ -38,7 +38,7 @@ one_call_world = record {
   may_name = λ f k. false;
   locals = λ f. if nat_eq f 0 then 2 else 1;
   ty = λ f i. I64;
-  home = λ f i. slot (i + 1);
+  is_leaf = λ f. not (nat_eq f 0);
   place = λ f b l. if nat_eq f 0 then (if nat_eq l 0 then 0x10010 else 0x10030) else 0x10040;
   result = λ f b l. if nat_eq f 0 then Some 1 else None;
   globals = 0;

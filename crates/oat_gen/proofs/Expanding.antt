@@ -17,11 +17,10 @@ use Rattle.oat_ir.specs.declared.instr.BinOp.{BinOp}
 use Rattle.oat_ir.specs.declared.instr.BinOp.TheVariants.{Add, Sub, Mul, And, Or, Xor, Shl, Shr, Sar, Eq, Ne, Lt, Le, Ltu, Leu, Div, Rem, Divu, Remu}
 use Rattle.oat_check.specs.Lines.{CodeLine, instruction, terminator, line_in}
 use Rattle.oat_parts.proofs.Lists.{get_before, map_get}
-use Rattle.oat_frames.specs.Code.{argument_loads, local_stores, depth_tested, behind_call, prologue}
-use Rattle.oat_frames.specs.Frames.{frame_size}
+use Rattle.oat_frames.specs.Code.{home_load, home_store, argument_loads, local_stores, depth_tested, behind_call, prologue}
+use Rattle.oat_frames.specs.Frames.{Home, slot, register, home_of, frame_size}
 use Rattle.oat_frames.specs.Lines.{lines_code}
-use Rattle.oat_locals.specs.Code.{binary_code}
-use Rattle.oat_globals.specs.Code.{slot_load}
+use Rattle.oat_locals.specs.Code.{operand_in, operand_load, operand_store, operation_code, binary_code}
 use Rattle.oat_globals.specs.Operations.{begin_code, start_code, leave_code}
 use Rattle.oat_gen.specs.Marked.{begin_mark, marked_start, marked_return}
 use Rattle.oat_gen.specs.Code.{line_code, code_lines}
@@ -29,9 +28,9 @@ use Rattle.oat_gen.specs.Laws.{MarkedCodeExpands, OtherCodeStays, BlocksExpandBy
 
 -- ---- lines
 
-stores_stay : (params from n : ℕ) (is : List Item) → expansion (local_stores params from n ++ is) ≡ local_stores params from n ++ expansion is
-stores_stay params from zero is = refl
-stores_stay params from (suc n) is = ap (λ (js : List Item). item.Inst (Str (if nat_lt from params then from else 31) 31 (from + 1)) ∷ js) (stores_stay params (from + 1) n is)
+stores_stay : (leaf : Bool) (params from n : ℕ) (is : List Item) → expansion (local_stores leaf params from n ++ is) ≡ local_stores leaf params from n ++ expansion is
+stores_stay leaf params from zero is = refl
+stores_stay leaf params from (suc n) is = ap (λ (js : List Item). home_store (if nat_lt from params then from else 31) (home_of leaf from) ∷ js) (stores_stay leaf params (from + 1) n is)
 
 loads_stay : (r : ℕ) (args : List ℕ) (is : List Item) → expansion (argument_loads r args ++ is) ≡ argument_loads r args ++ expansion is
 loads_stay r [] is = refl
@@ -41,12 +40,12 @@ begins : (op : Option ℕ) → expansion (begin_mark op) ≡ begin_code op
 begins None = refl
 begins (Some op) = refl
 
-starts : (params locals : ℕ) (op : Option ℕ) → expansion (marked_start params locals op) ≡ start_code params locals op
-starts params locals op =
-    ap (λ (js : List Item). item.Inst (SubImm 31 31 (frame_size locals)) ∷ item.Inst (Str 30 31 0) ∷ js) (stores_stay params 0 locals (begin_mark op))
-    ∙ ap (λ (js : List Item). prologue params locals ++ js) (begins op)
+starts : (leaf : Bool) (params locals : ℕ) (op : Option ℕ) → expansion (marked_start leaf params locals op) ≡ start_code leaf params locals op
+starts leaf params locals op =
+    ap (λ (js : List Item). item.Inst (SubImm 31 31 (frame_size locals)) ∷ item.Inst (Str 30 31 0) ∷ js) (stores_stay leaf params 0 locals (begin_mark op))
+    ∙ ap (λ (js : List Item). prologue leaf params locals ++ js) (begins op)
 
-leaves : (locals from : ℕ) (op : Option ℕ) → expansion (marked_return locals from op) ≡ leave_code locals from op
+leaves : (locals : ℕ) (from : Home) (op : Option ℕ) → expansion (marked_return locals from op) ≡ leave_code locals from op
 leaves locals from None = refl
 leaves locals from (Some op) = refl
 
@@ -60,7 +59,7 @@ marked_code_expands = record {
   leave = leaves;
   call = λ args callee result. depth args (item.Mark (mark.Call callee) ∷ behind_call result);
   icall = λ args from result.
-      ap (λ (js : List Item). slot_load 9 from ∷ item.Note note.Check ∷ item.Inst (Cbnz 9 (pos 2)) ∷ item.Inst (Brk 3) ∷ js)
+      ap (λ (js : List Item). home_load 9 (slot (from + 1)) ∷ item.Note note.Check ∷ item.Inst (Cbnz 9 (pos 2)) ∷ item.Inst (Brk 3) ∷ js)
       (depth args (item.Mark (mark.ICall (length args)) ∷ behind_call result));
   jump = λ to. refl;
   branch = λ x first second. refl;
@@ -70,26 +69,42 @@ marked_code_expands = record {
   storex = λ word cell len i x. refl;
 }
 
-binaries : (op : BinOp) (x y z : ℕ) → expansion (binary_code op x y z) ≡ binary_code op x y z
-binaries Add x y z = refl
-binaries Sub x y z = refl
-binaries Mul x y z = refl
-binaries And x y z = refl
-binaries Or x y z = refl
-binaries Xor x y z = refl
-binaries Shl x y z = refl
-binaries Shr x y z = refl
-binaries Sar x y z = refl
-binaries Eq x y z = refl
-binaries Ne x y z = refl
-binaries Lt x y z = refl
-binaries Le x y z = refl
-binaries Ltu x y z = refl
-binaries Leu x y z = refl
-binaries Div x y z = refl
-binaries Rem x y z = refl
-binaries Divu x y z = refl
-binaries Remu x y z = refl
+operands_stay : (r : ℕ) (home : Home) (is : List Item) → expansion (operand_load r home ++ is) ≡ operand_load r home ++ expansion is
+operands_stay r (slot k) is = refl
+operands_stay r (register q) is = refl
+
+results_stay : (r : ℕ) (home : Home) → expansion (operand_store r home) ≡ operand_store r home
+results_stay r (slot k) = refl
+results_stay r (register q) = refl
+
+operations_stay : (op : BinOp) (d a b : ℕ) (is : List Item) → expansion (operation_code op d a b ++ is) ≡ operation_code op d a b ++ expansion is
+operations_stay Add d a b is = refl
+operations_stay Sub d a b is = refl
+operations_stay Mul d a b is = refl
+operations_stay And d a b is = refl
+operations_stay Or d a b is = refl
+operations_stay Xor d a b is = refl
+operations_stay Shl d a b is = refl
+operations_stay Shr d a b is = refl
+operations_stay Sar d a b is = refl
+operations_stay Eq d a b is = refl
+operations_stay Ne d a b is = refl
+operations_stay Lt d a b is = refl
+operations_stay Le d a b is = refl
+operations_stay Ltu d a b is = refl
+operations_stay Leu d a b is = refl
+operations_stay Div d a b is = refl
+operations_stay Rem d a b is = refl
+operations_stay Divu d a b is = refl
+operations_stay Remu d a b is = refl
+
+binaries : (op : BinOp) (x y z : Home) → expansion (binary_code op x y z) ≡ binary_code op x y z
+binaries op x y z =
+    let code : List Item = operation_code op (operand_in 9 x) (operand_in 9 y) (operand_in 10 z) in
+    operands_stay 9 y (operand_load 10 z ++ (code ++ operand_store 9 x))
+    ∙ ap (λ (js : List Item). operand_load 9 y ++ js) (operands_stay 10 z (code ++ operand_store 9 x))
+    ∙ ap (λ (js : List Item). operand_load 9 y ++ (operand_load 10 z ++ js)) (operations_stay op (operand_in 9 x) (operand_in 9 y) (operand_in 10 z) (operand_store 9 x))
+    ∙ ap (λ (js : List Item). operand_load 9 y ++ (operand_load 10 z ++ (code ++ js))) (results_stay 9 x)
 
 pub other_code_stays : OtherCodeStays
 other_code_stays = record {

@@ -6,7 +6,7 @@ use Rattle.std.proofs.lemmas.Bool.{and_parts, false≢true}
 use Rattle.std.proofs.lemmas.Option.{slice_get_cases}
 use Rattle.std.proofs.lemmas.List.{length-map}
 use Rattle.std.proofs.lemmas.List.Elements.{All-contains, Contains-append_cases}
-use Rattle.oat_a64.specs.declared.inst.Inst.TheVariants.{Ldr, Str}
+use Rattle.oat_a64.specs.declared.inst.Inst.TheVariants.{Ldr}
 use Rattle.oat_asm.specs.declared.mark.Mark.TheVariants as mark
 use Rattle.oat_image.specs.Grammar.{IsOperationNumber}
 use Rattle.oat_ir.specs.declared.program.Program.{Program}
@@ -36,9 +36,12 @@ use Rattle.oat_parts.proofs.Lists.{first_in, later_in, cons_cases, not_in_none, 
 use Rattle.oat_symbols.specs.Programs.{symbols_of, label_of_block, HasItsLabels, HasItsCells, ProgramsHaveTheirLabels, ProgramsHaveTheirCells}
 use Rattle.oat_symbols.specs.Codes.{IsCodeOf}
 use Rattle.oat_symbols.proofs.Elements.{numbered}
-use Rattle.oat_locals.specs.Code.{const_code, copy_code, input_code, output_code, halt_code}
+use Rattle.oat_locals.specs.Code.{halt_code}
 use Rattle.oat_locals.proofs.LineLaws.{lines-are-in-range}
-use Rattle.oat_globals.specs.Code.{slot_store}
+use Rattle.oat_frames.specs.Code.{IsHome, home_store}
+use Rattle.oat_frames.specs.Frames.{home_of}
+use Rattle.oat_frames.specs.Leaves.{is_leaf}
+use Rattle.oat_frames.proofs.FrameLaws.{is-home}
 use Rattle.oat_gen.specs.declared.globals.GlobalPlace.{GlobalPlace}
 use Rattle.oat_gen.specs.GlobalPlaces.{global_places, place_in, placed}
 use Rattle.oat_gen.specs.Code.{instruction_code, terminator_code, line_code, code_lines, block_code, function_code}
@@ -46,7 +49,7 @@ use Rattle.oat_gen.specs.Laws.{FunctionsHaveTheirCode}
 use Rattle.oat_gen.proofs.Bounds.{few_locals}
 use Rattle.oat_gen.proofs.Placing.{globals_have_their_places}
 use Rattle.oat_gen.proofs.Stretches.{Made, nothing, inst_then, check_now, plain_then, reference_then, mark_then, lines_made}
-use Rattle.oat_gen.proofs.LineParts.{binary_made, loads_slot, stores_slot, tested_made, followed, return_made, start_made, IsScalarPlace, IsArrayPlace, load_made, store_made, element_made, element_stored}
+use Rattle.oat_gen.proofs.LineParts.{load_then, store_last, const_made, copy_made, input_made, output_made, binary_made, loads_slot, tested_made, followed, return_made, start_made, IsScalarPlace, IsArrayPlace, load_made, store_made, element_made, element_stored}
 use Rattle.oat_gen.proofs.Words.{block_words, some_words}
 
 first_holds : (a b c : Bool) → (a && b && c) ≡ true → a ≡ true
@@ -143,25 +146,27 @@ module _ (labelled : ProgramsHaveTheirLabels) (celled : ProgramsHaveTheirCells) 
     in_slots : (args : List ℕ) → All (HasLocal func) args → (k : ℕ) → Contains args k → k < 255
     in_slots args all k has = slotted k (All-contains (HasLocal func) args k all has)
 
-    instruction_made : (i : Instr) → IsInstr p func i → IsAllowed p func (instruction i) → Made table [] (instruction_code places i)
-    instruction_made (Const x value) h k = plain_then table [] (const_code x value) [] refl (lines-are-in-range.const x value (slotted x h)) (λ r. nothing table)
-    instruction_made (Copy x y) h k = plain_then table [] (copy_code x y) [] refl (lines-are-in-range.copy x y (slotted x h.0) (slotted y h.1)) (λ r. nothing table)
-    instruction_made (Binary op x y z) h k = binary_made table op x y z (slotted x h.0) (slotted y h.1) (slotted z h.2)
-    instruction_made (Load x g) h k = load_made p (place_in places g) x (scalar_lies g h.1) (slotted x h.0)
-    instruction_made (Store g x) h k = store_made p (place_in places g) x (scalar_lies g h.0) (slotted x h.1)
-    instruction_made (LoadX x g i) h k = element_made p (place_in places g) x i (array_lies g h.1 (second_holds (holds_number func x) (names_array p g) (holds_number func i) k.typed)) (slotted x h.0) (slotted i h.2)
-    instruction_made (StoreX g i x) h k = element_stored p (place_in places g) i x (array_lies g h.0 (first_holds (names_array p g) (holds_number func i) (holds_number func x) k.typed)) (slotted x h.2) (slotted i h.1)
+    homed : (x : ℕ) → HasLocal func x → IsHome (home_of (is_leaf func) x)
+    homed x within = is-home (is_leaf func) x (slotted x within)
+
+    instruction_made : (i : Instr) → IsInstr p func i → IsAllowed p func (instruction i) → Made table [] (instruction_code places (is_leaf func) i)
+    instruction_made (Const x value) h k = const_made table _ value (homed x h)
+    instruction_made (Copy x y) h k = copy_made table _ _ (homed x h.0) (homed y h.1)
+    instruction_made (Binary op x y z) h k = binary_made table op _ _ _ (homed x h.0) (homed y h.1) (homed z h.2)
+    instruction_made (Load x g) h k = load_made p (place_in places g) _ (scalar_lies g h.1) (homed x h.0)
+    instruction_made (Store g x) h k = store_made p (place_in places g) _ (scalar_lies g h.0) (homed x h.1)
+    instruction_made (LoadX x g i) h k = element_made p (place_in places g) _ _ (array_lies g h.1 (second_holds (holds_number func x) (names_array p g) (holds_number func i) k.typed)) (homed x h.0) (homed i h.2)
+    instruction_made (StoreX g i x) h k = element_stored p (place_in places g) _ _ (array_lies g h.0 (first_holds (names_array p g) (holds_number func i) (holds_number func x) k.typed)) (homed x h.2) (homed i h.1)
     instruction_made (RefTo x callee) h k =
-        reference_then table [] 9 callee (slot_store 9 x ∷ []) (omega arith) (labels.functions callee h.1)
-        (inst_then table [] (Str 9 31 (x + 1)) [] (stores_slot 9 x (lit< tt) (slotted x h.0)) refl (nothing table))
+        reference_then table [] 9 callee (home_store 9 (home_of (is_leaf func) x) ∷ []) (omega arith) (labels.functions callee h.1) (store_last table 9 (home_of (is_leaf func) x) (lit< tt) (homed x h.0))
     instruction_made (Call x callee args) h k =
         tested_made table args _ h.2.0 (in_slots args h.2.1) (followed table (mark.Call callee) x refl (labels.functions callee h.1) (slotted x h.0))
     instruction_made (ICall x y args) h k =
         let few = h.2.0 in
         let calls = tested_made table args _ few (in_slots args h.2.1) (followed table (mark.ICall (length args)) x refl few (slotted x h.0)) in
         inst_then table [] (Ldr 9 31 (y + 1)) _ (loads_slot 9 y (lit< tt) (slotted y h.1)) refl (check_now table [] (is_set 9) 3 _ (lit< tt, (lit< tt, tt)) (lit< tt) calls)
-    instruction_made (Input x) h k = plain_then table [] (input_code x) [] refl (lines-are-in-range.input x (slotted x h)) (λ r. nothing table)
-    instruction_made (Output x) h k = plain_then table [] (output_code x) [] refl (lines-are-in-range.output x (slotted x h)) (λ r. nothing table)
+    instruction_made (Input x) h k = input_made table _ (homed x h)
+    instruction_made (Output x) h k = output_made table _ (homed x h)
 
     abbrev first : ℕ
     first = label_of_block p f 0
@@ -184,9 +189,9 @@ module _ (labelled : ProgramsHaveTheirLabels) (celled : ProgramsHaveTheirCells) 
     terminator_made : (t : Term) → IsTerm func t → Made table [] (terminator_code first func t)
     terminator_made (Jump to) h = mark_then table [] (mark.Jump (first + to)) [] refl (block_labelled to h) (nothing table)
     terminator_made (Branch x taken other) h =
-        inst_then table [] (Ldr 9 31 (x + 1)) _ (loads_slot 9 x (lit< tt) (slotted x h.0)) refl
+        load_then table 9 (home_of (is_leaf func) x) _ (lit< tt) (homed x h.0)
         (mark_then table [] (mark.Branch (first + taken) (first + other)) [] refl (block_labelled taken h.1, block_labelled other h.2) (nothing table))
-    terminator_made (Ret x) h = return_made table (length func.locals) x (operation_number func.role) slots (slotted x h) (λ n is. (operation_is n is, labels.operations f n func at is))
+    terminator_made (Ret x) h = return_made table (length func.locals) (home_of (is_leaf func) x) (operation_number func.role) slots (homed x h) (λ n is. (operation_is n is, labels.operations f n func at is))
     terminator_made Halt h = plain_then table [] halt_code [] refl lines-are-in-range.halt (λ r. nothing table)
 
     -- ---- blocks
@@ -222,8 +227,8 @@ module _ (labelled : ProgramsHaveTheirLabels) (celled : ProgramsHaveTheirCells) 
     pub code_is : IsCodeOf table func (function_code p f func)
     code_is = record {
       prologue = record {
-        made = start_made table func.params (length func.locals) (operation_number func.role) formed.few_params slots operation_is;
-        word = some_words func.params (length func.locals) (operation_number func.role);
+        made = start_made table (is_leaf func) func.params (length func.locals) (operation_number func.role) formed.few_params slots operation_is;
+        word = some_words (is_leaf func) func.params (length func.locals) (operation_number func.role);
       };
       blocks = stretches func.blocks (λ block has. has);
       count = length-map func.blocks (block_code places first func);

@@ -15,6 +15,7 @@ use Rattle.oat_symbols.specs.Programs.{block_names, symbol_for, symbols_from, la
 use Rattle.oat_symbols.specs.Codes.{codes_from}
 use Rattle.oat_gen.specs.declared.globals.GlobalPlace.{GlobalPlace}
 use Rattle.oat_gen.specs.GlobalPlaces.{global_places}
+use Rattle.oat_frames.specs.Leaves.{is_leaf}
 use Rattle.oat_gen.specs.Marked.{marked_start}
 use Rattle.oat_gen.specs.Code.{block_code, function_code, program_items}
 use Rattle.oat_gen.specs.Steps.{function_items, others_items, block_total}
@@ -57,7 +58,7 @@ module _ (p : Program) where
   one : (f n : ℕ) (g : Func) (es : List FunctionSymbol) (cs : List FunctionCode) → label_of_block p f 0 ≡ n
       → code_from (symbol_for p f n g ∷ es) (code f g ∷ cs) ≡ function_items places f n g ++ code_from es cs
   one f n g es cs is =
-      let start : List Item = item.Label f ∷ marked_start g.params (length g.locals) (operation_number g.role) in
+      let start : List Item = item.Label f ∷ marked_start (is_leaf g) g.params (length g.locals) (operation_number g.role) in
       ap (λ (l : ℕ). start ++ (blocks_code n (map (block_code places l g) g.blocks) ++ code_from es cs)) is
       ∙ sym (append_assoc start (blocks_code n (map (block_code places n g) g.blocks)) (code_from es cs))
 

@@ -8,3 +8,4 @@ mod Stretches
 mod LineParts
 mod FunctionParts
 mod Building
+mod Sparing

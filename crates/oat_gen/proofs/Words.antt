@@ -1,5 +1,5 @@
 -- How many words the code of a program needs: at most 15 for a line and 259 for a function's start.
-use Rattle.std.proofs.Common.{◌≡◌, ℕ, suc, ◌+◌, ◌*◌, ◌<◌, ◌≤◌, List, [], ◌∷◌, ◌++◌, length, map, take, drop, refl, ap, ◌∙◌, Option, Some, None, arith}
+use Rattle.std.proofs.Common.{◌≡◌, ℕ, Bool, suc, ◌+◌, ◌*◌, ◌<◌, ◌≤◌, List, [], ◌∷◌, ◌++◌, length, map, take, drop, refl, ap, ◌∙◌, Option, Some, None, arith}
 use Rattle.std.specs.Prelude.{Contains}
 use Rattle.std.specs.List.{sum_by}
 use Rattle.std.proofs.lemmas.List.Elements.{All-contains}
@@ -31,6 +31,8 @@ use Rattle.oat_symbols.specs.Programs.{symbols_of, with_first, main_at, label_of
 use Rattle.oat_symbols.specs.Codes.{codes_from, codes_of, CodesAreOfTheProgram}
 use Rattle.oat_symbols.proofs.Programs.{split_at, main_within}
 use Rattle.oat_frames.specs.Code.{argument_loads, depth_tested, behind_call}
+use Rattle.oat_frames.specs.Frames.{Home, slot, home_of}
+use Rattle.oat_frames.specs.Leaves.{is_leaf}
 use Rattle.oat_frames.specs.Lines.{lines_code}
 use Rattle.oat_locals.specs.Code.{binary_code}
 use Rattle.oat_locals.proofs.LineLaws.{words-of-lines}
@@ -71,22 +73,26 @@ few_role : (op : Option ℕ) → role_words op ≤ 2
 few_role None = omega arith
 few_role (Some op) = omega arith
 
-place_words : (at : GlobalPlace) (x i : ℕ)
+place_words : (at : GlobalPlace) (x i : Home)
     → (words_become (scalar_load at x) ≤ 6) × (words_become (scalar_store at x) ≤ 6) × (words_become (element_load at x i) ≤ 12) × (words_become (element_store at i x) ≤ 12)
 place_words (Ordinary word len) x i = (omega arith, omega arith, omega arith, omega arith)
 place_words (Critical word cell len) x i = (omega arith, omega arith, omega arith, omega arith)
 
-instruction_words : (places : List GlobalPlace) (p : Program) (func : Func) (i : Instr) → IsInstr p func i → words_become (instruction_code places i) ≤ 15
+instruction_words : (places : List GlobalPlace) (p : Program) (func : Func) (i : Instr) → IsInstr p func i → words_become (instruction_code places (is_leaf func) i) ≤ 15
 instruction_words places p func (Const x value) h = omega arith
 instruction_words places p func (Copy x y) h = omega arith
 instruction_words places p func (Binary op x y z) h =
-    let e = sized (binary_code op x y z) _ _ (other_code_stays.binary op x y z) (words-of-lines.binary op x y z) in
+    let to : Home = home_of (is_leaf func) x in
+    let left : Home = home_of (is_leaf func) y in
+    let right : Home = home_of (is_leaf func) z in
+    let same : words_become (binary_code op to left right) ≡ words_needed (binary_code op to left right) = ap words_needed (other_code_stays.binary op to left right) in
+    let own = words-of-lines.binary op to left right in
     let few = words-of-lines.few op in
-    omega arith
-instruction_words places p func (Load x g) h = let few = (place_words (place_in places g) x 0).0 in omega arith
-instruction_words places p func (Store g x) h = let few = (place_words (place_in places g) x 0).1 in omega arith
-instruction_words places p func (LoadX x g i) h = let few = (place_words (place_in places g) x i).2 in omega arith
-instruction_words places p func (StoreX g i x) h = let few = (place_words (place_in places g) x i).3 in omega arith
+    omega (arith, same, own, few)
+instruction_words places p func (Load x g) h = let few = (place_words (place_in places g) (home_of (is_leaf func) x) (slot 0)).0 in omega arith
+instruction_words places p func (Store g x) h = let few = (place_words (place_in places g) (home_of (is_leaf func) x) (slot 0)).1 in omega arith
+instruction_words places p func (LoadX x g i) h = let few = (place_words (place_in places g) (home_of (is_leaf func) x) (home_of (is_leaf func) i)).2 in omega arith
+instruction_words places p func (StoreX g i x) h = let few = (place_words (place_in places g) (home_of (is_leaf func) x) (home_of (is_leaf func) i)).3 in omega arith
 instruction_words places p func (RefTo x callee) h = omega arith
 instruction_words places p func (Call x callee args) h =
     let few = h.2.0 in
@@ -106,7 +112,8 @@ terminator_words first func (Branch x taken other) = (omega arith, omega arith)
 terminator_words first func (Ret x) =
     let op = operation_number func.role in
     let few = few_role op in
-    let e = sized (marked_return (length func.locals) x op) _ _ (marked_code_expands.leave (length func.locals) x op) (words_of_global_lines.leave (length func.locals) x op) in (omega arith, omega arith)
+    let from = home_of (is_leaf func) x in
+    let e = sized (marked_return (length func.locals) from op) _ _ (marked_code_expands.leave (length func.locals) from op) (words_of_global_lines.leave (length func.locals) from op) in (omega arith, omega arith)
 terminator_words first func Halt = (omega arith, omega arith)
 
 -- ---- blocks
@@ -131,11 +138,11 @@ block_words places first p func block h =
 
 -- ---- functions
 
-start_words : (params locals : ℕ) (op : Option ℕ) → words_become (marked_start params locals op) ≡ 2 + locals + role_words op
-start_words params locals op = sized (marked_start params locals op) _ _ (marked_code_expands.start params locals op) (words_of_global_lines.start params locals op)
+start_words : (leaf : Bool) (params locals : ℕ) (op : Option ℕ) → words_become (marked_start leaf params locals op) ≡ 2 + locals + role_words op
+start_words leaf params locals op = sized (marked_start leaf params locals op) _ _ (marked_code_expands.start leaf params locals op) (words_of_global_lines.start leaf params locals op)
 
-pub some_words : (params locals : ℕ) (op : Option ℕ) → 1 ≤ words_become (marked_start params locals op)
-some_words params locals op = let e = start_words params locals op in omega arith
+pub some_words : (leaf : Bool) (params locals : ℕ) (op : Option ℕ) → 1 ≤ words_become (marked_start leaf params locals op)
+some_words leaf params locals op = let e = start_words leaf params locals op in omega arith
 
 blocks_few : (places : List GlobalPlace) (first : ℕ) (p : Program) (func : Func) (bs : List BlockIr) → ((b : BlockIr) → Contains bs b → IsBlockIr p func b)
     → blocks_words (map (block_code places first func) bs) ≤ 32 * sum_by (λ b. length b.instrs + 1) bs
@@ -155,7 +162,7 @@ module _ (p : Program) where
       → words_become (function_code p f func).prologue + blocks_words (function_code p f func).blocks ≤ 32 * sum_by (λ block. length block.instrs + 1) func.blocks + 300
   function_words f func formed slots =
       let op = operation_number func.role in
-      let start = start_words func.params (length func.locals) op in
+      let start = start_words (is_leaf func) func.params (length func.locals) op in
       let few = few_role op in
       let blocks = blocks_few (global_places p) (label_of_block p f 0) p func func.blocks (λ b has. All-contains (IsBlockIr p func) func.blocks b formed.blocks has) in
       omega arith

@@ -1,5 +1,5 @@
 -- The code of a program, line by line, with a mark for each row: by where the globals lie and by the label of the function's first block, behind which the others are numbered. Function f has label f. `main` is laid out first, and all other functions in their order.
-use Rattle.std.specs.Prelude.{◌+◌, ℕ, List, [], ◌∷◌, ◌++◌, length, map}
+use Rattle.std.specs.Prelude.{◌+◌, ℕ, Bool, List, [], ◌∷◌, ◌++◌, length, map}
 use Rattle.oat_asm.specs.declared.item.Item.{Item}
 use Rattle.oat_asm.specs.Expansion.{expansion}
 use Rattle.oat_ir.specs.declared.program.Program.{Program}
@@ -14,6 +14,8 @@ use Rattle.oat_check.specs.Steps.{operation_number}
 use Rattle.oat_parts.specs.Making.{FunctionCode}
 use Rattle.oat_symbols.specs.Programs.{label_of_block}
 use Rattle.oat_symbols.specs.Codes.{codes_of, items_for}
+use Rattle.oat_frames.specs.Frames.{home_of}
+use Rattle.oat_frames.specs.Leaves.{is_leaf}
 use Rattle.oat_frames.specs.Lines.{lines_code}
 use Rattle.oat_locals.specs.Code.{binary_code, const_code, copy_code, input_code, output_code, halt_code}
 use Rattle.oat_globals.specs.Code.{ref_code}
@@ -23,28 +25,29 @@ use Rattle.oat_gen.specs.Marked.{marked_start, marked_return, marked_call, marke
 
 -- ---- lines
 
-abbrev pub instruction_code : List GlobalPlace → Instr → List Item
-instruction_code places (Const x value) = const_code x value
-instruction_code places (Copy x y) = copy_code x y
-instruction_code places (Binary op x y z) = binary_code op x y z
-instruction_code places (Load x g) = scalar_load (place_in places g) x
-instruction_code places (Store g x) = scalar_store (place_in places g) x
-instruction_code places (LoadX x g i) = element_load (place_in places g) x i
-instruction_code places (StoreX g i x) = element_store (place_in places g) i x
-instruction_code places (RefTo x callee) = ref_code x callee
-instruction_code places (Call x callee args) = marked_call args callee x
-instruction_code places (ICall x y args) = marked_icall args y x
-instruction_code places (Input x) = input_code x
-instruction_code places (Output x) = output_code x
+-- of a leaf, or of a function that calls
+abbrev pub instruction_code : List GlobalPlace → (leaf : Bool) → Instr → List Item
+instruction_code places leaf (Const x value) = const_code (home_of leaf x) value
+instruction_code places leaf (Copy x y) = copy_code (home_of leaf x) (home_of leaf y)
+instruction_code places leaf (Binary op x y z) = binary_code op (home_of leaf x) (home_of leaf y) (home_of leaf z)
+instruction_code places leaf (Load x g) = scalar_load (place_in places g) (home_of leaf x)
+instruction_code places leaf (Store g x) = scalar_store (place_in places g) (home_of leaf x)
+instruction_code places leaf (LoadX x g i) = element_load (place_in places g) (home_of leaf x) (home_of leaf i)
+instruction_code places leaf (StoreX g i x) = element_store (place_in places g) (home_of leaf i) (home_of leaf x)
+instruction_code places leaf (RefTo x callee) = ref_code (home_of leaf x) callee
+instruction_code places leaf (Call x callee args) = marked_call args callee x
+instruction_code places leaf (ICall x y args) = marked_icall args y x
+instruction_code places leaf (Input x) = input_code (home_of leaf x)
+instruction_code places leaf (Output x) = output_code (home_of leaf x)
 
 abbrev pub terminator_code : (first : ℕ) → Func → Term → List Item
 terminator_code first func (Jump to) = marked_jump (first + to)
-terminator_code first func (Branch x taken other) = marked_branch x (first + taken) (first + other)
-terminator_code first func (Ret x) = marked_return (length func.locals) x (operation_number func.role)
+terminator_code first func (Branch x taken other) = marked_branch (home_of (is_leaf func) x) (first + taken) (first + other)
+terminator_code first func (Ret x) = marked_return (length func.locals) (home_of (is_leaf func) x) (operation_number func.role)
 terminator_code first func Halt = halt_code
 
 abbrev pub line_code : List GlobalPlace → (first : ℕ) → Func → CodeLine → List Item
-line_code places first func (instruction i) = instruction_code places i
+line_code places first func (instruction i) = instruction_code places (is_leaf func) i
 line_code places first func (terminator t) = terminator_code first func t
 
 -- ---- blocks
@@ -63,7 +66,7 @@ expanded_lines places first func block = map (λ line. expansion (line_code plac
 
 abbrev pub function_code : Program → ℕ → Func → FunctionCode
 function_code p f func = record {
-  prologue = marked_start func.params (length func.locals) (operation_number func.role);
+  prologue = marked_start (is_leaf func) func.params (length func.locals) (operation_number func.role);
   blocks = map (block_code (global_places p) (label_of_block p f 0) func) func.blocks;
 }
 

@@ -1,5 +1,5 @@
 -- What holds of the code of each program: what its expansion is, that an image is built of it, and how many words it needs.
-use Rattle.std.specs.Prelude.{◌≡◌, ◌≤◌, ◌+◌, ℕ, ℤ, List, length, slice_get, Option, Some}
+use Rattle.std.specs.Prelude.{◌≡◌, ◌≤◌, ◌+◌, ℕ, ℤ, Bool, List, length, slice_get, Option, Some}
 use Rattle.oat_asm.specs.Items.{words_needed, code_limit}
 use Rattle.oat_asm.specs.Expansion.{expansion}
 use Rattle.oat_ir.specs.declared.program.Program.{Program}
@@ -13,6 +13,7 @@ use Rattle.oat_parts.specs.Built.{CanBeExpanded}
 use Rattle.oat_symbols.specs.Programs.{symbols_of, HasValidNames}
 use Rattle.oat_symbols.specs.Codes.{IsCodeOf, IsBuiltWhole}
 use Rattle.oat_frames.specs.Code.{call_code, icall_code}
+use Rattle.oat_frames.specs.Frames.{Home}
 use Rattle.oat_frames.specs.Lines.{lines_code}
 use Rattle.oat_locals.specs.Code.{binary_code, const_code, copy_code, input_code, output_code, jump_code, branch_code, halt_code}
 use Rattle.oat_globals.specs.Code.{load_code, store_code, ref_code, loadx_code, storex_code, use_code, define_code, use_at_code, define_at_code}
@@ -26,30 +27,30 @@ use Rattle.oat_gen.specs.Code.{line_code, block_code, function_code, program_ite
 
 -- code with a mark becomes the code of its line
 pub record MarkedCodeExpands : Type 0 where
-  pub start : (params locals : ℕ) (op : Option ℕ) → expansion (marked_start params locals op) ≡ start_code params locals op
-  pub leave : (locals from : ℕ) (op : Option ℕ) → expansion (marked_return locals from op) ≡ leave_code locals from op
+  pub start : (leaf : Bool) (params locals : ℕ) (op : Option ℕ) → expansion (marked_start leaf params locals op) ≡ start_code leaf params locals op
+  pub leave : (locals : ℕ) (from : Home) (op : Option ℕ) → expansion (marked_return locals from op) ≡ leave_code locals from op
   pub call : (args : List ℕ) (callee result : ℕ) → expansion (marked_call args callee result) ≡ call_code args callee result
   pub icall : (args : List ℕ) (from result : ℕ) → expansion (marked_icall args from result) ≡ icall_code args from result
   pub jump : (to : ℕ) → expansion (marked_jump to) ≡ jump_code to
-  pub branch : (x first second : ℕ) → expansion (marked_branch x first second) ≡ branch_code x first second
-  pub load : (word cell len x : ℕ) → expansion (scalar_load (Critical word cell len) x) ≡ use_code x word cell
-  pub store : (word cell len x : ℕ) → expansion (scalar_store (Critical word cell len) x) ≡ define_code word cell x
-  pub loadx : (word cell len x i : ℕ) → expansion (element_load (Critical word cell len) x i) ≡ use_at_code x word cell len i
-  pub storex : (word cell len i x : ℕ) → expansion (element_store (Critical word cell len) i x) ≡ define_at_code word cell len i x
+  pub branch : (x : Home) (first second : ℕ) → expansion (marked_branch x first second) ≡ branch_code x first second
+  pub load : (word cell len : ℕ) (x : Home) → expansion (scalar_load (Critical word cell len) x) ≡ use_code x word cell
+  pub store : (word cell len : ℕ) (x : Home) → expansion (scalar_store (Critical word cell len) x) ≡ define_code word cell x
+  pub loadx : (word cell len : ℕ) (x i : Home) → expansion (element_load (Critical word cell len) x i) ≡ use_at_code x word cell len i
+  pub storex : (word cell len : ℕ) (i x : Home) → expansion (element_store (Critical word cell len) i x) ≡ define_at_code word cell len i x
 
 -- code without a mark stays as it is
 pub record OtherCodeStays : Type 0 where
-  pub binary : (op : BinOp) (x y z : ℕ) → expansion (binary_code op x y z) ≡ binary_code op x y z
-  pub const : (x : ℕ) (value : ℤ) → expansion (const_code x value) ≡ const_code x value
-  pub copy : (x y : ℕ) → expansion (copy_code x y) ≡ copy_code x y
-  pub input : (x : ℕ) → expansion (input_code x) ≡ input_code x
-  pub output : (x : ℕ) → expansion (output_code x) ≡ output_code x
+  pub binary : (op : BinOp) (x y z : Home) → expansion (binary_code op x y z) ≡ binary_code op x y z
+  pub const : (x : Home) (value : ℤ) → expansion (const_code x value) ≡ const_code x value
+  pub copy : (x y : Home) → expansion (copy_code x y) ≡ copy_code x y
+  pub input : (x : Home) → expansion (input_code x) ≡ input_code x
+  pub output : (x : Home) → expansion (output_code x) ≡ output_code x
   pub halt : expansion halt_code ≡ halt_code
-  pub load : (x word : ℕ) → expansion (load_code x word) ≡ load_code x word
-  pub store : (word x : ℕ) → expansion (store_code word x) ≡ store_code word x
-  pub ref : (x callee : ℕ) → expansion (ref_code x callee) ≡ ref_code x callee
-  pub loadx : (x word len i : ℕ) → expansion (loadx_code x word len i) ≡ loadx_code x word len i
-  pub storex : (word len i x : ℕ) → expansion (storex_code word len i x) ≡ storex_code word len i x
+  pub load : (x : Home) (word : ℕ) → expansion (load_code x word) ≡ load_code x word
+  pub store : (word : ℕ) (x : Home) → expansion (store_code word x) ≡ store_code word x
+  pub ref : (x : Home) (callee : ℕ) → expansion (ref_code x callee) ≡ ref_code x callee
+  pub loadx : (x : Home) (word len : ℕ) (i : Home) → expansion (loadx_code x word len i) ≡ loadx_code x word len i
+  pub storex : (word len : ℕ) (i x : Home) → expansion (storex_code word len i x) ≡ storex_code word len i x
 
 -- ---- blocks
 

@@ -4,3 +4,4 @@ pub mod Code
 pub mod Steps
 pub mod Laws
 pub mod Worked
+pub mod Leaves

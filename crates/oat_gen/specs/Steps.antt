@@ -10,6 +10,7 @@ use Rattle.oat_ir.specs.declared.instr.Instr.{Instr}
 use Rattle.oat_ir.specs.Indices.{IsInstr}
 use Rattle.oat_ir.specs.WellFormed.{IsBlockIr, IsFunc}
 use Rattle.oat_check.specs.Steps.{operation_number}
+use Rattle.oat_frames.specs.Leaves.{is_leaf}
 use Rattle.oat_parts.specs.Making.{blocks_code}
 use Rattle.oat_symbols.specs.Programs.{block_names}
 use Rattle.oat_gen.specs.declared.globals.GlobalPlace.{GlobalPlace}
@@ -54,7 +55,7 @@ pub record IsFuncAmong (places : List GlobalPlace) (func : Func) : Type 0 where
 -- the items of function f, whose first block has this label
 abbrev pub function_items : List GlobalPlace → (f first : ℕ) → Func → List Item
 function_items places f first func =
-    (item.Label f ∷ marked_start func.params (length func.locals) (operation_number func.role)) ++ blocks_code first (map (block_code places first func) func.blocks)
+    (item.Label f ∷ marked_start (is_leaf func) func.params (length func.locals) (operation_number func.role)) ++ blocks_code first (map (block_code places first func) func.blocks)
 
 -- those of functions from number f on, but for main; their blocks are labelled one behind the other
 abbrev pub others_items : List GlobalPlace → (main f first : ℕ) → List Func → List Item

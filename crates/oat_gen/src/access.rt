@@ -2,12 +2,13 @@
 //! cell, X11 an address, and X12 the number of an element.
 
 ghost use Rattle.std.specs.Prelude.{◌≡◌, ◌++◌, ◌<◌, ◌≤◌, OnOk};
+ghost use Rattle.oat_frames.specs.Frames.{home_of};
 ghost use Rattle.oat_globals.specs.Code.{address_code, element_code, index_test, ref_code};
 ghost use Rattle.oat_gen.specs.Marked.{element_load, element_store, scalar_load, scalar_store};
 ghost use Rattle.oat_gen.specs.Steps.{HasLowWord};
 
 use crate::globals::GlobalPlace;
-use crate::items::{from_slot, into_slot, push_all, push_check, push_inst, push_number};
+use crate::items::{from_home, into_home, push_all, push_check, push_inst, push_number};
 use oat_a64::Inst;
 use oat_asm::{Item, Mark};
 use oat_mem::GLOBAL_BASE;
@@ -29,20 +30,21 @@ const WRITE: Item = Item::Inst(Inst::Str {
 pub(crate) fn push_scalar_load(
     out: &mut Vec<Item>,
     place: GlobalPlace,
+    leaf: bool,
     x: u32,
 ) -> Result<(), AllocError>
     requires place { HasLowWord place }
     requires x { x < 255 }
-    ensures { OnOk result (out.new.items ≡ out.old.items ++ scalar_load place x) }
+    ensures { OnOk result (out.new.items ≡ out.old.items ++ scalar_load place (home_of leaf x)) }
 {
     match place {
         GlobalPlace::Ordinary { word, .. } => {
             push_address(out, word)?;
-            push_all(out, &[READ, into_slot(9, x)])
+            push_all(out, &[READ, into_home(9, leaf, x)])
         }
         GlobalPlace::Critical { word, cell, .. } => {
             let row = Mark::UseCell { cell, index: word };
-            push_all(out, &[Item::Mark(row), into_slot(10, x)])
+            push_all(out, &[Item::Mark(row), into_home(10, leaf, x)])
         }
     }
 }
@@ -51,20 +53,21 @@ pub(crate) fn push_scalar_load(
 pub(crate) fn push_scalar_store(
     out: &mut Vec<Item>,
     place: GlobalPlace,
+    leaf: bool,
     x: u32,
 ) -> Result<(), AllocError>
     requires place { HasLowWord place }
     requires x { x < 255 }
-    ensures { OnOk result (out.new.items ≡ out.old.items ++ scalar_store place x) }
+    ensures { OnOk result (out.new.items ≡ out.old.items ++ scalar_store place (home_of leaf x)) }
 {
     match place {
         GlobalPlace::Ordinary { word, .. } => {
             push_address(out, word)?;
-            push_all(out, &[from_slot(9, x), WRITE])
+            push_all(out, &[from_home(9, leaf, x), WRITE])
         }
         GlobalPlace::Critical { word, cell, .. } => {
             let row = Mark::DefCell { cell, index: word };
-            push_all(out, &[from_slot(10, x), Item::Mark(row)])
+            push_all(out, &[from_home(10, leaf, x), Item::Mark(row)])
         }
     }
 }
@@ -73,18 +76,19 @@ pub(crate) fn push_scalar_store(
 pub(crate) fn push_element_load(
     out: &mut Vec<Item>,
     place: GlobalPlace,
+    leaf: bool,
     x: u32,
     i: u32,
 ) -> Result<(), AllocError>
     requires place { HasLowWord place }
     requires x { x < 255 }
     requires i { i < 255 }
-    ensures { OnOk result (out.new.items ≡ out.old.items ++ element_load place x i) }
+    ensures { OnOk result (out.new.items ≡ out.old.items ++ element_load place (home_of leaf x) (home_of leaf i)) }
 {
     match place {
         GlobalPlace::Ordinary { word, len } => {
-            push_element(out, word, len, i)?;
-            push_all(out, &[READ, into_slot(9, x)])
+            push_element(out, word, len, leaf, i)?;
+            push_all(out, &[READ, into_home(9, leaf, x)])
         }
         GlobalPlace::Critical { word, cell, len } => {
             let row = Mark::UseAt {
@@ -92,7 +96,14 @@ pub(crate) fn push_element_load(
                 len,
                 index: word,
             };
-            push_all(out, &[from_slot(12, i), Item::Mark(row), into_slot(10, x)])
+            push_all(
+                out,
+                &[
+                    from_home(12, leaf, i),
+                    Item::Mark(row),
+                    into_home(10, leaf, x),
+                ],
+            )
         }
     }
 }
@@ -101,18 +112,19 @@ pub(crate) fn push_element_load(
 pub(crate) fn push_element_store(
     out: &mut Vec<Item>,
     place: GlobalPlace,
+    leaf: bool,
     i: u32,
     x: u32,
 ) -> Result<(), AllocError>
     requires place { HasLowWord place }
     requires x { x < 255 }
     requires i { i < 255 }
-    ensures { OnOk result (out.new.items ≡ out.old.items ++ element_store place i x) }
+    ensures { OnOk result (out.new.items ≡ out.old.items ++ element_store place (home_of leaf i) (home_of leaf x)) }
 {
     match place {
         GlobalPlace::Ordinary { word, len } => {
-            push_element(out, word, len, i)?;
-            push_all(out, &[from_slot(9, x), WRITE])
+            push_element(out, word, len, leaf, i)?;
+            push_all(out, &[from_home(9, leaf, x), WRITE])
         }
         GlobalPlace::Critical { word, cell, len } => {
             let row = Mark::DefAt {
@@ -120,21 +132,33 @@ pub(crate) fn push_element_store(
                 len,
                 index: word,
             };
-            push_all(out, &[from_slot(12, i), from_slot(10, x), Item::Mark(row)])
+            push_all(
+                out,
+                &[
+                    from_home(12, leaf, i),
+                    from_home(10, leaf, x),
+                    Item::Mark(row),
+                ],
+            )
         }
     }
 }
 
 /// x is a reference of the function.
-pub(crate) fn push_ref(out: &mut Vec<Item>, x: u32, callee: u32) -> Result<(), AllocError>
+pub(crate) fn push_ref(
+    out: &mut Vec<Item>,
+    leaf: bool,
+    x: u32,
+    callee: u32,
+) -> Result<(), AllocError>
     requires { x < 255 }
-    ensures { OnOk result (out.new.items ≡ out.old.items ++ ref_code x callee) }
+    ensures { OnOk result (out.new.items ≡ out.old.items ++ ref_code (home_of leaf x) callee) }
 {
     let address = Item::AddressOf {
         register: 9,
         label: callee,
     };
-    push_all(out, &[address, into_slot(9, x)])
+    push_all(out, &[address, into_home(9, leaf, x)])
 }
 
 /// The address of a word of global data, into X11.
@@ -146,10 +170,16 @@ fn push_address(out: &mut Vec<Item>, word: u32) -> Result<(), AllocError>
 }
 
 /// The address of the element that local i names, into X11; a number that isn't below the length traps.
-fn push_element(out: &mut Vec<Item>, word: u32, len: u32, i: u32) -> Result<(), AllocError>
+fn push_element(
+    out: &mut Vec<Item>,
+    word: u32,
+    len: u32,
+    leaf: bool,
+    i: u32,
+) -> Result<(), AllocError>
     requires word { word ≤ 65536 }
     requires i { i < 255 }
-    ensures { OnOk result (out.new.items ≡ out.old.items ++ element_code word len i) }
+    ensures { OnOk result (out.new.items ≡ out.old.items ++ element_code word len (home_of leaf i)) }
 {
     let sum = Inst::AddReg {
         rd: 11,
@@ -157,7 +187,7 @@ fn push_element(out: &mut Vec<Item>, word: u32, len: u32, i: u32) -> Result<(), 
         rm: 12,
         amount: 3,
     };
-    push_all(out, &[from_slot(12, i)])?;
+    push_all(out, &[from_home(12, leaf, i)])?;
     push_number(out, u64::from(len))?;
     push_index_test(out)?;
     push_address(out, word)?;

@@ -1,11 +1,13 @@
-//! Operations on two numbers: X9 and X10 have them, and then X9 has the result.
+//! Operations on two numbers. An operand in a slot is loaded into X9 or X10, and X9 has a result that goes into a slot; in
+//! a leaf the registers of the locals are used as they are.
 
 ghost use Rattle.std.specs.Prelude.{◌≡◌, [], ◌∷◌, ◌++◌, ◌<◌, OnOk};
 ghost use Rattle.oat_a64.specs.declared.inst.Inst.TheVariants as inst;
 ghost use Rattle.oat_asm.specs.declared.item.Item.TheVariants as item;
+ghost use Rattle.oat_frames.specs.Frames.{home_of};
 ghost use Rattle.oat_locals.specs.Code.{binary_code, operation_code, compared_by, divisor_tested, one_inst};
 
-use crate::items::{from_slot, into_slot, push_all, push_check, push_inst};
+use crate::items::{operand_in, push_all, push_check, push_inst, push_operand, push_result};
 use oat_a64::Inst;
 use oat_asm::Item;
 use oat_ir::BinOp;
@@ -13,6 +15,7 @@ use std::alloc::AllocError;
 
 pub(crate) fn push_binary(
     out: &mut Vec<Item>,
+    leaf: bool,
     op: BinOp,
     x: u32,
     y: u32,
@@ -21,17 +24,22 @@ pub(crate) fn push_binary(
     requires x { x < 255 }
     requires y { y < 255 }
     requires z { z < 255 }
-    ensures { OnOk result (out.new.items ≡ out.old.items ++ binary_code op x y z) }
+    ensures { OnOk result (out.new.items ≡ out.old.items ++ binary_code op (home_of leaf x) (home_of leaf y) (home_of leaf z)) }
 {
-    push_all(out, &[from_slot(9, y), from_slot(10, z)])?;
-    push_operation(out, op)?;
-    push_all(out, &[into_slot(9, x)])
+    let (rd, rn, rm) = (
+        operand_in(9, leaf, x),
+        operand_in(9, leaf, y),
+        operand_in(10, leaf, z),
+    );
+    push_operand(out, 9, leaf, y)?;
+    push_operand(out, 10, leaf, z)?;
+    push_operation(out, op, rd, rn, rm)?;
+    push_result(out, 9, leaf, x)
 }
 
-fn push_operation(out: &mut Vec<Item>, op: BinOp) -> Result<(), AllocError>
-    ensures { OnOk result (out.new.items ≡ out.old.items ++ operation_code op) }
+fn push_operation(out: &mut Vec<Item>, op: BinOp, rd: u8, rn: u8, rm: u8) -> Result<(), AllocError>
+    ensures { OnOk result (out.new.items ≡ out.old.items ++ operation_code op rd rn rm) }
 {
-    let (rd, rn, rm) = (9, 9, 10);
     let amount = 0;
     match op {
         BinOp::Add => push_inst(out, Inst::AddReg { rd, rn, rm, amount }),
@@ -43,30 +51,26 @@ fn push_operation(out: &mut Vec<Item>, op: BinOp) -> Result<(), AllocError>
         BinOp::Shl => push_inst(out, Inst::Lslv { rd, rn, rm }),
         BinOp::Shr => push_inst(out, Inst::Lsrv { rd, rn, rm }),
         BinOp::Sar => push_inst(out, Inst::Asrv { rd, rn, rm }),
-        BinOp::Eq => push_comparison(out, 1),
-        BinOp::Ne => push_comparison(out, 0),
-        BinOp::Lt => push_comparison(out, 10),
-        BinOp::Le => push_comparison(out, 12),
-        BinOp::Ltu => push_comparison(out, 2),
-        BinOp::Leu => push_comparison(out, 8),
-        BinOp::Div => push_quotient(out, Inst::Sdiv { rd, rn, rm }),
-        BinOp::Divu => push_quotient(out, Inst::Udiv { rd, rn, rm }),
-        BinOp::Rem => push_remainder(out, Inst::Sdiv { rd: 11, rn, rm }),
-        BinOp::Remu => push_remainder(out, Inst::Udiv { rd: 11, rn, rm }),
+        BinOp::Eq => push_comparison(out, 1, rd, rn, rm),
+        BinOp::Ne => push_comparison(out, 0, rd, rn, rm),
+        BinOp::Lt => push_comparison(out, 10, rd, rn, rm),
+        BinOp::Le => push_comparison(out, 12, rd, rn, rm),
+        BinOp::Ltu => push_comparison(out, 2, rd, rn, rm),
+        BinOp::Leu => push_comparison(out, 8, rd, rn, rm),
+        BinOp::Div => push_quotient(out, rm, Inst::Sdiv { rd, rn, rm }),
+        BinOp::Divu => push_quotient(out, rm, Inst::Udiv { rd, rn, rm }),
+        BinOp::Rem => push_remainder(out, rd, rn, rm, Inst::Sdiv { rd: 11, rn, rm }),
+        BinOp::Remu => push_remainder(out, rd, rn, rm, Inst::Udiv { rd: 11, rn, rm }),
     }
 }
 
-/// 1 where a condition holds, else 0. It is given by the condition that is its opposite.
-fn push_comparison(out: &mut Vec<Item>, cond: u8) -> Result<(), AllocError>
-    ensures { OnOk result (out.new.items ≡ out.old.items ++ compared_by cond) }
+/// 1 where a condition holds of two registers, else 0. It is given by the condition that is its opposite.
+fn push_comparison(out: &mut Vec<Item>, cond: u8, rd: u8, rn: u8, rm: u8) -> Result<(), AllocError>
+    ensures { OnOk result (out.new.items ≡ out.old.items ++ compared_by cond rd rn rm) }
 {
-    let flags = Inst::SubsReg {
-        rd: 31,
-        rn: 9,
-        rm: 10,
-    };
+    let flags = Inst::SubsReg { rd: 31, rn, rm };
     let bit = Inst::Csinc {
-        rd: 9,
+        rd,
         rn: 31,
         rm: 31,
         cond,
@@ -74,30 +78,40 @@ fn push_comparison(out: &mut Vec<Item>, cond: u8) -> Result<(), AllocError>
     push_all(out, &[Item::Inst(flags), Item::Inst(bit)])
 }
 
-fn push_quotient(out: &mut Vec<Item>, quotient: Inst) -> Result<(), AllocError>
-    ensures { OnOk result (out.new.items ≡ out.old.items ++ divisor_tested (one_inst quotient)) }
+fn push_quotient(out: &mut Vec<Item>, divisor: u8, quotient: Inst) -> Result<(), AllocError>
+    ensures { OnOk result (out.new.items ≡ out.old.items ++ divisor_tested divisor (one_inst quotient)) }
 {
-    push_divisor_test(out)?;
+    push_divisor_test(out, divisor)?;
     push_inst(out, quotient)
 }
 
-/// What is left of X9, once X11 has the quotient.
-fn push_remainder(out: &mut Vec<Item>, quotient: Inst) -> Result<(), AllocError>
-    ensures { OnOk result (out.new.items ≡ out.old.items ++ divisor_tested (item.Inst quotient ∷ one_inst (inst.Msub 9 11 10 9))) }
+/// What is left of a register, once X11 has the quotient.
+fn push_remainder(
+    out: &mut Vec<Item>,
+    rd: u8,
+    rn: u8,
+    rm: u8,
+    quotient: Inst,
+) -> Result<(), AllocError>
+    ensures { OnOk result (out.new.items ≡ out.old.items ++ divisor_tested rm (item.Inst quotient ∷ one_inst (inst.Msub rd 11 rm rn))) }
 {
     let rest = Inst::Msub {
-        rd: 9,
+        rd,
         rn: 11,
-        rm: 10,
-        ra: 9,
+        rm,
+        ra: rn,
     };
-    push_divisor_test(out)?;
+    push_divisor_test(out, rm)?;
     push_all(out, &[Item::Inst(quotient), Item::Inst(rest)])
 }
 
 /// A divisor of 0 traps.
-fn push_divisor_test(out: &mut Vec<Item>) -> Result<(), AllocError>
-    ensures { OnOk result (out.new.items ≡ out.old.items ++ divisor_tested []) }
+fn push_divisor_test(out: &mut Vec<Item>, divisor: u8) -> Result<(), AllocError>
+    ensures { OnOk result (out.new.items ≡ out.old.items ++ divisor_tested divisor []) }
 {
-    push_check(out, Inst::Cbnz { rt: 10, offset: 2 }, 1)
+    let some = Inst::Cbnz {
+        rt: divisor,
+        offset: 2,
+    };
+    push_check(out, some, 1)
 }

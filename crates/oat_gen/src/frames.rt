@@ -1,12 +1,12 @@
-//! The start of a function and its return. Slot 0 of a frame has the return address, and each local has one.
+//! The start of a function and its return. Slot 0 of a frame has the return address.
 
 ghost use Rattle.std.specs.Prelude.{◌≡◌, [], ◌∷◌, ◌++◌, ◌+◌, ◌<◌, ◌≤◌, nat_lt, if◌then◌else◌, OnOk};
 ghost use Rattle.oat_check.specs.Steps.{operation_number};
 ghost use Rattle.oat_frames.specs.Code.{local_stores};
-ghost use Rattle.oat_frames.specs.Frames.{frame_size};
+ghost use Rattle.oat_frames.specs.Frames.{frame_size, home_of};
 ghost use Rattle.oat_gen.specs.Marked.{begin_mark, end_mark, marked_return, marked_start};
 
-use crate::items::{from_slot, into_slot, push_all};
+use crate::items::{from_home, into_home, push_all};
 use oat_a64::Inst;
 use oat_asm::{Item, Mark};
 use oat_ir::Role;
@@ -33,13 +33,14 @@ fn frame_size(locals: u32) -> u16
 /// The start of a function; an operation begins behind its prologue.
 pub(crate) fn push_start(
     out: &mut Vec<Item>,
+    leaf: bool,
     params: u8,
     locals: u32,
     op: Option<u16>,
 ) -> Result<(), AllocError>
     requires params { params ≤ 4 }
     requires locals { locals ≤ 255 }
-    ensures { OnOk result (out.new.items ≡ out.old.items ++ marked_start params locals op) }
+    ensures { OnOk result (out.new.items ≡ out.old.items ++ marked_start leaf params locals op) }
 {
     let lay = Inst::SubImm {
         rd: 31,
@@ -52,18 +53,23 @@ pub(crate) fn push_start(
         imm: 0,
     };
     push_all(out, &[Item::Inst(lay), Item::Inst(save)])?;
-    push_local_stores(out, params, locals)?;
+    push_local_stores(out, leaf, params, locals)?;
     push_begin(out, op)
 }
 
 /// Parameters are stored, and all other locals cleared.
-fn push_local_stores(out: &mut Vec<Item>, params: u8, locals: u32) -> Result<(), AllocError>
+fn push_local_stores(
+    out: &mut Vec<Item>,
+    leaf: bool,
+    params: u8,
+    locals: u32,
+) -> Result<(), AllocError>
     requires params { params ≤ 4 }
     requires locals { locals ≤ 255 }
-    ensures { OnOk result (out.new.items ≡ out.old.items ++ local_stores params 0 locals) }
+    ensures { OnOk result (out.new.items ≡ out.old.items ++ local_stores leaf params 0 locals) }
 {
     for local in 0..locals {
-        out.push(into_slot(start_register(params, local), local))?;
+        out.push(into_home(start_register(params, local), leaf, local))?;
     }
     Ok(())
 }
@@ -101,12 +107,13 @@ fn push_end(out: &mut Vec<Item>, op: Option<u16>) -> Result<(), AllocError>
 pub(crate) fn push_return(
     out: &mut Vec<Item>,
     locals: u32,
+    leaf: bool,
     from: u32,
     op: Option<u16>,
 ) -> Result<(), AllocError>
     requires locals { locals ≤ 255 }
     requires from { from < 255 }
-    ensures { OnOk result (out.new.items ≡ out.old.items ++ marked_return locals from op) }
+    ensures { OnOk result (out.new.items ≡ out.old.items ++ marked_return locals (home_of leaf from) op) }
 {
     let restore = Inst::Ldr {
         rt: 30,
@@ -122,6 +129,11 @@ pub(crate) fn push_return(
     let (restore, free) = (Item::Inst(restore), Item::Inst(free));
     push_all(
         out,
-        &[from_slot(0, from), restore, free, Item::Mark(Mark::Ret)],
+        &[
+            from_home(0, leaf, from),
+            restore,
+            free,
+            Item::Mark(Mark::Ret),
+        ],
     )
 }

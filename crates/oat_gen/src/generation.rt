@@ -8,13 +8,14 @@ ghost use Rattle.oat_check.specs.Rules.{is_main, IsChecked};
 ghost use Rattle.oat_symbols.specs.Programs.{label_of_block, main_at};
 ghost use Rattle.oat_gen.specs.GlobalPlaces.{global_places};
 ghost use Rattle.oat_gen.specs.Code.{program_items};
+ghost use Rattle.oat_gen.specs.Leaves.{LeavesSpareStack};
 ghost use Rattle.oat_ir.specs.Size.{most_words};
 ghost use Rattle.oat_gen.specs.Steps.{IsFuncAmong, function_items, others_items};
 
 use crate::blocks::push_function;
 use crate::fault::GenFault;
 use crate::globals::{GlobalPlace, global_places};
-use crate::laws::programs_have_few_words;
+use crate::laws::{programs_have_few_words, programs_spare_stack};
 use oat_asm::{Item, Items};
 use oat_check::Checked;
 use oat_ir::{Func, Program, Role};
@@ -26,12 +27,14 @@ use std::alloc::{AllocError, Global};
 pub fn generate(alloc: Global, checked: &Checked) -> Result<Items, GenFault>
     ensures items { IfOk result (λ items. items ≡ program_items checked.now) }
     ensures words { IfOk result (λ items. words_needed (expansion items) ≤ most_words checked.now) }
+    ensures leaves { IfOk result (λ items. LeavesSpareStack checked.now items) }
 {
     let program = checked.program();
     let places = global_places(alloc, program)?;
     let mut out = Vec::new(alloc);
     push_program(&mut out, &places, program)?;
     programs_have_few_words();
+    programs_spare_stack();
     Ok(Listed::from_vec(out))
 }
 

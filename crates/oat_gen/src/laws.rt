@@ -11,6 +11,7 @@ ghost use Rattle.oat_gen.specs.Laws.{
   ProgramItemsCanBeExpanded,
   ProgramsHaveFewWords,
 };
+ghost use Rattle.oat_gen.specs.Leaves.{ProgramsSpareStack};
 ghost use Rattle.oat_gen.specs.Worked.{IdleIsGenerated};
 
 use oat_check::laws::words_are_few;
@@ -78,6 +79,11 @@ pub fn programs_have_few_words()
     codes_are_of_the_program();
     functions_have_their_code();
 }
+
+/// Leaves with at most eight locals have them in registers.
+pub fn programs_spare_stack()
+    ensures { ProgramsSpareStack }
+{}
 
 /// A worked program has its code.
 pub fn idle_is_generated()

@@ -11,6 +11,7 @@ mod generation;
 mod globals;
 mod items;
 pub mod laws;
+mod leaves;
 mod lines;
 mod moves;
 

@@ -3,16 +3,22 @@
 ghost use Rattle.std.specs.Prelude.{◌≡◌, ◌++◌, ◌<◌, OnOk};
 ghost use Rattle.oat_a64.specs.declared.inst.Inst.TheVariants as inst;
 ghost use Rattle.oat_asm.specs.declared.item.Item.TheVariants as item;
+ghost use Rattle.oat_frames.specs.Frames.{home_of};
 ghost use Rattle.oat_locals.specs.Code.{const_code, copy_code, input_code, output_code};
 
-use crate::items::{from_slot, into_slot, push_all, svc};
+use crate::items::{from_home, into_home, push_all, svc};
 use oat_a64::Inst;
 use oat_asm::Item;
 use std::alloc::AllocError;
 
-pub(crate) fn push_const(out: &mut Vec<Item>, x: u32, value: i64) -> Result<(), AllocError>
+pub(crate) fn push_const(
+    out: &mut Vec<Item>,
+    leaf: bool,
+    x: u32,
+    value: i64,
+) -> Result<(), AllocError>
     requires { x < 255 }
-    ensures { OnOk result (out.new.items ≡ out.old.items ++ const_code x value) }
+    ensures { OnOk result (out.new.items ≡ out.old.items ++ const_code (home_of leaf x) value) }
 {
     let number = value.cast_unsigned();
     let first = Inst::Movz {
@@ -25,7 +31,13 @@ pub(crate) fn push_const(out: &mut Vec<Item>, x: u32, value: i64) -> Result<(), 
     let fourth = movk(3, (number / 0x1_0000_0000_0000) as u16);
     push_all(
         out,
-        &[Item::Inst(first), second, third, fourth, into_slot(9, x)],
+        &[
+            Item::Inst(first),
+            second,
+            third,
+            fourth,
+            into_home(9, leaf, x),
+        ],
     )
 }
 
@@ -36,24 +48,24 @@ fn movk(hw: u8, imm: u16) -> Item
     Item::Inst(Inst::Movk { rd: 9, hw, imm })
 }
 
-pub(crate) fn push_copy(out: &mut Vec<Item>, x: u32, y: u32) -> Result<(), AllocError>
+pub(crate) fn push_copy(out: &mut Vec<Item>, leaf: bool, x: u32, y: u32) -> Result<(), AllocError>
     requires x { x < 255 }
     requires y { y < 255 }
-    ensures { OnOk result (out.new.items ≡ out.old.items ++ copy_code x y) }
+    ensures { OnOk result (out.new.items ≡ out.old.items ++ copy_code (home_of leaf x) (home_of leaf y)) }
 {
-    push_all(out, &[from_slot(9, y), into_slot(9, x)])
+    push_all(out, &[from_home(9, leaf, y), into_home(9, leaf, x)])
 }
 
-pub(crate) fn push_input(out: &mut Vec<Item>, x: u32) -> Result<(), AllocError>
+pub(crate) fn push_input(out: &mut Vec<Item>, leaf: bool, x: u32) -> Result<(), AllocError>
     requires { x < 255 }
-    ensures { OnOk result (out.new.items ≡ out.old.items ++ input_code x) }
+    ensures { OnOk result (out.new.items ≡ out.old.items ++ input_code (home_of leaf x)) }
 {
-    push_all(out, &[svc(8), into_slot(0, x)])
+    push_all(out, &[svc(8), into_home(0, leaf, x)])
 }
 
-pub(crate) fn push_output(out: &mut Vec<Item>, x: u32) -> Result<(), AllocError>
+pub(crate) fn push_output(out: &mut Vec<Item>, leaf: bool, x: u32) -> Result<(), AllocError>
     requires { x < 255 }
-    ensures { OnOk result (out.new.items ≡ out.old.items ++ output_code x) }
+    ensures { OnOk result (out.new.items ≡ out.old.items ++ output_code (home_of leaf x)) }
 {
-    push_all(out, &[from_slot(0, x), svc(9)])
+    push_all(out, &[from_home(0, leaf, x), svc(9)])
 }

@@ -11,16 +11,15 @@ use Rattle.oat_ir.specs.declared.func.Ty.TheVariants.{I64}
 use Rattle.oat_check.specs.Steps.{Frame, assigned}
 use Rattle.oat_journal.specs.Run.{Running}
 use Rattle.oat_follow.specs.Events.{MachineEvent}
-use Rattle.oat_frames.specs.Frames.{World, IsWorld, Represents, IsSlotted, HoldsState, IsAt, line_address}
-use Rattle.oat_frames.specs.Code.{CodeStands}
+use Rattle.oat_frames.specs.Frames.{World, IsWorld, Represents, HoldsState, IsAt, home_word, home_in, line_address}
+use Rattle.oat_frames.specs.Code.{CodeStands, store_inst, home_load, home_store}
 use Rattle.oat_frames.specs.Comes.{StepsTo, with_result}
 use Rattle.oat_frames.specs.Lines.{on_next_line}
-use Rattle.oat_frames.specs.Readied.{IsReadied}
+use Rattle.oat_frames.specs.Readied.{IsReadied, KeepsHomes}
 use Rattle.oat_follow.specs.Reaching.{RunsTo}
 use Rattle.oat_frames.specs.Moments.{next_moment}
-use Rattle.oat_frames.proofs.Kit.{thence, set-other, with_x, with_slot, ldr, ldr-at, str-at, moves-number}
-use Rattle.oat_frames.proofs.FrameLaws.{slot-of, puts-global, global-opens, can-slot, by-registers, assigns}
-use Rattle.oat_globals.specs.Code.{slot_load, slot_store}
+use Rattle.oat_frames.proofs.Kit.{thence, set-other, with_x, with_slot, ldr-at, str-at, moves-number}
+use Rattle.oat_frames.proofs.FrameLaws.{puts-global, global-opens, by-registers, assigns, local-word, loads-local}
 use Rattle.oat_globals.specs.Scalars.{IsScalarPair}
 
 -- ---- the address of a word
@@ -46,14 +45,15 @@ pub record IsStored (image : Image) (count g word : ℕ) (shown : List MachineEv
   pub memory : l.machine.memory ≡ with_word k.machine.memory (global_address g) word
   pub sp : l.machine.regs.sp ≡ k.machine.regs.sp
   pub depth : l.machine.regs.x 28 ≡ k.machine.regs.x 28
+  pub homes : KeepsHomes k.machine.regs.x l.machine.regs.x
   pub pc : l.machine.regs.pc ≡ k.machine.regs.pc + 4 * count
 
 pub stored_by : (image : Image) (g word : ℕ) (k : Running) → k.end ≡ None → RunsTo image 1 k (next_moment k (with_slot k.machine (global_address g) word)) []
     → IsStored image 1 g word [] k (next_moment k (with_slot k.machine (global_address g) word))
-stored_by image g word k going runs = record { runs = runs; going = going; inputs = refl; outputs = refl; memory = refl; sp = refl; depth = refl; pc = refl }
+stored_by image g word k going runs = record { runs = runs; going = going; inputs = refl; outputs = refl; memory = refl; sp = refl; depth = refl; homes = λ i h. refl; pc = refl }
 
--- one more instruction, which gives a register other than X28 a number
-further : (image : Image) (count bytes rt v : ℕ) (m k : Running) → IsReadied image count bytes [] m.inputs m k → rt < 28 → RunsTo image 1 k (next_moment k (with_x k.machine rt v)) []
+-- one more instruction, which gives a scratch register a number
+further : (image : Image) (count bytes rt v : ℕ) (m k : Running) → IsReadied image count bytes [] m.inputs m k → rt < 19 → RunsTo image 1 k (next_moment k (with_x k.machine rt v)) []
     → IsReadied image (count + 1) (bytes + 4) [] m.inputs m (next_moment k (with_x k.machine rt v))
 further image count bytes rt v m k ready low one = record {
   runs = thence image count 1 m k (next_moment k (with_x k.machine rt v)) [] [] ready.runs one;
@@ -63,6 +63,7 @@ further image count bytes rt v m k ready low one = record {
   memory = ready.memory;
   sp = ready.sp;
   depth = set-other k.machine.regs.x rt v 28 (λ e. absurd (omega arith)) ∙ ready.depth;
+  homes = λ i h. set-other k.machine.regs.x rt v (19 + i) (λ e. absurd (omega arith)) ∙ ready.homes i h;
   pc = ap (λ (p : ℕ). p + 4) ready.pc ∙ plus m.machine.regs.pc bytes;
 } where
   plus : (p b : ℕ) → p + b + 4 ≡ p + (b + 4)
@@ -78,6 +79,7 @@ shown_behind image g word k l es stored shows = record {
   memory = stored.memory;
   sp = stored.sp;
   depth = stored.depth;
+  homes = stored.homes;
   pc = ap (λ (p : ℕ). p + 4) stored.pc ∙ two k.machine.regs.pc;
 } where
   two : (p : ℕ) → p + 4 * 1 + 4 ≡ p + 4 * 2
@@ -88,7 +90,7 @@ module _ (w : World) (ok : IsWorld w) where
       → IsReadied w.image 2 8 [] m.inputs m (addressed m g)
   addresses m g going inside one two =
       let small : g < 65536 = small_word g w.globals inside ok.globals in
-      by-registers w.image 2 8 [] m (addressed m g) (moves-number w.image ok.low m 11 (global_address g) (omega arith) going (omega arith) one two) going refl refl refl (twice m.machine.regs.pc)
+      by-registers w.image 2 8 [] m (addressed m g) (moves-number w.image ok.low m 11 (global_address g) (omega arith) going (omega arith) one two) going refl refl refl (refl, refl, refl, refl, refl, refl, refl, refl) (twice m.machine.regs.pc)
 
   -- the word goes into a register
   pub fetches : (k : Running) (rt g : ℕ) → k.end ≡ None → g < w.globals → k.machine.regs.x 11 ≡ global_address g → Stands w.image.code k.machine.regs.pc (Ldr rt 11 0)
@@ -105,21 +107,8 @@ module _ (w : World) (ok : IsWorld w) where
       stored_by w.image g (reg k.machine.regs rt) k going
       (str-at w.image ok.low k rt 11 0 (global_address g) going at (no_more (k.machine.regs.x 11) (global_address g) address) (omega arith) (global-opens g small))
 
-module _ (w : World) (ok : IsWorld w) (f : Frame) (callers : List Frame) (globals : ℕ → ℕ) (m : Running) (r : IsAt w f callers globals m) (slots : IsSlotted w f.func) where
+module _ (w : World) (ok : IsWorld w) (f : Frame) (callers : List Frame) (globals : ℕ → ℕ) (m : Running) (r : IsAt w f callers globals m) where
   -- ---- what words stand for
-
-  -- a local's word
-  pub local_word : (x : ℕ) → x < w.locals f.func → Represents w (w.ty f.func x) (f.locals x) (word_in m.machine.memory (m.machine.regs.sp + 8 * (x + 1)))
-  local_word x inside = slot-of w m.machine.regs.x m.machine.memory m.machine.regs.sp f.func f.locals slots r.holds.frame x inside
-
-  -- it is loaded from its slot, at a moment with the same memory
-  pub loads_local : (k : Running) (rt x : ℕ) → k.end ≡ None → k.machine.memory ≡ m.machine.memory → k.machine.regs.sp ≡ m.machine.regs.sp → x < w.locals f.func → Stands w.image.code k.machine.regs.pc (Ldr rt 31 (x + 1))
-      → RunsTo w.image 1 k (next_moment k (with_x k.machine rt (word_in m.machine.memory (m.machine.regs.sp + 8 * (x + 1))))) []
-  loads_local k rt x going memory sp inside at =
-      let can = can-slot w ok f callers globals m r slots x k.machine.regs.sp inside sp in
-      let same : word_in k.machine.memory (k.machine.regs.sp + 8 * (x + 1)) ≡ word_in m.machine.memory (m.machine.regs.sp + 8 * (x + 1)) =
-      ap (λ (old : ℕ → ℕ). word_in old (k.machine.regs.sp + 8 * (x + 1))) memory ∙ ap (λ (s : ℕ). word_in m.machine.memory (s + 8 * (x + 1))) sp in
-      subst (λ (v : ℕ). RunsTo w.image 1 k (next_moment k (with_x k.machine rt v)) []) same (ldr w.image ok.low k rt (x + 1) going at can.0 can.1)
 
   -- a word that is a number is its value
   pub number_word : (g : ℕ) → g < w.globals → w.global_ty g ≡ I64 → Represents w I64 (globals g) (word_in m.machine.memory (global_address g))
@@ -127,12 +116,12 @@ module _ (w : World) (ok : IsWorld w) (f : Frame) (callers : List Frame) (global
 
   -- ---- how lines end
 
-  -- in a store of a register into a slot
-  pub ends_in_slot : (count bytes rt x v : ℕ) (es : List MachineEvent) (k : Running) → IsReadied w.image count bytes es m.inputs m k → x < w.locals f.func → w.place f.func f.block (f.line + 1) ≡ line_address w f + bytes + 4
-      → Stands w.image.code k.machine.regs.pc (Str rt 31 (x + 1)) → Represents w (w.ty f.func x) v (reg k.machine.regs rt) → StepsTo w (count + 1) (with_result f x v) callers globals es m
-  ends_in_slot count bytes rt x v es k ready inside next at value =
-      assigns w ok f callers globals m r slots count bytes rt x v es m.inputs k ready
-      (subst (λ (p : ℕ). Stands w.image.code p (Str rt 31 (x + 1))) (ready.pc ∙ ap (λ (p : ℕ). p + bytes) r.pc) at) next inside value
+  -- in a store of a register into a home
+  pub ends_in_home : (count bytes rt x v : ℕ) (es : List MachineEvent) (k : Running) → IsReadied w.image count bytes es m.inputs m k → x < w.locals f.func → w.place f.func f.block (f.line + 1) ≡ line_address w f + bytes + 4
+      → Stands w.image.code k.machine.regs.pc (store_inst rt (home_in w f x)) → Represents w (w.ty f.func x) v (reg k.machine.regs rt) → StepsTo w (count + 1) (with_result f x v) callers globals es m
+  ends_in_home count bytes rt x v es k ready inside next at value =
+      assigns w ok f callers globals m r count bytes rt x v es m.inputs k ready
+      (subst (λ (p : ℕ). Stands w.image.code p (store_inst rt (home_in w f x))) (ready.pc ∙ ap (λ (p : ℕ). p + bytes) r.pc) at) next inside value
 
   -- in a store into a word, and what follows it
   pub ends_in_word : (count bytes more g v word : ℕ) (es shown : List MachineEvent) (k l : Running) → IsReadied w.image count bytes es m.inputs m k → IsStored w.image more g word shown k l → 1 ≤ more
@@ -156,7 +145,7 @@ module _ (w : World) (ok : IsWorld w) (f : Frame) (callers : List Frame) (global
     memory_is = stored.memory ∙ ap (λ (old : ℕ → ℕ). with_word old (global_address g) word) ready.memory
 
     here : HoldsState w f.func f.locals callers (assigned globals g v) l.machine.regs.x m.machine.regs.sp (with_word m.machine.memory (global_address g) word)
-    here = puts-global w ok f.func f.locals callers globals m.machine.regs.x l.machine.regs.x m.machine.regs.sp m.machine.memory r.holds (stored.depth ∙ ready.depth) slots g v word inside value
+    here = puts-global w ok f.func f.locals callers globals m.machine.regs.x l.machine.regs.x m.machine.regs.sp m.machine.memory r.holds (stored.depth ∙ ready.depth) (λ i h. stored.homes i h ∙ ready.homes i h) g v word inside value
 
     there : HoldsState w f.func f.locals callers (assigned globals g v) l.machine.regs.x l.machine.regs.sp l.machine.memory
     there =
@@ -166,7 +155,7 @@ module _ (w : World) (ok : IsWorld w) (f : Frame) (callers : List Frame) (global
   -- ---- the two lines on one word, for either address
 
   pub loads_word : (count bytes x g : ℕ) (k : Running) → IsReadied w.image count bytes [] m.inputs m k → k.machine.regs.x 11 ≡ global_address g → IsScalarPair w f g x
-      → CodeStands w k.machine.regs.pc (item.Inst (Ldr 9 11 0) ∷ slot_store 9 x ∷ []) → w.place f.func f.block (f.line + 1) ≡ line_address w f + bytes + 8
+      → CodeStands w k.machine.regs.pc (item.Inst (Ldr 9 11 0) ∷ home_store 9 (home_in w f x) ∷ []) → w.place f.func f.block (f.line + 1) ≡ line_address w f + bytes + 8
       → StepsTo w (count + 1 + 1) (with_result f x (globals g)) callers globals [] m
   loads_word count bytes x g k ready address this at next =
       let word : ℕ = word_in k.machine.memory (global_address g) in
@@ -175,20 +164,20 @@ module _ (w : World) (ok : IsWorld w) (f : Frame) (callers : List Frame) (global
       subst (λ (u : ℕ). Represents w (w.ty f.func x) (globals g) u) same (subst (λ (t : Ty). Represents w t (globals g) (word_in m.machine.memory (global_address g))) (sym this.types) (r.holds.words g this.global)) in
       let l : Running = next_moment k (with_x k.machine 9 word) in
       let one : RunsTo w.image 1 k l [] = fetches w ok k 9 g ready.going this.global address at.0 in
-      ends_in_slot (count + 1) (bytes + 4) 9 x (globals g) [] l
+      ends_in_home (count + 1) (bytes + 4) 9 x (globals g) [] l
       (further w.image count bytes 9 word m k ready (omega arith) one)
       this.local (next ∙ plus (line_address w f) bytes) at.1.0 value where
         plus : (p b : ℕ) → p + b + 8 ≡ p + (b + 4) + 4
         plus p b = omega arith
 
   pub stores_word : (count bytes g x : ℕ) (k : Running) → IsReadied w.image count bytes [] m.inputs m k → k.machine.regs.x 11 ≡ global_address g → IsScalarPair w f g x
-      → CodeStands w k.machine.regs.pc (slot_load 9 x ∷ item.Inst (Str 9 11 0) ∷ []) → w.place f.func f.block (f.line + 1) ≡ line_address w f + bytes + 8
+      → CodeStands w k.machine.regs.pc (home_load 9 (home_in w f x) ∷ item.Inst (Str 9 11 0) ∷ []) → w.place f.func f.block (f.line + 1) ≡ line_address w f + bytes + 8
       → StepsTo w (count + 1 + 1) (on_next_line f) callers (assigned globals g (f.locals x)) [] m
   stores_word count bytes g x k ready address this at next =
-      let word : ℕ = word_in m.machine.memory (m.machine.regs.sp + 8 * (x + 1)) in
-      let value : Represents w (w.global_ty g) (f.locals x) word = subst (λ (t : Ty). Represents w t (f.locals x) word) this.types (local_word x this.local) in
+      let word : ℕ = home_word m.machine.regs.x m.machine.memory m.machine.regs.sp (home_in w f x) in
+      let value : Represents w (w.global_ty g) (f.locals x) word = subst (λ (t : Ty). Represents w t (f.locals x) word) this.types (local-word w ok f callers globals m r x this.local) in
       let l : Running = next_moment k (with_x k.machine 9 word) in
-      let one : RunsTo w.image 1 k l [] = loads_local k 9 x ready.going ready.memory ready.sp this.local at.0 in
+      let one : RunsTo w.image 1 k l [] = loads-local w ok f callers globals m r k 9 x ready.going ready.memory ready.sp ready.homes at.0 this.local in
       ends_in_word (count + 1) (bytes + 4) 1 g (f.locals x) word [] [] l (next_moment l (with_slot l.machine (global_address g) word))
       (further w.image count bytes 9 word m k ready (omega arith) one)
       (puts_word w ok l 9 g ready.going this.global address at.1.0) (omega arith) this.global (next ∙ plus (line_address w f) bytes) value where

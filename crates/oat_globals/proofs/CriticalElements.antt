@@ -15,19 +15,19 @@ use Rattle.oat_mem.specs.DataMemory.{word_in, global_address}
 use Rattle.oat_shape.specs.Groups.{Stands}
 use Rattle.oat_journal.specs.declared.end.DeviceEnd.TheVariants as ends
 use Rattle.oat_journal.specs.Run.{Running, makes}
-use Rattle.oat_frames.specs.Code.{CodeStands}
+use Rattle.oat_frames.specs.Code.{CodeStands, home_store}
 use Rattle.oat_frames.specs.Comes.{EndsWithin}
 use Rattle.oat_follow.specs.Events.{MachineEvent, monitors}
-use Rattle.oat_frames.specs.Frames.{World, IsWorld, Represents, line_address}
+use Rattle.oat_frames.specs.Frames.{World, IsWorld, Home, Represents, home_in, line_address}
 use Rattle.oat_frames.specs.Readied.{IsReadied}
 use Rattle.oat_follow.specs.Reaching.{RunsTo}
 use Rattle.oat_frames.specs.Moments.{next_moment}
 use Rattle.oat_frames.proofs.Kit.{thence, with_x, with_slot, sets, quietly, next-is, below}
 use Rattle.oat_frames.proofs.FrameLaws.{global-opens, loads-number, number-small, by-registers}
-use Rattle.oat_globals.specs.Code.{address_code, slot_store, use_at_code, define_at_code}
+use Rattle.oat_globals.specs.Code.{address_code, use_at_code, define_at_code}
 use Rattle.oat_globals.specs.Elements.{CriticalElementLoadsLead, CriticalElementStoresLead, CriticalElementLoadsTrap, CriticalElementStoresTrap}
 use Rattle.oat_globals.proofs.Showing.{GivesNothing, gives_nothing, movz, svc_shows, admitted, admits, refuses, ends_behind}
-use Rattle.oat_globals.proofs.Accessing.{IsStored, stored_by, shown_behind, small_word, addressed, addresses, number_word, ends_in_slot, ends_in_word}
+use Rattle.oat_globals.proofs.Accessing.{IsStored, stored_by, shown_behind, small_word, addressed, addresses, number_word, ends_in_home, ends_in_word}
 use Rattle.oat_globals.proofs.CriticalScalars.{own_word}
 
 -- ---- one access by the address of the first word and the element's number
@@ -65,8 +65,8 @@ module _ (w : World) (ok : IsWorld w) where
 -- ---- the test of a group
 
 -- what stands behind the address in each line
-abbrev behind_use : (x cell : ℕ) → List Item
-behind_use x cell = item.Inst (LdrReg 10 11 12) ∷ item.Inst (Movz 9 0 cell) ∷ item.Inst (AddReg 9 9 12 0) ∷ item.Inst (Svc 7) ∷ slot_store 10 x ∷ []
+abbrev behind_use : (x : Home) (cell : ℕ) → List Item
+behind_use x cell = item.Inst (LdrReg 10 11 12) ∷ item.Inst (Movz 9 0 cell) ∷ item.Inst (AddReg 9 9 12 0) ∷ item.Inst (Svc 7) ∷ home_store 10 x ∷ []
 
 abbrev behind_define : ℕ → List Item
 behind_define cell = item.Inst (Movz 9 0 cell) ∷ item.Inst (AddReg 9 9 12 0) ∷ item.Inst (StrReg 10 11 12) ∷ item.Inst (Svc 6) ∷ []
@@ -102,8 +102,8 @@ critical_element_loads_lead w ok f callers globals x base cell len i m r line th
     let last : base + len ≤ w.globals = this.line.array.inside in
     let inside : g < w.globals = omega arith in
     let first : base < w.globals = omega arith in
-    let word : Represents w I64 value (word_in m.machine.memory (global_address g)) = number_word w ok f callers globals m r line.slots g inside (this.line.array.numbers v less) in
-    let at : CodeStands w m.machine.regs.pc (use_at_code x base cell len i) = subst (λ (q : ℕ). CodeStands w q (use_at_code x base cell len i)) (sym r.pc) line.code in
+    let word : Represents w I64 value (word_in m.machine.memory (global_address g)) = number_word w ok f callers globals m r g inside (this.line.array.numbers v less) in
+    let at : CodeStands w m.machine.regs.pc (use_at_code (home_in w f x) base cell len (home_in w f i)) = subst (λ (q : ℕ). CodeStands w q (use_at_code (home_in w f x) base cell len (home_in w f i))) (sym r.pc) line.code in
     let m1 : Running = next_moment m (with_x m.machine 12 v) in
     let m2 : Running = located m1 len base in
     let m3 : Running = next_moment m2 (with_x m2.machine 10 value) in
@@ -111,9 +111,9 @@ critical_element_loads_lead w ok f callers globals x base cell len i m r line th
     let m5 : Running = next_moment m4 (with_x m4.machine 9 (cell + v)) in
     let m6 : Running = next_moment m5 m5.machine in
     let es : List MachineEvent = monitors (svc.Use (cell + v) value) ∷ [] in
-    let r1 : RunsTo w.image 1 m m1 [] = loads-number w ok f callers globals m r line.slots m 12 i r.going refl refl at.0 this.line.index in
+    let r1 : RunsTo w.image 1 m m1 [] = loads-number w ok f callers globals m r m 12 i r.going refl refl (refl, refl, refl, refl, refl, refl, refl, refl) at.0 this.line.index in
     let test : GivesNothing w.image (m1.machine.regs.pc + 4 + 4) = gives_nothing w.image (m1.machine.regs.pc + 4 + 4) (rows.UseAt m1.machine.regs.pc cell len) (at.1.0 (m1.machine.regs.pc + 4 + 4) (omega arith) (omega arith)) (λ next. refl) in
-    let r2 : RunsTo w.image 5 m1 m2 [] = locates w ok m1 len base (behind_use x cell) r.going at.1.1 (omega arith) test first less in
+    let r2 : RunsTo w.image 5 m1 m2 [] = locates w ok m1 len base (behind_use (home_in w f x) cell) r.going at.1.1 (omega arith) test first less in
     let r3 : RunsTo w.image 1 m2 m3 [] = subst (λ (u : ℕ). RunsTo w.image 1 m2 (next_moment m2 (with_x m2.machine 10 u)) []) word.is (loads_element w ok m2 base v r.going at.1.1.1.1.1.1.1.1.0 inside refl refl) in
     let r4 : RunsTo w.image 1 m3 m4 [] = movz w.image ok.low m3 9 cell r.going (omega arith) at.1.1.1.1.1.1.1.1.1.0 in
     let r5 : RunsTo w.image 1 m4 m5 [] = sets w.image ok.low m4 (AddReg 9 9 12 0) 9 (cell + v) r.going at.1.1.1.1.1.1.1.1.1.1.0 (λ r next. refl)
@@ -121,8 +121,8 @@ critical_element_loads_lead w ok f callers globals x base cell len i m r line th
     let r6 : RunsTo w.image 1 m5 m6 es = svc_shows w.image ok.low m5 7 (svc.Use (cell + v) value) r.going at.1.1.1.1.1.1.1.1.1.1.1.0 refl refl in
     let ready : IsReadied w.image 10 44 es m.inputs m m6 =
     by-registers w.image 10 44 es m m6 (thence w.image 1 9 m m1 m6 [] es r1 (thence w.image 5 4 m1 m2 m6 [] es r2
-    (thence w.image 1 3 m2 m3 m6 [] es r3 (thence w.image 1 2 m3 m4 m6 [] es r4 (thence w.image 1 1 m4 m5 m6 [] es r5 r6))))) r.going refl refl refl (eleven m.machine.regs.pc) in
-    ends_in_slot w ok f callers globals m r line.slots 10 44 10 x value es m6 ready this.line.local.local (line.next ∙ plus (line_address w f)) at.1.1.1.1.1.1.1.1.1.1.1.1.0 (own_word w (w.ty f.func x) value _ this.line.local.ty word) where
+    (thence w.image 1 3 m2 m3 m6 [] es r3 (thence w.image 1 2 m3 m4 m6 [] es r4 (thence w.image 1 1 m4 m5 m6 [] es r5 r6))))) r.going refl refl refl (refl, refl, refl, refl, refl, refl, refl, refl) (eleven m.machine.regs.pc) in
+    ends_in_home w ok f callers globals m r 10 44 10 x value es m6 ready this.line.local.local (line.next ∙ plus (line_address w f)) at.1.1.1.1.1.1.1.1.1.1.1.1.0 (own_word w (w.ty f.func x) value _ this.line.local.ty word) where
       eleven : (p : ℕ) → p + 4 + 4 + 4 + 4 + 4 + 4 + 4 + 4 + 4 + 4 + 4 ≡ p + 44
       eleven p = omega arith
 
@@ -132,11 +132,11 @@ critical_element_loads_lead w ok f callers globals x base cell len i m r line th
 pub critical_element_loads_trap : CriticalElementLoadsTrap
 critical_element_loads_trap w ok f callers globals x base cell len i m r line this more =
     let few : len ≤ 4096 = this.few in
-    let at : CodeStands w m.machine.regs.pc (use_at_code x base cell len i) = subst (λ (q : ℕ). CodeStands w q (use_at_code x base cell len i)) (sym r.pc) line.code in
+    let at : CodeStands w m.machine.regs.pc (use_at_code (home_in w f x) base cell len (home_in w f i)) = subst (λ (q : ℕ). CodeStands w q (use_at_code (home_in w f x) base cell len (home_in w f i))) (sym r.pc) line.code in
     let m1 : Running = next_moment m (with_x m.machine 12 (f.locals i)) in
-    let r1 : RunsTo w.image 1 m m1 [] = loads-number w ok f callers globals m r line.slots m 12 i r.going refl refl at.0 this.line.index in
+    let r1 : RunsTo w.image 1 m m1 [] = loads-number w ok f callers globals m r m 12 i r.going refl refl (refl, refl, refl, refl, refl, refl, refl, refl) at.0 this.line.index in
     let test : GivesNothing w.image (m1.machine.regs.pc + 4 + 4) = gives_nothing w.image (m1.machine.regs.pc + 4 + 4) (rows.UseAt m1.machine.regs.pc cell len) (at.1.0 (m1.machine.regs.pc + 4 + 4) (omega arith) (omega arith)) (λ next. refl) in
-    ends_behind w ok.low 1 4 (ends.Trap Index) m m1 r1 refl (refuses_element w ok m1 len base (behind_use x cell) r.going at.1.1 (omega arith) test more)
+    ends_behind w ok.low 1 4 (ends.Trap Index) m m1 r1 refl (refuses_element w ok m1 len base (behind_use (home_in w f x) cell) r.going at.1.1 (omega arith) test more)
 
 -- ---- a define
 
@@ -150,7 +150,7 @@ critical_element_stores_lead w ok f callers globals base cell len i x m r line t
     let last : base + len ≤ w.globals = this.line.array.inside in
     let inside : g < w.globals = omega arith in
     let first : base < w.globals = omega arith in
-    let at : CodeStands w m.machine.regs.pc (define_at_code base cell len i x) = subst (λ (q : ℕ). CodeStands w q (define_at_code base cell len i x)) (sym r.pc) line.code in
+    let at : CodeStands w m.machine.regs.pc (define_at_code base cell len (home_in w f i) (home_in w f x)) = subst (λ (q : ℕ). CodeStands w q (define_at_code base cell len (home_in w f i) (home_in w f x))) (sym r.pc) line.code in
     let m1 : Running = next_moment m (with_x m.machine 12 v) in
     let m2 : Running = next_moment m1 (with_x m1.machine 10 value) in
     let m3 : Running = located m2 len base in
@@ -159,20 +159,20 @@ critical_element_stores_lead w ok f callers globals base cell len i x m r line t
     let m6 : Running = next_moment m5 (with_slot m5.machine (global_address g) value) in
     let m7 : Running = next_moment m6 m6.machine in
     let es : List MachineEvent = monitors (svc.Define (cell + v) value) ∷ [] in
-    let r1 : RunsTo w.image 1 m m1 [] = loads-number w ok f callers globals m r line.slots m 12 i r.going refl refl at.0 this.line.index in
-    let r2 : RunsTo w.image 1 m1 m2 [] = loads-number w ok f callers globals m r line.slots m1 10 x r.going refl refl at.1.0 this.line.local in
+    let r1 : RunsTo w.image 1 m m1 [] = loads-number w ok f callers globals m r m 12 i r.going refl refl (refl, refl, refl, refl, refl, refl, refl, refl) at.0 this.line.index in
+    let r2 : RunsTo w.image 1 m1 m2 [] = loads-number w ok f callers globals m r m1 10 x r.going refl refl (refl, refl, refl, refl, refl, refl, refl, refl) at.1.0 this.line.local in
     let test : GivesNothing w.image (m2.machine.regs.pc + 4 + 4) = gives_nothing w.image (m2.machine.regs.pc + 4 + 4) (rows.DefAt m2.machine.regs.pc cell len) (at.1.1.0 (m2.machine.regs.pc + 4 + 4) (omega arith) (omega arith)) (λ next. refl) in
     let r3 : RunsTo w.image 5 m2 m3 [] = locates w ok m2 len base (behind_define cell) r.going at.1.1.1 (omega arith) test first less in
     let r4 : RunsTo w.image 1 m3 m4 [] = movz w.image ok.low m3 9 cell r.going (omega arith) at.1.1.1.1.1.1.1.1.1.0 in
     let r5 : RunsTo w.image 1 m4 m5 [] = sets w.image ok.low m4 (AddReg 9 9 12 0) 9 (cell + v) r.going at.1.1.1.1.1.1.1.1.1.1.0 (λ r next. refl)
     (ap (λ (s : ℕ). goes_on m4.machine (with_reg m4.machine.regs 9 s)) (cell_is cell v (omega arith) (omega arith))) in
     let ready : IsReadied w.image 9 40 [] m.inputs m m5 =
-    by-registers w.image 9 40 [] m m5 (thence w.image 1 8 m m1 m5 [] [] r1 (thence w.image 1 7 m1 m2 m5 [] [] r2 (thence w.image 5 2 m2 m3 m5 [] [] r3 (thence w.image 1 1 m3 m4 m5 [] [] r4 r5)))) r.going refl refl refl (ten m.machine.regs.pc) in
+    by-registers w.image 9 40 [] m m5 (thence w.image 1 8 m m1 m5 [] [] r1 (thence w.image 1 7 m1 m2 m5 [] [] r2 (thence w.image 5 2 m2 m3 m5 [] [] r3 (thence w.image 1 1 m3 m4 m5 [] [] r4 r5)))) r.going refl refl refl (refl, refl, refl, refl, refl, refl, refl, refl) (ten m.machine.regs.pc) in
     let r6 : IsStored w.image 1 g value [] m5 m6 = stores_element w ok m5 base v r.going at.1.1.1.1.1.1.1.1.1.1.1.0 inside refl refl in
     let r7 : RunsTo w.image 1 m6 m7 es = svc_shows w.image ok.low m6 6 (svc.Define (cell + v) value) r.going at.1.1.1.1.1.1.1.1.1.1.1.1.0 refl refl in
     let both : IsStored w.image 2 g value es m5 m7 = shown_behind w.image g value m5 m6 es r6 r7 in
-    ends_in_word w ok f callers globals m r line.slots 9 40 2 g value value [] es m5 m7 ready both (omega arith) inside (line.next ∙ plus (line_address w f))
-    (subst (λ (ty : Ty). Represents w ty value value) (sym (this.line.array.numbers v less)) (record { known = number-small w ok f callers globals m r line.slots x this.line.local; is = refl })) where
+    ends_in_word w ok f callers globals m r 9 40 2 g value value [] es m5 m7 ready both (omega arith) inside (line.next ∙ plus (line_address w f))
+    (subst (λ (ty : Ty). Represents w ty value value) (sym (this.line.array.numbers v less)) (record { known = number-small w ok f callers globals m r x this.line.local; is = refl })) where
       ten : (p : ℕ) → p + 4 + 4 + 4 + 4 + 4 + 4 + 4 + 4 + 4 + 4 ≡ p + 40
       ten p = omega arith
 
@@ -182,10 +182,10 @@ critical_element_stores_lead w ok f callers globals base cell len i x m r line t
 pub critical_element_stores_trap : CriticalElementStoresTrap
 critical_element_stores_trap w ok f callers globals base cell len i x m r line this more =
     let few : len ≤ 4096 = this.few in
-    let at : CodeStands w m.machine.regs.pc (define_at_code base cell len i x) = subst (λ (q : ℕ). CodeStands w q (define_at_code base cell len i x)) (sym r.pc) line.code in
+    let at : CodeStands w m.machine.regs.pc (define_at_code base cell len (home_in w f i) (home_in w f x)) = subst (λ (q : ℕ). CodeStands w q (define_at_code base cell len (home_in w f i) (home_in w f x))) (sym r.pc) line.code in
     let m1 : Running = next_moment m (with_x m.machine 12 (f.locals i)) in
     let m2 : Running = next_moment m1 (with_x m1.machine 10 (f.locals x)) in
-    let r1 : RunsTo w.image 1 m m1 [] = loads-number w ok f callers globals m r line.slots m 12 i r.going refl refl at.0 this.line.index in
-    let r2 : RunsTo w.image 1 m1 m2 [] = loads-number w ok f callers globals m r line.slots m1 10 x r.going refl refl at.1.0 this.line.local in
+    let r1 : RunsTo w.image 1 m m1 [] = loads-number w ok f callers globals m r m 12 i r.going refl refl (refl, refl, refl, refl, refl, refl, refl, refl) at.0 this.line.index in
+    let r2 : RunsTo w.image 1 m1 m2 [] = loads-number w ok f callers globals m r m1 10 x r.going refl refl (refl, refl, refl, refl, refl, refl, refl, refl) at.1.0 this.line.local in
     let test : GivesNothing w.image (m2.machine.regs.pc + 4 + 4) = gives_nothing w.image (m2.machine.regs.pc + 4 + 4) (rows.DefAt m2.machine.regs.pc cell len) (at.1.1.0 (m2.machine.regs.pc + 4 + 4) (omega arith) (omega arith)) (λ next. refl) in
     ends_behind w ok.low 2 4 (ends.Trap Index) m m2 (thence w.image 1 1 m m1 m2 [] [] r1 r2) refl (refuses_element w ok m2 len base (behind_define cell) r.going at.1.1.1 (omega arith) test more)

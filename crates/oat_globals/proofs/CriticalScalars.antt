@@ -7,7 +7,7 @@ use Rattle.oat_mem.specs.DataMemory.{word_in, global_address}
 use Rattle.oat_journal.specs.Run.{Running}
 use Rattle.oat_frames.specs.Code.{CodeStands}
 use Rattle.oat_follow.specs.Events.{MachineEvent, monitors}
-use Rattle.oat_frames.specs.Frames.{World, Represents, line_address}
+use Rattle.oat_frames.specs.Frames.{World, Represents, home_in, line_address}
 use Rattle.oat_frames.specs.Readied.{IsReadied}
 use Rattle.oat_follow.specs.Reaching.{RunsTo}
 use Rattle.oat_frames.specs.Moments.{next_moment}
@@ -16,7 +16,7 @@ use Rattle.oat_frames.proofs.FrameLaws.{loads-number, number-small, by-registers
 use Rattle.oat_globals.specs.Code.{use_code, define_code}
 use Rattle.oat_globals.specs.Scalars.{CriticalLoadsLead, CriticalStoresLead}
 use Rattle.oat_globals.proofs.Showing.{movz, svc_shows}
-use Rattle.oat_globals.proofs.Accessing.{IsStored, shown_behind, addressed, addresses, fetches, puts_word, number_word, ends_in_slot, ends_in_word}
+use Rattle.oat_globals.proofs.Accessing.{IsStored, shown_behind, addressed, addresses, fetches, puts_word, number_word, ends_in_home, ends_in_word}
 
 -- a number is its own word
 pub own_word : (w : World) (ty : Ty) (v word : ℕ) → ty ≡ I64 → Represents w I64 v word → Represents w ty v v
@@ -25,8 +25,8 @@ own_word w ty v word e h = subst (λ (t : Ty). Represents w t v v) (sym e) (reco
 pub critical_loads_lead : CriticalLoadsLead
 critical_loads_lead w ok f callers globals x g cell m r line this =
     let v : ℕ = globals g in
-    let word : Represents w I64 v (word_in m.machine.memory (global_address g)) = number_word w ok f callers globals m r line.slots g this.global this.ty in
-    let at : CodeStands w m.machine.regs.pc (use_code x g cell) = subst (λ (q : ℕ). CodeStands w q (use_code x g cell)) (sym r.pc) line.code in
+    let word : Represents w I64 v (word_in m.machine.memory (global_address g)) = number_word w ok f callers globals m r g this.global this.ty in
+    let at : CodeStands w m.machine.regs.pc (use_code (home_in w f x) g cell) = subst (λ (q : ℕ). CodeStands w q (use_code (home_in w f x) g cell)) (sym r.pc) line.code in
     let m2 : Running = addressed m g in
     let m3 : Running = next_moment m2 (with_x m2.machine 10 v) in
     let m4 : Running = next_moment m3 (with_x m3.machine 9 cell) in
@@ -37,8 +37,8 @@ critical_loads_lead w ok f callers globals x g cell m r line this =
     let four : RunsTo w.image 1 m3 m4 [] = movz w.image ok.low m3 9 cell r.going this.few at.1.1.1.1.0 in
     let five : RunsTo w.image 1 m4 m5 es = svc_shows w.image ok.low m4 7 (svc.Use cell v) r.going at.1.1.1.1.1.0 refl refl in
     let ready : IsReadied w.image 5 20 es m.inputs m m5 =
-    by-registers w.image 5 20 es m m5 (thence w.image 2 3 m m2 m5 [] es two.runs (thence w.image 1 2 m2 m3 m5 [] es three (thence w.image 1 1 m3 m4 m5 [] es four five))) r.going refl refl refl (five_words m.machine.regs.pc) in
-    ends_in_slot w ok f callers globals m r line.slots 5 20 10 x v es m5 ready this.local.local (line.next ∙ plus (line_address w f)) at.1.1.1.1.1.1.0 (own_word w (w.ty f.func x) v _ this.local.ty word) where
+    by-registers w.image 5 20 es m m5 (thence w.image 2 3 m m2 m5 [] es two.runs (thence w.image 1 2 m2 m3 m5 [] es three (thence w.image 1 1 m3 m4 m5 [] es four five))) r.going refl refl refl (refl, refl, refl, refl, refl, refl, refl, refl) (five_words m.machine.regs.pc) in
+    ends_in_home w ok f callers globals m r 5 20 10 x v es m5 ready this.local.local (line.next ∙ plus (line_address w f)) at.1.1.1.1.1.1.0 (own_word w (w.ty f.func x) v _ this.local.ty word) where
       five_words : (p : ℕ) → p + 4 + 4 + 4 + 4 + 4 ≡ p + 20
       five_words p = omega arith
 
@@ -48,23 +48,23 @@ critical_loads_lead w ok f callers globals x g cell m r line this =
 pub critical_stores_lead : CriticalStoresLead
 critical_stores_lead w ok f callers globals g cell x m r line this =
     let v : ℕ = f.locals x in
-    let at : CodeStands w m.machine.regs.pc (define_code g cell x) = subst (λ (q : ℕ). CodeStands w q (define_code g cell x)) (sym r.pc) line.code in
+    let at : CodeStands w m.machine.regs.pc (define_code g cell (home_in w f x)) = subst (λ (q : ℕ). CodeStands w q (define_code g cell (home_in w f x))) (sym r.pc) line.code in
     let m1 : Running = next_moment m (with_x m.machine 10 v) in
     let m3 : Running = addressed m1 g in
     let m4 : Running = next_moment m3 (with_x m3.machine 9 cell) in
     let m5 : Running = next_moment m4 (with_slot m4.machine (global_address g) v) in
     let m6 : Running = next_moment m5 m5.machine in
     let es : List MachineEvent = monitors (svc.Define cell v) ∷ [] in
-    let one : RunsTo w.image 1 m m1 [] = loads-number w ok f callers globals m r line.slots m 10 x r.going refl refl at.0 this.local in
+    let one : RunsTo w.image 1 m m1 [] = loads-number w ok f callers globals m r m 10 x r.going refl refl (refl, refl, refl, refl, refl, refl, refl, refl) at.0 this.local in
     let three : IsReadied w.image 2 8 [] m1.inputs m1 m3 = addresses w ok m1 g r.going this.global at.1.1.0 at.1.1.1.0 in
     let four : RunsTo w.image 1 m3 m4 [] = movz w.image ok.low m3 9 cell r.going this.few at.1.1.1.1.0 in
     let ready : IsReadied w.image 4 16 [] m.inputs m m4 =
-    by-registers w.image 4 16 [] m m4 (thence w.image 1 3 m m1 m4 [] [] one (thence w.image 2 1 m1 m3 m4 [] [] three.runs four)) r.going refl refl refl (four_words m.machine.regs.pc) in
+    by-registers w.image 4 16 [] m m4 (thence w.image 1 3 m m1 m4 [] [] one (thence w.image 2 1 m1 m3 m4 [] [] three.runs four)) r.going refl refl refl (refl, refl, refl, refl, refl, refl, refl, refl) (four_words m.machine.regs.pc) in
     let five : IsStored w.image 1 g v [] m4 m5 = puts_word w ok m4 10 g r.going this.global refl at.1.1.1.1.1.0 in
     let six : RunsTo w.image 1 m5 m6 es = svc_shows w.image ok.low m5 6 (svc.Define cell v) r.going at.1.1.1.1.1.1.0 refl refl in
     let both : IsStored w.image 2 g v es m4 m6 = shown_behind w.image g v m4 m5 es five six in
-    ends_in_word w ok f callers globals m r line.slots 4 16 2 g v v [] es m4 m6 ready both (omega arith) this.global (line.next ∙ plus (line_address w f))
-    (subst (λ (ty : Ty). Represents w ty v v) (sym this.ty) (record { known = number-small w ok f callers globals m r line.slots x this.local; is = refl })) where
+    ends_in_word w ok f callers globals m r 4 16 2 g v v [] es m4 m6 ready both (omega arith) this.global (line.next ∙ plus (line_address w f))
+    (subst (λ (ty : Ty). Represents w ty v v) (sym this.ty) (record { known = number-small w ok f callers globals m r x this.local; is = refl })) where
       four_words : (p : ℕ) → p + 4 + 4 + 4 + 4 ≡ p + 16
       four_words p = omega arith
 

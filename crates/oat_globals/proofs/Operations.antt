@@ -8,14 +8,14 @@ use Rattle.oat_check.specs.Steps.{Frame}
 use Rattle.oat_journal.specs.Run.{Running}
 use Rattle.oat_frames.specs.Code.{CodeStands, prologue, return_code}
 use Rattle.oat_follow.specs.Events.{MachineEvent, monitors}
-use Rattle.oat_frames.specs.Frames.{World, IsWorld, IsSlotted, HoldsState, line_address}
+use Rattle.oat_frames.specs.Frames.{World, IsWorld, home_in, line_address}
 use Rattle.oat_frames.specs.Calls.{CallLaysFrame, callee_frame, call_edge, prologue_end}
 use Rattle.oat_frames.specs.Returns.{ReturnComesBack, return_edge}
 use Rattle.oat_frames.specs.Readied.{IsReadied}
 use Rattle.oat_follow.specs.Reaching.{RunsTo}
 use Rattle.oat_frames.specs.Moments.{next_moment}
 use Rattle.oat_frames.proofs.Kit.{still, thence, with_x}
-use Rattle.oat_frames.proofs.FrameLaws.{scratched, by-registers, calls-lay-frames, returns-come-back}
+use Rattle.oat_frames.proofs.FrameLaws.{readied-holds, by-registers, calls-lay-frames, returns-come-back}
 use Rattle.oat_globals.specs.Operations.{begin_code, end_code, leave_code, role_words, begin_shown, end_shown, HasShortNumber, StartsStand, OperationCallsLead, OperationReturnsLead}
 use Rattle.oat_globals.proofs.Showing.{movz, svc_shows}
 use Rattle.oat_globals.proofs.Accessing.{twice}
@@ -23,8 +23,8 @@ use Rattle.oat_globals.proofs.Sizes.{prologue_words}
 
 pub starts_stand : StartsStand
 starts_stand w func params op h =
-    let both = stand_in_two w.image w.label (w.label func) (prologue params (w.locals func)) (begin_code op) h in
-    (both.0, subst (λ (p : ℕ). CodeStands w p (begin_code op)) (behind (w.label func) (words_needed (prologue params (w.locals func))) (w.locals func) (prologue_words params (w.locals func))) both.1) where
+    let both = stand_in_two w.image w.label (w.label func) (prologue (w.is_leaf func) params (w.locals func)) (begin_code op) h in
+    (both.0, subst (λ (p : ℕ). CodeStands w p (begin_code op)) (behind (w.label func) (words_needed (prologue (w.is_leaf func) params (w.locals func))) (w.locals func) (prologue_words (w.is_leaf func) params (w.locals func))) both.1) where
       behind : (p n locals : ℕ) → n ≡ 2 + locals → p + 4 * n ≡ p + 8 + 4 * locals
       behind p n locals h = omega arith
 
@@ -37,7 +37,7 @@ module _ (w : World) (ok : IsWorld w) where
   begins : (op : Option ℕ) (func : ℕ) (m : Running) → HasShortNumber op → m.end ≡ None → m.machine.regs.pc ≡ prologue_end w func → CodeStands w (prologue_end w func) (begin_code op)
       → (k : Running) × IsReadied w.image (role_words op) (4 * role_words op) (begin_shown w func op) m.inputs m k
   begins None func m short going pc code =
-      (m, by-registers w.image 0 0 [] m m (still w.image m) going refl refl refl (none_more m.machine.regs.pc))
+      (m, by-registers w.image 0 0 [] m m (still w.image m) going refl refl refl (refl, refl, refl, refl, refl, refl, refl, refl) (none_more m.machine.regs.pc))
   begins (Some op) func m short going pc code =
       let here : CodeStands w m.machine.regs.pc (begin_code (Some op)) = subst (λ (q : ℕ). CodeStands w q (begin_code (Some op))) (sym pc) code in
       let m1 : Running = next_moment m (with_x m.machine 9 op) in
@@ -47,13 +47,13 @@ module _ (w : World) (ok : IsWorld w) where
       let two : RunsTo w.image 1 m1 m2 es = svc_shows w.image ok.low m1 1 (svc.Begin op m1.machine.regs.pc) going here.1.1.0 refl refl in (
         m2,
         by-registers w.image 2 8 (begin_shown w func (Some op)) m m2 (subst (λ (p : ℕ). RunsTo w.image 2 m m2 (monitors (svc.Begin op p) ∷ [])) (ap (λ (p : ℕ). p + 4) pc) (thence w.image 1 1 m m1 m2 [] es one two))
-            going refl refl refl (twice m.machine.regs.pc),
+            going refl refl refl (refl, refl, refl, refl, refl, refl, refl, refl) (twice m.machine.regs.pc),
       )
 
   ends_there : (op : Option ℕ) (m : Running) (is : List Item) → HasShortNumber op → m.end ≡ None → CodeStands w m.machine.regs.pc (end_code op ++ is)
       → (k : Running) × IsReadied w.image (role_words op) (4 * role_words op) (end_shown op) m.inputs m k × CodeStands w k.machine.regs.pc is
   ends_there None m is short going code =
-      (m, by-registers w.image 0 0 [] m m (still w.image m) going refl refl refl (none_more m.machine.regs.pc), code)
+      (m, by-registers w.image 0 0 [] m m (still w.image m) going refl refl refl (refl, refl, refl, refl, refl, refl, refl, refl) (none_more m.machine.regs.pc), code)
   ends_there (Some op) m is short going code =
       let m1 : Running = next_moment m (with_x m.machine 9 op) in
       let m2 : Running = next_moment m1 m1.machine in
@@ -61,21 +61,13 @@ module _ (w : World) (ok : IsWorld w) where
       let one : RunsTo w.image 1 m m1 [] = movz w.image ok.low m 9 op going (short op refl) code.1.0 in
       let two : RunsTo w.image 1 m1 m2 es = svc_shows w.image ok.low m1 2 (svc.End op) going code.1.1.0 refl refl in (
         m2,
-        by-registers w.image 2 8 es m m2 (thence w.image 1 1 m m1 m2 [] es one two) going refl refl refl (twice m.machine.regs.pc),
+        by-registers w.image 2 8 es m m2 (thence w.image 1 1 m m1 m2 [] es one two) going refl refl refl (refl, refl, refl, refl, refl, refl, refl, refl) (twice m.machine.regs.pc),
         code.1.1.1,
       )
 
 at_most_two : (op : Option ℕ) → role_words op ≤ 2
 at_most_two None = omega arith
 at_most_two (Some op) = omega arith
-
--- behind instructions that write scratch registers alone the same holds
-held_on : (w : World) (func : ℕ) (locals : ℕ → ℕ) (callers : List Frame) (globals : ℕ → ℕ) (count bytes : ℕ) (es : List MachineEvent) (m k : Running) → IsSlotted w func → IsReadied w.image count bytes es m.inputs m k
-    → HoldsState w func locals callers globals m.machine.regs.x m.machine.regs.sp m.machine.memory → HoldsState w func locals callers globals k.machine.regs.x k.machine.regs.sp k.machine.memory
-held_on w func locals callers globals count bytes es m k slots ready h =
-    subst (λ (s : ℕ). HoldsState w func locals callers globals k.machine.regs.x s k.machine.memory) (sym ready.sp)
-    (subst (λ (memory : ℕ → ℕ). HoldsState w func locals callers globals k.machine.regs.x m.machine.regs.sp memory) (sym ready.memory)
-    (scratched w func locals callers globals m.machine.regs.x k.machine.regs.x m.machine.regs.sp m.machine.memory slots h ready.depth))
 
 -- ---- the call
 
@@ -97,7 +89,7 @@ operation_calls_lead w ok f callers globals c op m r few call begin =
       is_at = record {
         going = ready.going;
         pc = ready.pc ∙ ap (λ (p : ℕ). p + 4 * role_words op) laid.behind.pc ∙ sym begin.first;
-        holds = held_on w c.callee (callee_frame c f).locals (f ∷ callers) globals (role_words op) (4 * role_words op) (begin_shown w c.callee op) laid.to k call.function.slots ready laid.behind.holds;
+        holds = readied-holds w c.callee (callee_frame c f).locals (f ∷ callers) globals (role_words op) (4 * role_words op) (begin_shown w c.callee op) laid.to.inputs laid.to k ready laid.behind.holds;
       };
     } where
       most : (n locals more : ℕ) → n ≤ 4 → locals ≤ 255 → more ≤ 2 → 6 + n + locals + more ≤ 267
@@ -108,14 +100,14 @@ operation_calls_lead w ok f callers globals c op m r few call begin =
 pub operation_returns_lead : OperationReturnsLead
 operation_returns_lead w ok f g callers globals from to op m r code short this =
     let at : ℕ = line_address w f + 4 * role_words op in
-    let here : CodeStands w m.machine.regs.pc (leave_code (w.locals f.func) from op) = subst (λ (q : ℕ). CodeStands w q (leave_code (w.locals f.func) from op)) (sym r.pc) code in
-    let e = ends_there w ok op m (return_code (w.locals f.func) from) short r.going here in
+    let here : CodeStands w m.machine.regs.pc (leave_code (w.locals f.func) (home_in w f from) op) = subst (λ (q : ℕ). CodeStands w q (leave_code (w.locals f.func) (home_in w f from) op)) (sym r.pc) code in
+    let e = ends_there w ok op m (return_code (w.locals f.func) (home_in w f from)) short r.going here in
     let k : Running = e.0 in
     let ready : IsReadied w.image (role_words op) (4 * role_words op) (end_shown op) m.inputs m k = e.1 in
     let pc : k.machine.regs.pc ≡ at = ready.pc ∙ ap (λ (p : ℕ). p + 4 * role_words op) r.pc in
     let back : ReturnComesBack w f g callers globals from to at k = returns-come-back w ok f g callers globals from to at k ready.going pc
-    (held_on w f.func f.locals (g ∷ callers) globals (role_words op) (4 * role_words op) (end_shown op) m k this.slots ready r.holds)
-    (subst (λ (q : ℕ). CodeStands w q (return_code (w.locals f.func) from)) pc e.2) this in
+    (readied-holds w f.func f.locals (g ∷ callers) globals (role_words op) (4 * role_words op) (end_shown op) m.inputs m k ready r.holds)
+    (subst (λ (q : ℕ). CodeStands w q (return_code (w.locals f.func) (home_in w f from))) pc e.2) this in
     record {
       to = back.end;
       count = role_words op + 7;

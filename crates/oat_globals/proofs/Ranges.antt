@@ -8,19 +8,14 @@ use Rattle.oat_asm.specs.declared.item.Item.{Item}
 use Rattle.oat_asm.specs.declared.item.Item.TheVariants as item
 use Rattle.oat_asm.specs.Expansion.{element_test}
 use Rattle.oat_asm.specs.Ranges.{AreItemsInRange}
-use Rattle.oat_frames.specs.Code.{local_stores, return_code}
-use Rattle.oat_globals.specs.Code.{slot_load, slot_store, number_code, address_code, index_test, element_code, use_at_code, define_at_code}
+use Rattle.oat_frames.specs.Frames.{Home, home_of}
+use Rattle.oat_frames.specs.Code.{IsHome, home_load, home_store, local_stores, return_code}
+use Rattle.oat_frames.proofs.FrameLaws.{is-home, load-range, store-range}
+use Rattle.oat_globals.specs.Code.{number_code, address_code, index_test, element_code, use_at_code, define_at_code}
 use Rattle.oat_globals.specs.Operations.{begin_code, end_code, HasShortNumber}
 use Rattle.oat_globals.specs.Sizes.{GlobalLinesAreInRange}
 
 -- ---- single instructions
-
--- of the slot of a local
-from_slot : (r x : ℕ) → r < 32 → x < 255 → IsInRange (Ldr r 31 (x + 1))
-from_slot r x a b = (a, (lit< tt, (omega arith, tt)))
-
-into_slot : (r x : ℕ) → r < 32 → x < 255 → IsInRange (Str r 31 (x + 1))
-into_slot r x a b = (a, (lit< tt, (omega arith, tt)))
 
 -- of a number of 16 bits
 movz_in : (r v : ℕ) → r < 32 → v < 2 ^ 16 → IsInRange (Movz r 0 v)
@@ -56,9 +51,9 @@ index_in is rest = (subs_in, (tt, (skip_in, ((lit< tt, tt), rest))))
 test_in : (len : ℕ) (is : List Item) → len < 2 ^ 16 → AreItemsInRange is → AreItemsInRange (element_test len ++ is)
 test_in len is a rest = (movz_in 11 len (lit< tt) a, (subs_in, (skip_in, ((lit< tt, tt), rest))))
 
-element_in : (base len i : ℕ) (is : List Item) → base < 65536 → len ≤ 65536 → i < 255 → AreItemsInRange is → AreItemsInRange (element_code base len i ++ is)
+element_in : (base len : ℕ) (i : Home) (is : List Item) → base < 65536 → len ≤ 65536 → IsHome i → AreItemsInRange is → AreItemsInRange (element_code base len i ++ is)
 element_in base len i is a b c rest = (
-  from_slot 12 i (lit< tt) c,
+  load-range 12 i (lit< tt) c,
   number_in len (index_test ++ address_code base ++ item.Inst (AddReg 11 11 12 3) ∷ is) (omega arith)
       (index_in (address_code base ++ item.Inst (AddReg 11 11 12 3) ∷ is) (address_in base (item.Inst (AddReg 11 11 12 3) ∷ is) a ((lit< tt, (lit< tt, (lit< tt, (lit< tt, tt)))), rest))),
 )
@@ -71,10 +66,10 @@ source_register params from few = by (ltb from params) refl where
   by true is = let l : from < params = ltb-true from params is in omega arith
   by false is = omega arith
 
-stores_fit : (params from n : ℕ) (is : List Item) → params ≤ 4 → from + n ≤ 255 → AreItemsInRange is → AreItemsInRange (local_stores params from n ++ is)
-stores_fit params from zero is few small rest = rest
-stores_fit params from (suc n) is few small rest =
-    (into_slot (cond (ltb from params) from 31) from (source_register params from few) (omega arith), stores_fit params (from + 1) n is few (omega arith) rest)
+stores_fit : (leaf : Bool) (params from n : ℕ) (is : List Item) → params ≤ 4 → from + n ≤ 255 → AreItemsInRange is → AreItemsInRange (local_stores leaf params from n ++ is)
+stores_fit leaf params from zero is few small rest = rest
+stores_fit leaf params from (suc n) is few small rest =
+    (store-range (cond (ltb from params) from 31) (home_of leaf from) (source_register params from few) (is-home leaf from (omega arith)), stores_fit leaf params (from + 1) n is few (omega arith) rest)
 
 begin_in : (op : Option ℕ) → HasShortNumber op → AreItemsInRange (begin_code op)
 begin_in None short = tt
@@ -88,18 +83,18 @@ end_in (Some op) is short rest = (tt, (movz_in 9 op (lit< tt) (short op refl), (
 
 pub global_lines_are_in_range : GlobalLinesAreInRange
 global_lines_are_in_range = record {
-  load = λ x g hx hg. address_in g (item.Inst (Ldr 9 11 0) ∷ slot_store 9 x ∷ []) hg (read_in, (into_slot 9 x (lit< tt) hx, tt));
-  store = λ g x hg hx. address_in g (slot_load 9 x ∷ item.Inst (Str 9 11 0) ∷ []) hg (from_slot 9 x (lit< tt) hx, (write_in, tt));
-  ref = λ x l hx. (omega arith, (into_slot 9 x (lit< tt) hx, tt));
-  loadx = λ x base len i hx hb hl hi. element_in base len i (item.Inst (Ldr 9 11 0) ∷ slot_store 9 x ∷ []) hb hl hi (read_in, (into_slot 9 x (lit< tt) hx, tt));
-  storex = λ base len i x hb hl hi hx. element_in base len i (slot_load 9 x ∷ item.Inst (Str 9 11 0) ∷ []) hb hl hi (from_slot 9 x (lit< tt) hx, (write_in, tt));
+  load = λ x g hx hg. address_in g (item.Inst (Ldr 9 11 0) ∷ home_store 9 x ∷ []) hg (read_in, (store-range 9 x (lit< tt) hx, tt));
+  store = λ g x hg hx. address_in g (home_load 9 x ∷ item.Inst (Str 9 11 0) ∷ []) hg (load-range 9 x (lit< tt) hx, (write_in, tt));
+  ref = λ x l hx. (omega arith, (store-range 9 x (lit< tt) hx, tt));
+  loadx = λ x base len i hx hb hl hi. element_in base len i (item.Inst (Ldr 9 11 0) ∷ home_store 9 x ∷ []) hb hl hi (read_in, (store-range 9 x (lit< tt) hx, tt));
+  storex = λ base len i x hb hl hi hx. element_in base len i (home_load 9 x ∷ item.Inst (Str 9 11 0) ∷ []) hb hl hi (load-range 9 x (lit< tt) hx, (write_in, tt));
   critical_load = λ x g cell hx hg hc. (
     tt,
-    address_in g (item.Inst (Ldr 10 11 0) ∷ item.Inst (Movz 9 0 cell) ∷ item.Inst (Svc 7) ∷ slot_store 10 x ∷ []) hg
-        ((lit< tt, (lit< tt, (lit< tt, tt))), (movz_in 9 cell (lit< tt) hc, ((lit< tt, tt), (into_slot 10 x (lit< tt) hx, tt)))),
+    address_in g (item.Inst (Ldr 10 11 0) ∷ item.Inst (Movz 9 0 cell) ∷ item.Inst (Svc 7) ∷ home_store 10 x ∷ []) hg
+        ((lit< tt, (lit< tt, (lit< tt, tt))), (movz_in 9 cell (lit< tt) hc, ((lit< tt, tt), (store-range 10 x (lit< tt) hx, tt)))),
   );
   critical_store = λ g cell x hg hc hx. (
-    from_slot 10 x (lit< tt) hx,
+    load-range 10 x (lit< tt) hx,
     (
       tt,
       address_in g (item.Inst (Movz 9 0 cell) ∷ item.Inst (Str 10 11 0) ∷ item.Inst (Svc 6) ∷ []) hg
@@ -108,18 +103,18 @@ global_lines_are_in_range = record {
   );
   critical_loadx = critical_loadx;
   critical_storex = critical_storex;
-  start = λ params locals op few small short. ((omega arith, (omega arith, (omega arith, tt))), ((lit< tt, (lit< tt, (lit< tt, tt))), stores_fit params 0 locals (begin_code op) few (omega arith) (begin_in op short)));
+  start = λ leaf params locals op few small short. ((omega arith, (omega arith, (omega arith, tt))), ((lit< tt, (lit< tt, (lit< tt, tt))), stores_fit leaf params 0 locals (begin_code op) few (omega arith) (begin_in op short)));
   leave = λ locals from op small inside short. end_in op (return_code locals from) short (
-    from_slot 0 from (lit< tt) inside,
+    load-range 0 from (lit< tt) inside,
     ((lit< tt, (lit< tt, (lit< tt, tt))), ((omega arith, (omega arith, (omega arith, tt))), (tt, ((lit< tt, tt), ((omega arith, tt), tt))))),
   );
 } where
-  critical_loadx : (x base cell len i : ℕ) → x < 255 → base < 65536 → cell < 2 ^ 16 → len < 2 ^ 16 → i < 255 → AreItemsInRange (use_at_code x base cell len i)
+  critical_loadx : (x : Home) (base cell len : ℕ) (i : Home) → IsHome x → base < 65536 → cell < 2 ^ 16 → len < 2 ^ 16 → IsHome i → AreItemsInRange (use_at_code x base cell len i)
   critical_loadx x base cell len i hx hb hc hl hi =
-      let uses : List Item = item.Inst (LdrReg 10 11 12) ∷ item.Inst (Movz 9 0 cell) ∷ item.Inst (AddReg 9 9 12 0) ∷ item.Inst (Svc 7) ∷ slot_store 10 x ∷ [] in
-      (from_slot 12 i (lit< tt) hi, (tt, test_in len (address_code base ++ uses) hl (address_in base uses hb ((lit< tt, (lit< tt, (lit< tt, tt))), (movz_in 9 cell (lit< tt) hc, (cell_in, ((lit< tt, tt), (into_slot 10 x (lit< tt) hx, tt))))))))
+      let uses : List Item = item.Inst (LdrReg 10 11 12) ∷ item.Inst (Movz 9 0 cell) ∷ item.Inst (AddReg 9 9 12 0) ∷ item.Inst (Svc 7) ∷ home_store 10 x ∷ [] in
+      (load-range 12 i (lit< tt) hi, (tt, test_in len (address_code base ++ uses) hl (address_in base uses hb ((lit< tt, (lit< tt, (lit< tt, tt))), (movz_in 9 cell (lit< tt) hc, (cell_in, ((lit< tt, tt), (store-range 10 x (lit< tt) hx, tt))))))))
 
-  critical_storex : (base cell len i x : ℕ) → base < 65536 → cell < 2 ^ 16 → len < 2 ^ 16 → i < 255 → x < 255 → AreItemsInRange (define_at_code base cell len i x)
+  critical_storex : (base cell len : ℕ) (i x : Home) → base < 65536 → cell < 2 ^ 16 → len < 2 ^ 16 → IsHome i → IsHome x → AreItemsInRange (define_at_code base cell len i x)
   critical_storex base cell len i x hb hc hl hi hx =
       let defines : List Item = item.Inst (Movz 9 0 cell) ∷ item.Inst (AddReg 9 9 12 0) ∷ item.Inst (StrReg 10 11 12) ∷ item.Inst (Svc 6) ∷ [] in
-      (from_slot 12 i (lit< tt) hi, (from_slot 10 x (lit< tt) hx, (tt, test_in len (address_code base ++ defines) hl (address_in base defines hb (movz_in 9 cell (lit< tt) hc, (cell_in, ((lit< tt, (lit< tt, (lit< tt, tt))), ((lit< tt, tt), tt))))))))
+      (load-range 12 i (lit< tt) hi, (load-range 10 x (lit< tt) hx, (tt, test_in len (address_code base ++ defines) hl (address_in base defines hb (movz_in 9 cell (lit< tt) hc, (cell_in, ((lit< tt, (lit< tt, (lit< tt, tt))), ((lit< tt, tt), tt))))))))

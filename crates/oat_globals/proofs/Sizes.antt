@@ -1,36 +1,36 @@
 -- The words of each line, by computing; those of a prologue by induction.
-use Rattle.std.proofs.Common.{◌≡◌, ◌+◌, ℕ, zero, suc, nat_lt, if◌then◌else◌, [], ◌∷◌, ◌++◌, Option, Some, None, refl, ap, ◌∙◌, arith}
+use Rattle.std.proofs.Common.{◌≡◌, ◌+◌, ℕ, Bool, zero, suc, nat_lt, if◌then◌else◌, [], ◌∷◌, ◌++◌, Option, Some, None, refl, ap, ◌∙◌, arith}
 use Rattle.oat_a64.specs.declared.inst.Inst.TheVariants.{SubImm, Str}
 use Rattle.oat_asm.specs.declared.item.Item.TheVariants as item
 use Rattle.oat_asm.specs.Items.{words_needed}
 use Rattle.oat_asm.proofs.StandingItems.{words_of_two}
-use Rattle.oat_frames.specs.Code.{local_stores, prologue}
-use Rattle.oat_frames.specs.Frames.{frame_size}
+use Rattle.oat_frames.specs.Code.{home_store, local_stores, prologue}
+use Rattle.oat_frames.specs.Frames.{Home, home_of, frame_size}
 use Rattle.oat_globals.specs.Operations.{begin_code, leave_code, role_words}
 use Rattle.oat_globals.specs.Sizes.{WordsOfGlobalLines}
 
-store_words : (params from n : ℕ) → words_needed (local_stores params from n) ≡ n
-store_words params from zero = refl
-store_words params from (suc n) =
-    words_of_two (item.Inst (Str (if nat_lt from params then from else 31) 31 (from + 1)) ∷ []) (local_stores params (from + 1) n)
-    ∙ ap (λ (k : ℕ). 1 + k) (store_words params (from + 1) n) ∙ one_more n where
+store_words : (leaf : Bool) (params from n : ℕ) → words_needed (local_stores leaf params from n) ≡ n
+store_words leaf params from zero = refl
+store_words leaf params from (suc n) =
+    words_of_two (home_store (if nat_lt from params then from else 31) (home_of leaf from) ∷ []) (local_stores leaf params (from + 1) n)
+    ∙ ap (λ (k : ℕ). 1 + k) (store_words leaf params (from + 1) n) ∙ one_more n where
       one_more : (n : ℕ) → 1 + n ≡ suc n
       one_more n = omega arith
 
-pub prologue_words : (params locals : ℕ) → words_needed (prologue params locals) ≡ 2 + locals
-prologue_words params locals =
-    words_of_two (item.Inst (SubImm 31 31 (frame_size locals)) ∷ item.Inst (Str 30 31 0) ∷ []) (local_stores params 0 locals)
-    ∙ ap (λ (k : ℕ). 2 + k) (store_words params 0 locals)
+pub prologue_words : (leaf : Bool) (params locals : ℕ) → words_needed (prologue leaf params locals) ≡ 2 + locals
+prologue_words leaf params locals =
+    words_of_two (item.Inst (SubImm 31 31 (frame_size locals)) ∷ item.Inst (Str 30 31 0) ∷ []) (local_stores leaf params 0 locals)
+    ∙ ap (λ (k : ℕ). 2 + k) (store_words leaf params 0 locals)
 
 begin_words : (op : Option ℕ) → words_needed (begin_code op) ≡ role_words op
 begin_words None = refl
 begin_words (Some op) = refl
 
-start_words : (params locals : ℕ) (op : Option ℕ) → words_needed (prologue params locals ++ begin_code op) ≡ 2 + locals + role_words op
-start_words params locals op =
-    words_of_two (prologue params locals) (begin_code op) ∙ ap (λ (k : ℕ). k + words_needed (begin_code op)) (prologue_words params locals) ∙ ap (λ (k : ℕ). 2 + locals + k) (begin_words op)
+start_words : (leaf : Bool) (params locals : ℕ) (op : Option ℕ) → words_needed (prologue leaf params locals ++ begin_code op) ≡ 2 + locals + role_words op
+start_words leaf params locals op =
+    words_of_two (prologue leaf params locals) (begin_code op) ∙ ap (λ (k : ℕ). k + words_needed (begin_code op)) (prologue_words leaf params locals) ∙ ap (λ (k : ℕ). 2 + locals + k) (begin_words op)
 
-leave_words : (locals from : ℕ) (op : Option ℕ) → words_needed (leave_code locals from op) ≡ 5 + role_words op
+leave_words : (locals : ℕ) (from : Home) (op : Option ℕ) → words_needed (leave_code locals from op) ≡ 5 + role_words op
 leave_words locals from None = refl
 leave_words locals from (Some op) = refl
 

@@ -83,34 +83,34 @@ operation_runs =
     let w4 : Frame = on_next_line w3 in
     let g4 : ℕ → ℕ = assigned g3 1 (w3.locals 0) in
     let f6 : Frame = with_result f5 0 (w4.locals 0) in
-    let t0 : Went f0 [] first m [] = went 257 f0 [] first m [] (start-leads w is_world 0 [] first (λ i h. refl) refl main_starts refl first_words) in
+    let t0 : Went f0 [] first m [] = went 257 f0 [] first m [] (start-leads w is_world 0 [] first refl main_starts refl first_words) in
     let t1 : Went f1 [] first m [] = further 3 f0 f1 [] [] first first m [] [] t0
-    (λ k a. references_lead w is_world f0 [] first 2 2 0 k a (record { code = at_ref; next = refl; slots = λ i h. refl }) (record { local = lit< tt; ty = refl; known = refl })) in
+    (λ k a. references_lead w is_world f0 [] first 2 2 0 k a (record { code = at_ref; next = refl }) (record { local = lit< tt; ty = refl; known = refl })) in
     let t2 : Went f2 [] g1 m [] = further 4 f1 f2 [] [] first g1 m [] [] t1
-    (λ k a. stores_lead w is_world f1 [] first 0 2 k a (record { code = at_store; next = refl; slots = λ i h. refl }) (record { global = lit< tt; local = lit< tt; types = refl })) in
+    (λ k a. stores_lead w is_world f1 [] first 0 2 k a (record { code = at_store; next = refl }) (record { global = lit< tt; local = lit< tt; types = refl })) in
     let t3 : Went f3 [] g1 m [] = further 4 f2 f3 [] [] g1 g1 m [] [] t2
-    (λ k a. loads_lead w is_world f2 [] g1 2 0 k a (record { code = at_load; next = refl; slots = λ i h. refl }) (record { global = lit< tt; local = lit< tt; types = refl })) in
+    (λ k a. loads_lead w is_world f2 [] g1 2 0 k a (record { code = at_load; next = refl }) (record { global = lit< tt; local = lit< tt; types = refl })) in
     let t4 : Went f4 [] g2 m [] = further 10 f3 f4 [] [] g1 g2 m [] [] t3
-    (λ k a. element_stores_lead w is_world f3 [] g1 2 2 1 1 k a (record { code = at_storex; next = refl; slots = λ i h. refl })
+    (λ k a. element_stores_lead w is_world f3 [] g1 2 2 1 1 k a (record { code = at_storex; next = refl })
     (record { array = array; index = record { local = lit< tt; ty = refl }; local = record { local = lit< tt; ty = refl } }) (lit< tt)) in
     let t5 : Went f5 [] g2 m [] = further 10 f4 f5 [] [] g2 g2 m [] [] t4
-    (λ k a. element_loads_lead w is_world f4 [] g2 0 2 2 1 k a (record { code = at_loadx; next = refl; slots = λ i h. refl })
+    (λ k a. element_loads_lead w is_world f4 [] g2 0 2 2 1 k a (record { code = at_loadx; next = refl })
     (record { array = array; index = record { local = lit< tt; ty = refl }; local = record { local = lit< tt; ty = refl } }) (lit< tt)) in
     let t6 = further 267 f5 w0 [] (f5 ∷ []) g2 g2 m [] _ t5
     (λ k a. operation_calls_lead w is_world f5 [] g2 the_call (Some 1) k a (lit< tt)
-    (record { code = at_call; next = refl; is = refl; few = omega arith; caller_slots = λ i h. refl; function = record { start = work_starts; slots = λ i h. refl }; locals = only; types = same_types })
+    (record { code = at_call; next = refl; is = refl; few = omega arith; caller_slots = refl; function = record { start = work_starts }; locals = only; types = same_types })
     (record { code = work_begins; first = refl; number = short })) in
     let t7 = further 11 w0 w1 (f5 ∷ []) (f5 ∷ []) g2 g2 m _ _ t6
-    (λ k a. critical_element_loads_lead w is_world w0 (f5 ∷ []) g2 0 4 1 2 0 k a (record { code = at_use_at; next = refl; slots = λ i h. refl })
+    (λ k a. critical_element_loads_lead w is_world w0 (f5 ∷ []) g2 0 4 1 2 0 k a (record { code = at_use_at; next = refl })
     (record { line = record { array = critical_array; index = record { local = lit< tt; ty = refl }; local = record { local = lit< tt; ty = refl } }; few = omega arith; cells = omega arith }) (lit< tt)) in
     let t8 = further 11 w1 w2 (f5 ∷ []) (f5 ∷ []) g2 g3 m _ _ t7
-    (λ k a. critical_element_stores_lead w is_world w1 (f5 ∷ []) g2 4 1 2 0 0 k a (record { code = at_define_at; next = refl; slots = λ i h. refl })
+    (λ k a. critical_element_stores_lead w is_world w1 (f5 ∷ []) g2 4 1 2 0 0 k a (record { code = at_define_at; next = refl })
     (record { line = record { array = critical_array; index = record { local = lit< tt; ty = refl }; local = record { local = lit< tt; ty = refl } }; few = omega arith; cells = omega arith }) (lit< tt)) in
     let t9 = further 6 w2 w3 (f5 ∷ []) (f5 ∷ []) g3 g3 m _ _ t8
-    (λ k a. critical_loads_lead w is_world w2 (f5 ∷ []) g3 0 1 0 k a (record { code = at_use; next = refl; slots = λ i h. refl }) (record { global = lit< tt; ty = refl; few = lit< tt; local = record { local = lit< tt; ty = refl } })) in
+    (λ k a. critical_loads_lead w is_world w2 (f5 ∷ []) g3 0 1 0 k a (record { code = at_use; next = refl }) (record { global = lit< tt; ty = refl; few = lit< tt; local = record { local = lit< tt; ty = refl } })) in
     let t10 = further 6 w3 w4 (f5 ∷ []) (f5 ∷ []) g3 g4 m _ _ t9
-    (λ k a. critical_stores_lead w is_world w3 (f5 ∷ []) g3 1 0 0 k a (record { code = at_define; next = refl; slots = λ i h. refl }) (record { global = lit< tt; ty = refl; few = lit< tt; local = record { local = lit< tt; ty = refl } })) in
+    (λ k a. critical_stores_lead w is_world w3 (f5 ∷ []) g3 1 0 0 k a (record { code = at_define; next = refl }) (record { global = lit< tt; ty = refl; few = lit< tt; local = record { local = lit< tt; ty = refl } })) in
     let t11 : Went f6 [] g4 m _ = further 9 w4 f6 (f5 ∷ []) [] g4 g4 m _ _ t10
     (λ k a. operation_returns_lead w is_world w4 f5 [] g4 0 0 (Some 1) k a at_leave short
-    (record { slots = λ i h. refl; from_local = lit< tt; result = refl; caller_slots = λ i h. refl; to_local = lit< tt; types = refl })) in
+    (record { from_local = lit< tt; result = refl; caller_slots = refl; to_local = lit< tt; types = refl })) in
     (f6.locals, g4, t11.count, t11.to, t11.runs, t11.is_at)

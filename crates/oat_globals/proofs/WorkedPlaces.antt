@@ -14,7 +14,7 @@ use Rattle.oat_shape.specs.Shape.{group_end}
 use Rattle.oat_asm.specs.Standing.{IsOver}
 use Rattle.oat_journal.specs.Run.{start_memory}
 use Rattle.oat_frames.specs.Code.{CodeStands, call_code, prologue}
-use Rattle.oat_frames.specs.Frames.{World, IsWorld, GlobalsAt}
+use Rattle.oat_frames.specs.Frames.{World, IsWorld, slot, register, GlobalsAt}
 use Rattle.oat_frames.proofs.FrameLaws.{low-code}
 use Rattle.oat_frames.proofs.WorkedCode.{is_encodable, decodes_at, over, beyond}
 use Rattle.oat_globals.specs.Code.{load_code, store_code, loadx_code, storex_code, ref_code, use_code, define_code, use_at_code, define_at_code}
@@ -98,46 +98,46 @@ is_world = record {
 
 -- ---- the code of each line
 
-pub main_starts : CodeStands w 0x10000 (prologue 0 3)
+pub main_starts : CodeStands w 0x10000 (prologue false 0 3)
 main_starts = (stands 0, (stands 1, (stands 2, (stands 3, (stands 4, tt)))))
 
-pub at_ref : CodeStands w 0x10014 (ref_code 2 2)
+pub at_ref : CodeStands w 0x10014 (ref_code (slot 3) 2)
 at_ref = ((stands 5, stands 6), (stands 7, tt))
 
-pub at_store : CodeStands w 0x10020 (store_code 0 2)
+pub at_store : CodeStands w 0x10020 (store_code 0 (slot 3))
 at_store = (stands 8, (stands 9, (stands 10, (stands 11, tt))))
 
-pub at_load : CodeStands w 0x10030 (load_code 2 0)
+pub at_load : CodeStands w 0x10030 (load_code (slot 3) 0)
 at_load = (stands 12, (stands 13, (stands 14, (stands 15, tt))))
 
-pub at_storex : CodeStands w 0x10040 (storex_code 2 2 1 1)
+pub at_storex : CodeStands w 0x10040 (storex_code 2 2 (slot 2) (slot 2))
 at_storex = (stands 16, (stands 17, (stands 18, (stands 19, (over0, (stands 20, (stands 21, (stands 22, (stands 23, (stands 24, (stands 25, (stands 26, tt))))))))))))
 
-pub at_loadx : CodeStands w 0x1006C (loadx_code 0 2 2 1)
+pub at_loadx : CodeStands w 0x1006C (loadx_code (slot 1) 2 2 (slot 2))
 at_loadx = (stands 27, (stands 28, (stands 29, (stands 30, (over1, (stands 31, (stands 32, (stands 33, (stands 34, (stands 35, (stands 36, (stands 37, tt))))))))))))
 
 pub at_call : CodeStands w 0x10098 (call_code (0 ∷ []) 1 0)
 at_call = (stands 38, (over2, (stands 39, (stands 40, (stands 41, (stands 42, (over3, ((pos 4, stands 43, refl), (stands 44, (stands 45, tt))))))))))
 
-pub work_starts : CodeStands w 0x100BC (prologue 1 1)
+pub work_starts : CodeStands w 0x100BC (prologue true 1 1)
 work_starts = (stands 47, (stands 48, (stands 49, tt)))
 
 pub work_begins : CodeStands w 0x100C8 (begin_code (Some 1))
 work_begins = (over4, (stands 50, (stands 51, tt)))
 
-pub at_use_at : CodeStands w 0x100D0 (use_at_code 0 4 1 2 0)
+pub at_use_at : CodeStands w 0x100D0 (use_at_code (register 19) 4 1 2 (register 19))
 at_use_at = (stands 52, (over5, (stands 53, (stands 54, (stands 55, (stands 56, (stands 57, (stands 58, (stands 59, (stands 60, (stands 61, (stands 62, (stands 63, tt)))))))))))))
 
-pub at_define_at : CodeStands w 0x10100 (define_at_code 4 1 2 0 0)
+pub at_define_at : CodeStands w 0x10100 (define_at_code 4 1 2 (register 19) (register 19))
 at_define_at = (stands 64, (stands 65, (over6, (stands 66, (stands 67, (stands 68, (stands 69, (stands 70, (stands 71, (stands 72, (stands 73, (stands 74, (stands 75, tt)))))))))))))
 
-pub at_use : CodeStands w 0x10130 (use_code 0 1 0)
+pub at_use : CodeStands w 0x10130 (use_code (register 19) 1 0)
 at_use = (over7, (stands 76, (stands 77, (stands 78, (stands 79, (stands 80, (stands 81, tt)))))))
 
-pub at_define : CodeStands w 0x10148 (define_code 1 0 0)
+pub at_define : CodeStands w 0x10148 (define_code 1 0 (register 19))
 at_define = (stands 82, (over8, (stands 83, (stands 84, (stands 85, (stands 86, (stands 87, tt)))))))
 
-pub at_leave : CodeStands w 0x10160 (leave_code 1 0 (Some 1))
+pub at_leave : CodeStands w 0x10160 (leave_code 1 (register 19) (Some 1))
 at_leave = (over9, (stands 88, (stands 89, (stands 90, (stands 91, (stands 92, (over10, (stands 93, (stands 94, tt)))))))))
 
 -- ---- the words of global data at the start

@@ -1,4 +1,4 @@
--- The code of the lines on global data, and of references to functions. Registers: 9 has a value or a cell's number, 10 a cell's value, 11 an address or a length, 12 an element's number.
+-- The code of the lines on global data, and of references to functions, by the homes of the locals. Registers: 9 has a value or a cell's number, 10 a cell's value, 11 an address or a length, 12 an element's number.
 use Rattle.std.specs.Prelude.{◌+◌, ℕ, pos, List, [], ◌∷◌, ◌++◌, map}
 use Rattle.oat_a64.specs.declared.inst.Inst.TheVariants.{SubsReg, AddReg, BCond, Brk, Ldr, Str}
 use Rattle.oat_mem.specs.DataMemory.{global_address}
@@ -8,6 +8,8 @@ use Rattle.oat_asm.specs.declared.mark.Mark.TheVariants as mark
 use Rattle.oat_asm.specs.declared.note.Note.TheVariants as note
 use Rattle.oat_asm.specs.Expansion.{expanded}
 use Rattle.oat_asm.specs.Layout.{puts}
+use Rattle.oat_frames.specs.Frames.{Home}
+use Rattle.oat_frames.specs.Code.{home_load, home_store}
 
 -- a number into register 11, and the address of a word of global data
 abbrev pub number_code : ℕ → List Item
@@ -16,26 +18,19 @@ number_code value = map item.Inst (puts 11 value)
 abbrev pub address_code : ℕ → List Item
 address_code g = number_code (global_address g)
 
--- a register from the slot of a local, and into it
-abbrev pub slot_load : ℕ → ℕ → Item
-slot_load r x = item.Inst (Ldr r 31 (x + 1))
-
-abbrev pub slot_store : ℕ → ℕ → Item
-slot_store r x = item.Inst (Str r 31 (x + 1))
-
 -- ---- scalars and references
 
 -- X = G, 4 words
-abbrev pub load_code : ℕ → ℕ → List Item
-load_code x g = address_code g ++ item.Inst (Ldr 9 11 0) ∷ slot_store 9 x ∷ []
+abbrev pub load_code : Home → ℕ → List Item
+load_code x g = address_code g ++ item.Inst (Ldr 9 11 0) ∷ home_store 9 x ∷ []
 
 -- G = X, 4 words
-abbrev pub store_code : ℕ → ℕ → List Item
-store_code g x = address_code g ++ slot_load 9 x ∷ item.Inst (Str 9 11 0) ∷ []
+abbrev pub store_code : ℕ → Home → List Item
+store_code g x = address_code g ++ home_load 9 x ∷ item.Inst (Str 9 11 0) ∷ []
 
 -- X = reference of the function with this label, 3 words
-abbrev pub ref_code : ℕ → ℕ → List Item
-ref_code x l = item.AddressOf 9 l ∷ slot_store 9 x ∷ []
+abbrev pub ref_code : Home → ℕ → List Item
+ref_code x l = item.AddressOf 9 l ∷ home_store 9 x ∷ []
 
 -- ---- elements
 
@@ -44,31 +39,31 @@ abbrev pub index_test : List Item
 index_test = item.Inst (SubsReg 31 12 11) ∷ item.Note note.Check ∷ item.Inst (BCond 3 (pos 2)) ∷ item.Inst (Brk 2) ∷ []
 
 -- The address of the element that local i names, into register 11: of len words from word base on; 9 words.
-abbrev pub element_code : (base len i : ℕ) → List Item
-element_code base len i = slot_load 12 i ∷ number_code len ++ index_test ++ address_code base ++ item.Inst (AddReg 11 11 12 3) ∷ []
+abbrev pub element_code : (base len : ℕ) (i : Home) → List Item
+element_code base len i = home_load 12 i ∷ number_code len ++ index_test ++ address_code base ++ item.Inst (AddReg 11 11 12 3) ∷ []
 
 -- X = A[I], 11 words
-abbrev pub loadx_code : (x base len i : ℕ) → List Item
-loadx_code x base len i = element_code base len i ++ item.Inst (Ldr 9 11 0) ∷ slot_store 9 x ∷ []
+abbrev pub loadx_code : (x : Home) (base len : ℕ) (i : Home) → List Item
+loadx_code x base len i = element_code base len i ++ item.Inst (Ldr 9 11 0) ∷ home_store 9 x ∷ []
 
 -- A[I] = X, 11 words
-abbrev pub storex_code : (base len i x : ℕ) → List Item
-storex_code base len i x = element_code base len i ++ slot_load 9 x ∷ item.Inst (Str 9 11 0) ∷ []
+abbrev pub storex_code : (base len : ℕ) (i x : Home) → List Item
+storex_code base len i x = element_code base len i ++ home_load 9 x ∷ item.Inst (Str 9 11 0) ∷ []
 
 -- ---- critical scalars and arrays: by the groups of uses and defines
 
 -- X = G of a critical scalar, whose cell stands in word g: 6 words
-abbrev pub use_code : (x g cell : ℕ) → List Item
-use_code x g cell = expanded (item.Mark (mark.UseCell cell g)) ++ slot_store 10 x ∷ []
+abbrev pub use_code : (x : Home) (g cell : ℕ) → List Item
+use_code x g cell = expanded (item.Mark (mark.UseCell cell g)) ++ home_store 10 x ∷ []
 
 -- G = X of a critical scalar, 6 words
-abbrev pub define_code : (g cell x : ℕ) → List Item
-define_code g cell x = slot_load 10 x ∷ expanded (item.Mark (mark.DefCell cell g))
+abbrev pub define_code : (g cell : ℕ) (x : Home) → List Item
+define_code g cell x = home_load 10 x ∷ expanded (item.Mark (mark.DefCell cell g))
 
 -- X = A[I] of a critical array, whose cells begin at `cell` and words at base: 12 words
-abbrev pub use_at_code : (x base cell len i : ℕ) → List Item
-use_at_code x base cell len i = slot_load 12 i ∷ (expanded (item.Mark (mark.UseAt cell len base)) ++ slot_store 10 x ∷ [])
+abbrev pub use_at_code : (x : Home) (base cell len : ℕ) (i : Home) → List Item
+use_at_code x base cell len i = home_load 12 i ∷ (expanded (item.Mark (mark.UseAt cell len base)) ++ home_store 10 x ∷ [])
 
 -- A[I] = X of a critical array, 12 words
-abbrev pub define_at_code : (base cell len i x : ℕ) → List Item
-define_at_code base cell len i x = slot_load 12 i ∷ slot_load 10 x ∷ expanded (item.Mark (mark.DefAt cell len base))
+abbrev pub define_at_code : (base cell len : ℕ) (i x : Home) → List Item
+define_at_code base cell len i x = home_load 12 i ∷ home_load 10 x ∷ expanded (item.Mark (mark.DefAt cell len base))

@@ -8,7 +8,7 @@ use Rattle.oat_measure.specs.declared.call.MonitorCall.TheVariants as svc
 use Rattle.oat_journal.specs.declared.end.DeviceEnd.TheVariants as ends
 use Rattle.oat_journal.specs.Run.{Running}
 use Rattle.oat_follow.specs.Events.{monitors}
-use Rattle.oat_frames.specs.Frames.{World, IsWorld, IsSlotted, IsAt, line_address}
+use Rattle.oat_frames.specs.Frames.{World, IsWorld, IsAt, home_in, line_address}
 use Rattle.oat_frames.specs.Code.{CodeStands}
 use Rattle.oat_frames.specs.Comes.{StepsTo, EndsWithin, with_result}
 use Rattle.oat_frames.specs.Lines.{IsLineAt, IsNumberLocal, on_next_line}
@@ -28,20 +28,20 @@ pub record IsElementLine (w : World) (f : Frame) (base len i x : ℕ) : Type 0 w
 abbrev pub ElementLoadsLead : Type 0
 ElementLoadsLead =
     (w : World) → IsWorld w → (f : Frame) (callers : List Frame) (globals : ℕ → ℕ) (x base len i : ℕ) (m : Running)
-    → IsAt w f callers globals m → IsLineAt w f (loadx_code x base len i) → IsElementLine w f base len i x → f.locals i < len
+    → IsAt w f callers globals m → IsLineAt w f (loadx_code (home_in w f x) base len (home_in w f i)) → IsElementLine w f base len i x → f.locals i < len
     → StepsTo w 10 (with_result f x (globals (base + f.locals i))) callers globals [] m
 
 abbrev pub ElementStoresLead : Type 0
 ElementStoresLead =
     (w : World) → IsWorld w → (f : Frame) (callers : List Frame) (globals : ℕ → ℕ) (base len i x : ℕ) (m : Running)
-    → IsAt w f callers globals m → IsLineAt w f (storex_code base len i x) → IsElementLine w f base len i x → f.locals i < len
+    → IsAt w f callers globals m → IsLineAt w f (storex_code base len (home_in w f i) (home_in w f x)) → IsElementLine w f base len i x → f.locals i < len
     → StepsTo w 10 (on_next_line f) callers (assigned globals (base + f.locals i) (f.locals x)) [] m
 
 -- of both lines: `is` is what stands behind the element's address
 abbrev pub ElementsTrap : Type 0
 ElementsTrap =
     (w : World) → IsWorld w → (f : Frame) (callers : List Frame) (globals : ℕ → ℕ) (base len i : ℕ) (is : List Item) (m : Running)
-    → IsAt w f callers globals m → CodeStands w (line_address w f) (element_code base len i ++ is) → IsSlotted w f.func → IsNumberLocal w f i → len < 2 ^ 32 → len ≤ f.locals i
+    → IsAt w f callers globals m → CodeStands w (line_address w f) (element_code base len (home_in w f i) ++ is) → IsNumberLocal w f i → len < 2 ^ 32 → len ≤ f.locals i
     → EndsWithin w 6 (ends.Trap Index) m
 
 -- ---- critical arrays: the number of the cell in an event is that of the element, and the value is the source's
@@ -55,23 +55,23 @@ pub record IsCriticalElementLine (w : World) (f : Frame) (base cell len i x : �
 abbrev pub CriticalElementLoadsLead : Type 0
 CriticalElementLoadsLead =
     (w : World) → IsWorld w → (f : Frame) (callers : List Frame) (globals : ℕ → ℕ) (x base cell len i : ℕ) (m : Running)
-    → IsAt w f callers globals m → IsLineAt w f (use_at_code x base cell len i) → IsCriticalElementLine w f base cell len i x → f.locals i < len
+    → IsAt w f callers globals m → IsLineAt w f (use_at_code (home_in w f x) base cell len (home_in w f i)) → IsCriticalElementLine w f base cell len i x → f.locals i < len
     → StepsTo w 11 (with_result f x (globals (base + f.locals i))) callers globals (monitors (svc.Use (cell + f.locals i) (globals (base + f.locals i))) ∷ []) m
 
 abbrev pub CriticalElementStoresLead : Type 0
 CriticalElementStoresLead =
     (w : World) → IsWorld w → (f : Frame) (callers : List Frame) (globals : ℕ → ℕ) (base cell len i x : ℕ) (m : Running)
-    → IsAt w f callers globals m → IsLineAt w f (define_at_code base cell len i x) → IsCriticalElementLine w f base cell len i x → f.locals i < len
+    → IsAt w f callers globals m → IsLineAt w f (define_at_code base cell len (home_in w f i) (home_in w f x)) → IsCriticalElementLine w f base cell len i x → f.locals i < len
     → StepsTo w 11 (on_next_line f) callers (assigned globals (base + f.locals i) (f.locals x)) (monitors (svc.Define (cell + f.locals i) (f.locals x)) ∷ []) m
 
 abbrev pub CriticalElementLoadsTrap : Type 0
 CriticalElementLoadsTrap =
     (w : World) → IsWorld w → (f : Frame) (callers : List Frame) (globals : ℕ → ℕ) (x base cell len i : ℕ) (m : Running)
-    → IsAt w f callers globals m → IsLineAt w f (use_at_code x base cell len i) → IsCriticalElementLine w f base cell len i x → len ≤ f.locals i
+    → IsAt w f callers globals m → IsLineAt w f (use_at_code (home_in w f x) base cell len (home_in w f i)) → IsCriticalElementLine w f base cell len i x → len ≤ f.locals i
     → EndsWithin w 5 (ends.Trap Index) m
 
 abbrev pub CriticalElementStoresTrap : Type 0
 CriticalElementStoresTrap =
     (w : World) → IsWorld w → (f : Frame) (callers : List Frame) (globals : ℕ → ℕ) (base cell len i x : ℕ) (m : Running)
-    → IsAt w f callers globals m → IsLineAt w f (define_at_code base cell len i x) → IsCriticalElementLine w f base cell len i x → len ≤ f.locals i
+    → IsAt w f callers globals m → IsLineAt w f (define_at_code base cell len (home_in w f i) (home_in w f x)) → IsCriticalElementLine w f base cell len i x → len ≤ f.locals i
     → EndsWithin w 6 (ends.Trap Index) m

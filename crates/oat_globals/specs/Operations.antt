@@ -1,5 +1,5 @@
 -- What a call of a function comes to that may be an operation, and its return: the group that begins an operation stands behind its prologue, the one that ends it before each return.
-use Rattle.std.specs.Prelude.{◌≡◌, ◌+◌, ◌*◌, ◌^◌, ◌<◌, ℕ, List, [], ◌∷◌, ◌++◌, length, Option, Some, None}
+use Rattle.std.specs.Prelude.{◌≡◌, ◌+◌, ◌*◌, ◌^◌, ◌<◌, ℕ, Bool, List, [], ◌∷◌, ◌++◌, length, Option, Some, None}
 use Rattle.oat_asm.specs.declared.item.Item.{Item}
 use Rattle.oat_asm.specs.declared.item.Item.TheVariants as item
 use Rattle.oat_asm.specs.declared.mark.Mark.TheVariants as mark
@@ -8,7 +8,7 @@ use Rattle.oat_check.specs.Steps.{Frame}
 use Rattle.oat_measure.specs.declared.call.MonitorCall.TheVariants as svc
 use Rattle.oat_journal.specs.Run.{Running}
 use Rattle.oat_follow.specs.Events.{MachineEvent, monitors}
-use Rattle.oat_frames.specs.Frames.{World, IsWorld, IsAt, line_address}
+use Rattle.oat_frames.specs.Frames.{World, IsWorld, Home, IsAt, home_in, line_address}
 use Rattle.oat_frames.specs.Comes.{StepsTo, with_result}
 use Rattle.oat_frames.specs.Code.{CodeStands, prologue, return_code}
 use Rattle.oat_frames.specs.Calls.{CallSite, IsCallAt, callee_frame, call_edge, prologue_end}
@@ -29,10 +29,10 @@ abbrev pub role_words : Option ℕ → ℕ
 role_words None = 0
 role_words (Some op) = 2
 
-abbrev pub start_code : (params locals : ℕ) (op : Option ℕ) → List Item
-start_code params locals op = prologue params locals ++ begin_code op
+abbrev pub start_code : (leaf : Bool) (params locals : ℕ) (op : Option ℕ) → List Item
+start_code leaf params locals op = prologue leaf params locals ++ begin_code op
 
-abbrev pub leave_code : (locals from : ℕ) (op : Option ℕ) → List Item
+abbrev pub leave_code : (locals : ℕ) (from : Home) (op : Option ℕ) → List Item
 leave_code locals from op = end_code op ++ return_code locals from
 
 -- an operation's number has 16 bits
@@ -60,8 +60,8 @@ pub record HasBegin (w : World) (func : ℕ) (op : Option ℕ) : Type 0 where
 -- a function's start is its prologue and the group
 abbrev pub StartsStand : Type 0
 StartsStand =
-    (w : World) (func params : ℕ) (op : Option ℕ) → CodeStands w (w.label func) (start_code params (w.locals func) op)
-    → CodeStands w (w.label func) (prologue params (w.locals func)) × CodeStands w (prologue_end w func) (begin_code op)
+    (w : World) (func params : ℕ) (op : Option ℕ) → CodeStands w (w.label func) (start_code (w.is_leaf func) params (w.locals func) op)
+    → CodeStands w (w.label func) (prologue (w.is_leaf func) params (w.locals func)) × CodeStands w (prologue_end w func) (begin_code op)
 
 -- the edge, and then the begin
 abbrev pub OperationCallsLead : Type 0
@@ -76,5 +76,5 @@ OperationCallsLead =
 abbrev pub OperationReturnsLead : Type 0
 OperationReturnsLead =
     (w : World) → IsWorld w → (f g : Frame) (callers : List Frame) (globals : ℕ → ℕ) (from to : ℕ) (op : Option ℕ) (m : Running)
-    → IsAt w f (g ∷ callers) globals m → CodeStands w (line_address w f) (leave_code (w.locals f.func) from op) → HasShortNumber op → IsReturnOf w f g from to
+    → IsAt w f (g ∷ callers) globals m → CodeStands w (line_address w f) (leave_code (w.locals f.func) (home_in w f from) op) → HasShortNumber op → IsReturnOf w f g from to
     → StepsTo w 9 (with_result g to (f.locals from)) callers globals (end_shown op ++ return_edge w g (line_address w f + 4 * role_words op) ∷ []) m

@@ -5,7 +5,7 @@ use Rattle.oat_check.specs.Steps.{Frame, assigned}
 use Rattle.oat_measure.specs.declared.call.MonitorCall.TheVariants as svc
 use Rattle.oat_journal.specs.Run.{Running}
 use Rattle.oat_follow.specs.Events.{monitors}
-use Rattle.oat_frames.specs.Frames.{World, IsWorld, IsAt}
+use Rattle.oat_frames.specs.Frames.{World, IsWorld, IsAt, home_in}
 use Rattle.oat_frames.specs.Comes.{StepsTo, with_result}
 use Rattle.oat_frames.specs.Lines.{IsLineAt, IsNumberLocal, on_next_line}
 use Rattle.oat_globals.specs.Code.{load_code, store_code, ref_code, use_code, define_code}
@@ -21,13 +21,13 @@ pub record IsScalarPair (w : World) (f : Frame) (g x : ℕ) : Type 0 where
 abbrev pub LoadsLead : Type 0
 LoadsLead =
     (w : World) → IsWorld w → (f : Frame) (callers : List Frame) (globals : ℕ → ℕ) (x g : ℕ) (m : Running)
-    → IsAt w f callers globals m → IsLineAt w f (load_code x g) → IsScalarPair w f g x
+    → IsAt w f callers globals m → IsLineAt w f (load_code (home_in w f x) g) → IsScalarPair w f g x
     → StepsTo w 4 (with_result f x (globals g)) callers globals [] m
 
 abbrev pub StoresLead : Type 0
 StoresLead =
     (w : World) → IsWorld w → (f : Frame) (callers : List Frame) (globals : ℕ → ℕ) (g x : ℕ) (m : Running)
-    → IsAt w f callers globals m → IsLineAt w f (store_code g x) → IsScalarPair w f g x
+    → IsAt w f callers globals m → IsLineAt w f (store_code g (home_in w f x)) → IsScalarPair w f g x
     → StepsTo w 4 (on_next_line f) callers (assigned globals g (f.locals x)) [] m
 
 -- ---- references
@@ -41,7 +41,7 @@ pub record MayRefer (w : World) (f : Frame) (x callee params : ℕ) : Type 0 whe
 abbrev pub ReferencesLead : Type 0
 ReferencesLead =
     (w : World) → IsWorld w → (f : Frame) (callers : List Frame) (globals : ℕ → ℕ) (x callee params : ℕ) (m : Running)
-    → IsAt w f callers globals m → IsLineAt w f (ref_code x callee) → MayRefer w f x callee params
+    → IsAt w f callers globals m → IsLineAt w f (ref_code (home_in w f x) callee) → MayRefer w f x callee params
     → StepsTo w 3 (with_result f x (callee + 1)) callers globals [] m
 
 -- ---- critical scalars
@@ -56,11 +56,11 @@ pub record IsCriticalScalar (w : World) (f : Frame) (g cell x : ℕ) : Type 0 wh
 abbrev pub CriticalLoadsLead : Type 0
 CriticalLoadsLead =
     (w : World) → IsWorld w → (f : Frame) (callers : List Frame) (globals : ℕ → ℕ) (x g cell : ℕ) (m : Running)
-    → IsAt w f callers globals m → IsLineAt w f (use_code x g cell) → IsCriticalScalar w f g cell x
+    → IsAt w f callers globals m → IsLineAt w f (use_code (home_in w f x) g cell) → IsCriticalScalar w f g cell x
     → StepsTo w 6 (with_result f x (globals g)) callers globals (monitors (svc.Use cell (globals g)) ∷ []) m
 
 abbrev pub CriticalStoresLead : Type 0
 CriticalStoresLead =
     (w : World) → IsWorld w → (f : Frame) (callers : List Frame) (globals : ℕ → ℕ) (g cell x : ℕ) (m : Running)
-    → IsAt w f callers globals m → IsLineAt w f (define_code g cell x) → IsCriticalScalar w f g cell x
+    → IsAt w f callers globals m → IsLineAt w f (define_code g cell (home_in w f x)) → IsCriticalScalar w f g cell x
     → StepsTo w 6 (on_next_line f) callers (assigned globals g (f.locals x)) (monitors (svc.Define cell (f.locals x)) ∷ []) m

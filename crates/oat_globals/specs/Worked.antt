@@ -1,7 +1,7 @@
 -- The smallest image with each line on global data: main takes a reference, keeps it in a function scalar, writes and reads an element, and calls an operation that uses and defines cells of an array and of a scalar.
-use Rattle.std.specs.Prelude.{true, false, ◌+◌, ◌&&◌, ℕ, pos, nat_eq, if◌then◌else◌, List, [], ◌∷◌, ◌++◌, map, Some, None, codes}
+use Rattle.std.specs.Prelude.{true, false, not, ◌&&◌, ℕ, pos, nat_eq, if◌then◌else◌, List, [], ◌∷◌, ◌++◌, map, Some, None, codes}
 use Rattle.oat_a64.specs.declared.inst.Inst.{Inst}
-use Rattle.oat_a64.specs.declared.inst.Inst.TheVariants.{AddImm, AddReg, BCond, Bl, Brk, Ldr, LdrReg, Movk, Movz, Ret, Str, StrReg, SubImm, SubsImm, SubsReg, Svc}
+use Rattle.oat_a64.specs.declared.inst.Inst.TheVariants.{AddImm, AddReg, BCond, Bl, Brk, Ldr, LdrReg, Movk, Movz, OrrReg, Ret, Str, StrReg, SubImm, SubsImm, SubsReg, Svc}
 use Rattle.oat_a64.specs.Table.{word_of}
 use Rattle.oat_image.specs.declared.image.Image.{Image}
 use Rattle.oat_map.specs.declared.map.Map.{Map}
@@ -11,7 +11,7 @@ use Rattle.oat_measure.specs.declared.call.MonitorCall.TheVariants as svc
 use Rattle.oat_ir.specs.declared.func.Ty.TheVariants.{I64, Fn}
 use Rattle.oat_journal.specs.Run.{Running, started}
 use Rattle.oat_follow.specs.Events.{moves, monitors}
-use Rattle.oat_frames.specs.Frames.{World, slot, IsAt}
+use Rattle.oat_frames.specs.Frames.{World, IsAt}
 use Rattle.oat_follow.specs.Reaching.{RunsTo}
 
 -- main, its lines one behind another: the start, a reference, a store and a load of the function scalar, a store and a load of an element, the call, and the halt
@@ -29,12 +29,12 @@ main_insts =
 -- the operation: the start with its begin, a load and a store of an element of the critical array, a load and a store of the critical scalar, and its end with the return
 abbrev pub work_insts : List Inst
 work_insts =
-    SubImm 31 31 16 ∷ Str 30 31 0 ∷ Str 0 31 1 ∷ Movz 9 0 1 ∷ Svc 1
-    ∷ Ldr 12 31 1 ∷ Movz 11 0 2 ∷ SubsReg 31 12 11 ∷ BCond 3 (pos 2) ∷ Brk 2 ∷ Movz 11 0 0x20 ∷ Movk 11 1 0x4000 ∷ LdrReg 10 11 12 ∷ Movz 9 0 1 ∷ AddReg 9 9 12 0 ∷ Svc 7 ∷ Str 10 31 1
-    ∷ Ldr 12 31 1 ∷ Ldr 10 31 1 ∷ Movz 11 0 2 ∷ SubsReg 31 12 11 ∷ BCond 3 (pos 2) ∷ Brk 2 ∷ Movz 11 0 0x20 ∷ Movk 11 1 0x4000 ∷ Movz 9 0 1 ∷ AddReg 9 9 12 0 ∷ StrReg 10 11 12 ∷ Svc 6
-    ∷ Movz 11 0 0x8 ∷ Movk 11 1 0x4000 ∷ Ldr 10 11 0 ∷ Movz 9 0 0 ∷ Svc 7 ∷ Str 10 31 1
-    ∷ Ldr 10 31 1 ∷ Movz 11 0 0x8 ∷ Movk 11 1 0x4000 ∷ Movz 9 0 0 ∷ Str 10 11 0 ∷ Svc 6
-    ∷ Movz 9 0 1 ∷ Svc 2 ∷ Ldr 0 31 1 ∷ Ldr 30 31 0 ∷ AddImm 31 31 16 ∷ Svc 5 ∷ Ret 30 ∷ []
+    SubImm 31 31 16 ∷ Str 30 31 0 ∷ OrrReg 19 31 0 ∷ Movz 9 0 1 ∷ Svc 1
+    ∷ OrrReg 12 31 19 ∷ Movz 11 0 2 ∷ SubsReg 31 12 11 ∷ BCond 3 (pos 2) ∷ Brk 2 ∷ Movz 11 0 0x20 ∷ Movk 11 1 0x4000 ∷ LdrReg 10 11 12 ∷ Movz 9 0 1 ∷ AddReg 9 9 12 0 ∷ Svc 7 ∷ OrrReg 19 31 10
+    ∷ OrrReg 12 31 19 ∷ OrrReg 10 31 19 ∷ Movz 11 0 2 ∷ SubsReg 31 12 11 ∷ BCond 3 (pos 2) ∷ Brk 2 ∷ Movz 11 0 0x20 ∷ Movk 11 1 0x4000 ∷ Movz 9 0 1 ∷ AddReg 9 9 12 0 ∷ StrReg 10 11 12 ∷ Svc 6
+    ∷ Movz 11 0 0x8 ∷ Movk 11 1 0x4000 ∷ Ldr 10 11 0 ∷ Movz 9 0 0 ∷ Svc 7 ∷ OrrReg 19 31 10
+    ∷ OrrReg 10 31 19 ∷ Movz 11 0 0x8 ∷ Movk 11 1 0x4000 ∷ Movz 9 0 0 ∷ Str 10 11 0 ∷ Svc 6
+    ∷ Movz 9 0 1 ∷ Svc 2 ∷ OrrReg 0 31 19 ∷ Ldr 30 31 0 ∷ AddImm 31 31 16 ∷ Svc 5 ∷ Ret 30 ∷ []
 
 -- a function that a reference names
 abbrev pub none_insts : List Inst
@@ -57,7 +57,7 @@ operation_image = record {
   map = operation_map;
 }
 
--- main is function 0 with the locals s, i, r; the operation is function 1 with the local n; function 2 only halts
+-- main is function 0 with the locals s, i, r; the operation is function 1, a leaf with the local n in X19; function 2 only halts
 abbrev pub operation_world : World
 operation_world = record {
   image = operation_image;
@@ -65,7 +65,7 @@ operation_world = record {
   may_name = λ f k. nat_eq f 2 && nat_eq k 0;
   locals = λ f. if nat_eq f 0 then 3 else (if nat_eq f 1 then 1 else 0);
   ty = λ f i. if nat_eq f 0 && nat_eq i 2 then Fn 0 else I64;
-  home = λ f i. slot (i + 1);
+  is_leaf = λ f. not (nat_eq f 0);
   place = λ f b l.
       if nat_eq f 0 then (if nat_eq l 0 then 0x10014 else (if nat_eq l 1 then 0x10020 else (if nat_eq l 2 then 0x10030 else (if nat_eq l 3 then 0x10040 else (if nat_eq l 4 then 0x1006C else (if nat_eq l 5 then 0x10098 else 0x100B8))))))
       else (if nat_eq f 1 then (if nat_eq l 0 then 0x100D0 else (if nat_eq l 1 then 0x10100 else (if nat_eq l 2 then 0x10130 else (if nat_eq l 3 then 0x10148 else 0x10160)))) else 0x10184);

@@ -1,5 +1,5 @@
 mod Flags
-mod Operations
+mod Reached
 mod Binaries
 mod Plain
 mod Terminators

@@ -1,91 +1,127 @@
 -- How many words each line has, and that the fields of its instructions fit.
 use Rattle.std.proofs.Common.{◌≡◌, refl, ◌+◌, ◌^◌, ◌<◌, ◌≤◌, ℕ, ℤ, List, [], ◌∷◌, ◌++◌, arith, lit<}
-use Rattle.oat_a64.specs.declared.inst.Inst.TheVariants.{Ldr, Str}
-use Rattle.oat_a64.specs.Table.{IsInRange}
 use Rattle.oat_asm.specs.declared.item.Item.{Item}
 use Rattle.oat_asm.specs.Items.{words_needed}
 use Rattle.oat_asm.specs.Ranges.{AreItemsInRange}
+use Rattle.oat_asm.proofs.StandingItems.{words_of_two}
 use Rattle.oat_ir.specs.declared.instr.BinOp.{BinOp}
 use Rattle.oat_ir.specs.declared.instr.BinOp.TheVariants.{Add, Sub, Mul, And, Or, Xor, Shl, Shr, Sar, Eq, Ne, Lt, Le, Ltu, Leu, Div, Rem, Divu, Remu}
 use Rattle.oat_check.specs.Operators.{number}
 use Rattle.oat_check.proofs.Bounds.{number_small}
-use Rattle.oat_locals.specs.Code.{operation_code, one_inst, const_code, binary_code, binary_words}
+use Rattle.oat_frames.specs.Frames.{Home, slot, register}
+use Rattle.oat_frames.specs.Code.{IsHome, home_store}
+use Rattle.oat_frames.proofs.FrameLaws.{load-range, store-range}
+use Rattle.oat_locals.specs.Code.{operand_in, operand_load, operand_store, operation_code, const_code, binary_code, binary_words}
 use Rattle.oat_locals.specs.Sizes.{WordsOfLines, LinesAreInRange}
 
 range-append : (is js : List Item) → AreItemsInRange is → AreItemsInRange js → AreItemsInRange (is ++ js)
 range-append [] js h l = l
 range-append (i ∷ is) js h l = (h.0, range-append is js h.1 l)
 
-load : (r k : ℕ) → r < 32 → k < 255 → IsInRange (Ldr r 31 (k + 1))
-load r k h l = (h, (lit< tt, (omega arith, tt)))
+operation-range : (op : BinOp) (d a b : ℕ) → d < 32 → a < 32 → b < 32 → AreItemsInRange (operation_code op d a b)
+operation-range Add d a b p q r = ((p, (q, (r, (lit< tt, tt)))), tt)
+operation-range Sub d a b p q r = ((p, (q, (r, tt))), tt)
+operation-range Mul d a b p q r = ((p, (q, (r, (lit< tt, tt)))), tt)
+operation-range And d a b p q r = ((p, (q, (r, tt))), tt)
+operation-range Or d a b p q r = ((p, (q, (r, tt))), tt)
+operation-range Xor d a b p q r = ((p, (q, (r, tt))), tt)
+operation-range Shl d a b p q r = ((p, (q, (r, tt))), tt)
+operation-range Shr d a b p q r = ((p, (q, (r, tt))), tt)
+operation-range Sar d a b p q r = ((p, (q, (r, tt))), tt)
+operation-range Eq d a b p q r = ((lit< tt, (q, (r, tt))), ((p, (lit< tt, (lit< tt, (refl, tt)))), tt))
+operation-range Ne d a b p q r = ((lit< tt, (q, (r, tt))), ((p, (lit< tt, (lit< tt, (refl, tt)))), tt))
+operation-range Lt d a b p q r = ((lit< tt, (q, (r, tt))), ((p, (lit< tt, (lit< tt, (refl, tt)))), tt))
+operation-range Le d a b p q r = ((lit< tt, (q, (r, tt))), ((p, (lit< tt, (lit< tt, (refl, tt)))), tt))
+operation-range Ltu d a b p q r = ((lit< tt, (q, (r, tt))), ((p, (lit< tt, (lit< tt, (refl, tt)))), tt))
+operation-range Leu d a b p q r = ((lit< tt, (q, (r, tt))), ((p, (lit< tt, (lit< tt, (refl, tt)))), tt))
+operation-range Div d a b p q r = (tt, ((r, (lit< tt, tt)), ((lit< tt, tt), ((p, (q, (r, tt))), tt))))
+operation-range Rem d a b p q r = (tt, ((r, (lit< tt, tt)), ((lit< tt, tt), ((lit< tt, (q, (r, tt))), ((p, (lit< tt, (r, (q, tt)))), tt)))))
+operation-range Divu d a b p q r = (tt, ((r, (lit< tt, tt)), ((lit< tt, tt), ((p, (q, (r, tt))), tt))))
+operation-range Remu d a b p q r = (tt, ((r, (lit< tt, tt)), ((lit< tt, tt), ((lit< tt, (q, (r, tt))), ((p, (lit< tt, (r, (q, tt)))), tt)))))
 
-store : (r k : ℕ) → r < 32 → k < 255 → IsInRange (Str r 31 (k + 1))
-store r k h l = (h, (lit< tt, (omega arith, tt)))
+-- what an operand adds
+load-then : (r : ℕ) (home : Home) (is : List Item) → r < 32 → IsHome home → AreItemsInRange is → AreItemsInRange (operand_load r home ++ is)
+load-then r (slot k) is low fits rest = (load-range r (slot k) low fits, rest)
+load-then r (register q) is low fits rest = rest
 
-operation-range : (op : BinOp) → AreItemsInRange (operation_code op)
-operation-range Add = ((lit< tt, (lit< tt, (lit< tt, (lit< tt, tt)))), tt)
-operation-range Sub = ((lit< tt, (lit< tt, (lit< tt, tt))), tt)
-operation-range Mul = ((lit< tt, (lit< tt, (lit< tt, (lit< tt, tt)))), tt)
-operation-range And = ((lit< tt, (lit< tt, (lit< tt, tt))), tt)
-operation-range Or = ((lit< tt, (lit< tt, (lit< tt, tt))), tt)
-operation-range Xor = ((lit< tt, (lit< tt, (lit< tt, tt))), tt)
-operation-range Shl = ((lit< tt, (lit< tt, (lit< tt, tt))), tt)
-operation-range Shr = ((lit< tt, (lit< tt, (lit< tt, tt))), tt)
-operation-range Sar = ((lit< tt, (lit< tt, (lit< tt, tt))), tt)
-operation-range Eq = ((lit< tt, (lit< tt, (lit< tt, tt))), ((lit< tt, (lit< tt, (lit< tt, (refl, tt)))), tt))
-operation-range Ne = ((lit< tt, (lit< tt, (lit< tt, tt))), ((lit< tt, (lit< tt, (lit< tt, (refl, tt)))), tt))
-operation-range Lt = ((lit< tt, (lit< tt, (lit< tt, tt))), ((lit< tt, (lit< tt, (lit< tt, (refl, tt)))), tt))
-operation-range Le = ((lit< tt, (lit< tt, (lit< tt, tt))), ((lit< tt, (lit< tt, (lit< tt, (refl, tt)))), tt))
-operation-range Ltu = ((lit< tt, (lit< tt, (lit< tt, tt))), ((lit< tt, (lit< tt, (lit< tt, (refl, tt)))), tt))
-operation-range Leu = ((lit< tt, (lit< tt, (lit< tt, tt))), ((lit< tt, (lit< tt, (lit< tt, (refl, tt)))), tt))
-operation-range Div = (tt, ((lit< tt, (lit< tt, tt)), ((lit< tt, tt), ((lit< tt, (lit< tt, (lit< tt, tt))), tt))))
-operation-range Rem = (tt, ((lit< tt, (lit< tt, tt)), ((lit< tt, tt), ((lit< tt, (lit< tt, (lit< tt, tt))), ((lit< tt, (lit< tt, (lit< tt, (lit< tt, tt)))), tt)))))
-operation-range Divu = (tt, ((lit< tt, (lit< tt, tt)), ((lit< tt, tt), ((lit< tt, (lit< tt, (lit< tt, tt))), tt))))
-operation-range Remu = (tt, ((lit< tt, (lit< tt, tt)), ((lit< tt, tt), ((lit< tt, (lit< tt, (lit< tt, tt))), ((lit< tt, (lit< tt, (lit< tt, (lit< tt, tt)))), tt)))))
+store-last : (r : ℕ) (home : Home) → r < 32 → IsHome home → AreItemsInRange (operand_store r home)
+store-last r (slot k) low fits = (store-range r (slot k) low fits, tt)
+store-last r (register q) low fits = tt
 
-const-range : (x : ℕ) (value : ℤ) → x < 255 → AreItemsInRange (const_code x value)
+operand-low : (r : ℕ) (home : Home) → r < 32 → IsHome home → operand_in r home < 32
+operand-low r (slot k) low fits = low
+operand-low r (register q) low fits = omega arith
+
+binary-range : (op : BinOp) (x y z : Home) → IsHome x → IsHome y → IsHome z → AreItemsInRange (binary_code op x y z)
+binary-range op x y z h k l =
+    load-then 9 y _ (lit< tt) k (load-then 10 z _ (lit< tt) l
+    (range-append (operation_code op (operand_in 9 x) (operand_in 9 y) (operand_in 10 z)) (operand_store 9 x)
+    (operation-range op (operand_in 9 x) (operand_in 9 y) (operand_in 10 z) (operand-low 9 x (lit< tt) h) (operand-low 9 y (lit< tt) k) (operand-low 10 z (lit< tt) l)) (store-last 9 x (lit< tt) h)))
+
+const-range : (x : Home) (value : ℤ) → IsHome x → AreItemsInRange (const_code x value)
 const-range x value h =
     let n : ℕ = number value in
     let small : n < 2 ^ 64 = number_small value in (
       (lit< tt, (lit< tt, (omega arith, tt))),
       (
         (lit< tt, (lit< tt, (omega arith, tt))),
-        ((lit< tt, (lit< tt, (omega arith, tt))), ((lit< tt, (lit< tt, (omega arith, tt))), (store 9 x (lit< tt) h, tt))),
+        ((lit< tt, (lit< tt, (omega arith, tt))), ((lit< tt, (lit< tt, (omega arith, tt))), (store-range 9 x (lit< tt) h, tt))),
       ),
     )
 
 pub lines-are-in-range : LinesAreInRange
 lines-are-in-range = record {
-  binary = λ op x y z h k l. (load 9 y (lit< tt) k, (load 10 z (lit< tt) l, range-append (operation_code op) (one_inst (Str 9 31 (x + 1))) (operation-range op) (store 9 x (lit< tt) h, tt)));
+  binary = binary-range;
   const = const-range;
-  copy = λ x y h l. (load 9 y (lit< tt) l, (store 9 x (lit< tt) h, tt));
-  input = λ x h. ((lit< tt, tt), (store 0 x (lit< tt) h, tt));
-  output = λ x h. (load 0 x (lit< tt) h, ((lit< tt, tt), tt));
+  copy = λ x y h l. (load-range 9 y (lit< tt) l, (store-range 9 x (lit< tt) h, tt));
+  input = λ x h. ((lit< tt, tt), (store-range 0 x (lit< tt) h, tt));
+  output = λ x h. (load-range 0 x (lit< tt) h, ((lit< tt, tt), tt));
   jump = λ to. (tt, (tt, tt));
-  branch = λ x first second h. (load 9 x (lit< tt) h, (tt, ((lit< tt, tt), (lit< tt, (tt, tt)))));
+  branch = λ x first second h. (load-range 9 x (lit< tt) h, (tt, ((lit< tt, tt), (lit< tt, (tt, tt)))));
   halt = ((lit< tt, tt), tt);
 }
 
-words-of : (op : BinOp) (x y z : ℕ) → words_needed (binary_code op x y z) ≡ binary_words op
-words-of Add x y z = refl
-words-of Sub x y z = refl
-words-of Mul x y z = refl
-words-of And x y z = refl
-words-of Or x y z = refl
-words-of Xor x y z = refl
-words-of Shl x y z = refl
-words-of Shr x y z = refl
-words-of Sar x y z = refl
-words-of Eq x y z = refl
-words-of Ne x y z = refl
-words-of Lt x y z = refl
-words-of Le x y z = refl
-words-of Ltu x y z = refl
-words-of Leu x y z = refl
-words-of Div x y z = refl
-words-of Rem x y z = refl
-words-of Divu x y z = refl
-words-of Remu x y z = refl
+-- an operand that has no register of its own takes a word
+load-words : (r : ℕ) (home : Home) → words_needed (operand_load r home) ≤ 1
+load-words r (slot k) = omega arith
+load-words r (register q) = omega arith
+
+store-words : (r : ℕ) (home : Home) → words_needed (operand_store r home) ≤ 1
+store-words r (slot k) = omega arith
+store-words r (register q) = omega arith
+
+operation-words : (op : BinOp) (d a b : ℕ) → words_needed (operation_code op d a b) + 3 ≡ binary_words op
+operation-words Add d a b = refl
+operation-words Sub d a b = refl
+operation-words Mul d a b = refl
+operation-words And d a b = refl
+operation-words Or d a b = refl
+operation-words Xor d a b = refl
+operation-words Shl d a b = refl
+operation-words Shr d a b = refl
+operation-words Sar d a b = refl
+operation-words Eq d a b = refl
+operation-words Ne d a b = refl
+operation-words Lt d a b = refl
+operation-words Le d a b = refl
+operation-words Ltu d a b = refl
+operation-words Leu d a b = refl
+operation-words Div d a b = refl
+operation-words Rem d a b = refl
+operation-words Divu d a b = refl
+operation-words Remu d a b = refl
+
+words-of : (op : BinOp) (x y z : Home) → words_needed (binary_code op x y z) ≤ binary_words op
+words-of op x y z =
+    let code : List Item = operation_code op (operand_in 9 x) (operand_in 9 y) (operand_in 10 z) in
+    let one = words_of_two (operand_load 9 y) (operand_load 10 z ++ (code ++ operand_store 9 x)) in
+    let two = words_of_two (operand_load 10 z) (code ++ operand_store 9 x) in
+    let three = words_of_two code (operand_store 9 x) in
+    let first = load-words 9 y in
+    let second = load-words 10 z in
+    let last = store-words 9 x in
+    let own = operation-words op (operand_in 9 x) (operand_in 9 y) (operand_in 10 z) in
+    omega (arith, one, two, three, first, second, last, own)
 
 few-words : (op : BinOp) → binary_words op ≤ 7
 few-words Add = omega arith

@@ -12,12 +12,12 @@ use Rattle.oat_frames.specs.Code.{CodeStands}
 use Rattle.oat_check.specs.Steps.{Frame}
 use Rattle.oat_follow.specs.Events.{MachineEvent, moves}
 use Rattle.oat_frames.specs.Comes.{StepsTo}
-use Rattle.oat_frames.specs.Frames.{World, IsWorld, IsSlotted, IsAt, HoldsState, line_address}
+use Rattle.oat_frames.specs.Frames.{World, IsWorld, IsAt, HoldsState, home_in, line_address}
 use Rattle.oat_frames.specs.Lines.{IsNumberLocal}
 use Rattle.oat_follow.specs.Reaching.{RunsTo, inst_makes}
 use Rattle.oat_frames.specs.Moments.{next_moment, jumped}
 use Rattle.oat_frames.proofs.Kit.{thence, with_x, b, cbnz-leads, cbnz-falls, svc-bit, svc-halt}
-use Rattle.oat_frames.proofs.FrameLaws.{found-contains, loads-number, scratched}
+use Rattle.oat_frames.proofs.FrameLaws.{found-contains, keeps-eight, loads-number, scratched}
 use Rattle.oat_locals.specs.Code.{jump_code, branch_code, halt_code}
 use Rattle.oat_locals.specs.Terminators.{BlockBegins, in_block, JumpsLead, TakenBranchesLead, OtherBranchesLead, BranchesAreApart, HaltsEnd}
 
@@ -72,21 +72,21 @@ bit_told m v =
     let one : Running = next_moment m (with_x m.machine 9 v) in
     next_moment one one.machine
 
-tells-bit : (w : World) → IsWorld w → (f : Frame) (callers : List Frame) (globals : ℕ → ℕ) (x taken other : ℕ) (m : Running) → IsAt w f callers globals m → IsSlotted w f.func → IsNumberLocal w f x
-    → CodeStands w m.machine.regs.pc (branch_code x taken other) → RunsTo w.image 2 m (bit_told m (f.locals x)) []
-tells-bit w ok f callers globals x taken other m r slots from here =
+tells-bit : (w : World) → IsWorld w → (f : Frame) (callers : List Frame) (globals : ℕ → ℕ) (x taken other : ℕ) (m : Running) → IsAt w f callers globals m → IsNumberLocal w f x
+    → CodeStands w m.machine.regs.pc (branch_code (home_in w f x) taken other) → RunsTo w.image 2 m (bit_told m (f.locals x)) []
+tells-bit w ok f callers globals x taken other m r from here =
     let m1 : Running = next_moment m (with_x m.machine 9 (f.locals x)) in
-    thence w.image 1 1 m m1 (bit_told m (f.locals x)) [] [] (loads-number w ok f callers globals m r slots m 9 x r.going refl refl here.0 from) (svc-bit w.image ok.low m1 r.going here.1.1.0)
+    thence w.image 1 1 m m1 (bit_told m (f.locals x)) [] [] (loads-number w ok f callers globals m r m 9 x r.going refl refl (refl, refl, refl, refl, refl, refl, refl, refl) here.0 from) (svc-bit w.image ok.low m1 r.going here.1.1.0)
 
 pub taken-branches-lead : TakenBranchesLead
 taken-branches-lead w ok f callers globals x first second taken other m r this some =
     let pc : ℕ = m.machine.regs.pc in
     let v : ℕ = f.locals x in
-    let here : CodeStands w pc (branch_code x taken other) = subst (λ (p : ℕ). CodeStands w p (branch_code x taken other)) (sym r.pc) this.code in
+    let here : CodeStands w pc (branch_code (home_in w f x) taken other) = subst (λ (p : ℕ). CodeStands w p (branch_code (home_in w f x) taken other)) (sym r.pc) this.code in
     let row : Row = rows.Branch (pc + 4) (w.label taken) (w.label other) in
     let m2 : Running = bit_told m v in
     let k : Running = jumped m2 m2.machine.regs (w.label taken) in
-    let two : RunsTo w.image 2 m m2 [] = tells-bit w ok f callers globals x taken other m r this.slots this.from here in
+    let two : RunsTo w.image 2 m m2 [] = tells-bit w ok f callers globals x taken other m r this.from here in
     let over : row_over w.image.map.rows (pc + 4 + 4) ≡ Some (rows.Branch (pc + 4) (w.label taken) (w.label other)) = here.1.0 (pc + 4 + 4) (omega arith) (omega arith) in
     let three : RunsTo w.image 1 m2 k (moves (edges.Branch (pc + 4) true (w.label taken)) ∷ []) =
     cbnz-leads w.image ok.low m2 9 here.1.1.1.0.0 (w.label taken) row (edges.Branch (pc + 4) true (w.label taken)) r.going here.1.1.1.0.1 here.1.1.1.0.2 over
@@ -94,18 +94,18 @@ taken-branches-lead w ok f callers globals x first second taken other m r this s
     let runs : RunsTo w.image 3 m k (moves (edges.Branch (pc + 4) true (w.label taken)) ∷ []) = thence w.image 2 1 m m2 k [] _ two three in
     enters-block w f callers globals first taken (moves (edges.Branch (line_address w f + 4) true (w.label taken)) ∷ []) m r this.first_block k.machine.regs.x k.made 3 (omega arith)
     (subst (λ (p : ℕ). RunsTo w.image 3 m k (moves (edges.Branch (p + 4) true (w.label taken)) ∷ [])) r.pc runs)
-    (scratched w f.func f.locals callers globals m.machine.regs.x k.machine.regs.x m.machine.regs.sp m.machine.memory this.slots r.holds refl)
+    (scratched w f.func f.locals callers globals m.machine.regs.x k.machine.regs.x m.machine.regs.sp m.machine.memory r.holds refl (keeps-eight m.machine.regs.x k.machine.regs.x (refl, refl, refl, refl, refl, refl, refl, refl)))
 
 pub other-branches-lead : OtherBranchesLead
 other-branches-lead w ok f callers globals x first second taken other m r this none =
     let pc : ℕ = m.machine.regs.pc in
     let v : ℕ = f.locals x in
-    let here : CodeStands w pc (branch_code x taken other) = subst (λ (p : ℕ). CodeStands w p (branch_code x taken other)) (sym r.pc) this.code in
+    let here : CodeStands w pc (branch_code (home_in w f x) taken other) = subst (λ (p : ℕ). CodeStands w p (branch_code (home_in w f x) taken other)) (sym r.pc) this.code in
     let row : Row = rows.Branch (pc + 4) (w.label taken) (w.label other) in
     let m2 : Running = bit_told m v in
     let m3 : Running = next_moment m2 m2.machine in
     let k : Running = jumped m3 m3.machine.regs (w.label other) in
-    let two : RunsTo w.image 2 m m2 [] = tells-bit w ok f callers globals x taken other m r this.slots this.from here in
+    let two : RunsTo w.image 2 m m2 [] = tells-bit w ok f callers globals x taken other m r this.from here in
     let over : (q : ℕ) → pc + 4 ≤ q → q < pc + 4 + 4 * 3 → row_over w.image.map.rows q ≡ Some (rows.Branch (pc + 4) (w.label taken) (w.label other)) = here.1.0 in
     let apart : pc + 4 + 4 + 4 ≡ w.label taken → ⊥ = λ e. this.apart (behind pc (line_address w f) (w.label taken) r.pc e) in
     let three : RunsTo w.image 1 m2 m3 [] =
@@ -118,7 +118,7 @@ other-branches-lead w ok f callers globals x first second taken other m r this n
     thence w.image 2 2 m m2 k [] _ two (thence w.image 1 1 m2 m3 k [] _ three last) in
     enters-block w f callers globals second other (moves (edges.Branch (line_address w f + 4) false (w.label other)) ∷ []) m r this.second_block k.machine.regs.x k.made 4 (omega arith)
     (subst (λ (p : ℕ). RunsTo w.image 4 m k (moves (edges.Branch (p + 4) false (w.label other)) ∷ [])) r.pc runs)
-    (scratched w f.func f.locals callers globals m.machine.regs.x k.machine.regs.x m.machine.regs.sp m.machine.memory this.slots r.holds refl) where
+    (scratched w f.func f.locals callers globals m.machine.regs.x k.machine.regs.x m.machine.regs.sp m.machine.memory r.holds refl (keeps-eight m.machine.regs.x k.machine.regs.x (refl, refl, refl, refl, refl, refl, refl, refl))) where
       behind : (pc p l : ℕ) → pc ≡ p → pc + 4 + 4 + 4 ≡ l → l ≡ p + 12
       behind pc p l a e = omega arith
 

@@ -1,5 +1,5 @@
--- The code of the lines whose operands are locals alone, in a function whose locals have slots (the instructions are those of the Arm A64 manual). X9, X10 and X11 are scratch, and X0 passes inputs and outputs.
-use Rattle.std.specs.Prelude.{◌+◌, ◌/◌, ◌%◌, ◌^◌, ℕ, ℤ, pos, List, [], ◌∷◌, ◌++◌}
+-- The code of the lines whose operands are locals alone, by the homes of these locals (the instructions are those of the Arm A64 manual). X9, X10 and X11 are scratch, and X0 passes inputs and outputs.
+use Rattle.std.specs.Prelude.{◌/◌, ◌%◌, ◌^◌, ℕ, ℤ, pos, List, [], ◌∷◌, ◌++◌}
 use Rattle.oat_a64.specs.declared.inst.Inst.{Inst}
 use Rattle.oat_a64.specs.declared.inst.Inst.TheVariants.{AddReg, SubReg, SubsReg, AndReg, OrrReg, EorReg, Madd, Msub, Udiv, Sdiv, Lslv, Lsrv, Asrv, Movz, Movk, Csinc, Ldr, Str, Svc, Brk}
 use Rattle.oat_a64.specs.declared.inst.Inst.TheVariants as inst
@@ -10,46 +10,64 @@ use Rattle.oat_asm.specs.declared.note.Note.TheVariants as note
 use Rattle.oat_ir.specs.declared.instr.BinOp.{BinOp}
 use Rattle.oat_ir.specs.declared.instr.BinOp.TheVariants.{Add, Sub, Mul, And, Or, Xor, Shl, Shr, Sar, Eq, Ne, Lt, Le, Ltu, Leu, Div, Rem, Divu, Remu}
 use Rattle.oat_check.specs.Operators.{number}
+use Rattle.oat_frames.specs.Frames.{Home, slot, register}
+use Rattle.oat_frames.specs.Code.{home_load, home_store}
 
--- ---- three operands: X9 and X10 are the operands, and then X9 is the result
+-- ---- three operands
+
+-- the register in which an operand is found, or a result put: that of its home, or else this scratch register
+abbrev pub operand_in : ℕ → Home → ℕ
+operand_in r (slot k) = r
+operand_in r (register q) = q
+
+-- what brings it there, and what takes it from there: nothing where the home is a register
+abbrev pub operand_load : ℕ → Home → List Item
+operand_load r (slot k) = item.Inst (Ldr r 31 k) ∷ []
+operand_load r (register q) = []
+
+abbrev pub operand_store : ℕ → Home → List Item
+operand_store r (slot k) = item.Inst (Str r 31 k) ∷ []
+operand_store r (register q) = []
 
 abbrev pub one_inst : Inst → List Item
 one_inst i = item.Inst i ∷ []
 
 -- SUBS, and CSET under a condition: CSINC of two zero registers under the flipped one, which is given here
-abbrev pub compared_by : ℕ → List Item
-compared_by flipped = item.Inst (SubsReg 31 9 10) ∷ item.Inst (Csinc 9 31 31 flipped) ∷ []
+abbrev pub compared_by : ℕ → (d a b : ℕ) → List Item
+compared_by flipped d a b = item.Inst (SubsReg 31 a b) ∷ item.Inst (Csinc d 31 31 flipped) ∷ []
 
 -- a divisor of 0 traps
-abbrev pub divisor_tested : List Item → List Item
-divisor_tested is = item.Note note.Check ∷ item.Inst (inst.Cbnz 10 (pos 2)) ∷ item.Inst (Brk 1) ∷ is
+abbrev pub divisor_tested : ℕ → List Item → List Item
+divisor_tested b is = item.Note note.Check ∷ item.Inst (inst.Cbnz b (pos 2)) ∷ item.Inst (Brk 1) ∷ is
 
-abbrev pub operation_code : BinOp → List Item
-operation_code Add = one_inst (AddReg 9 9 10 0)
-operation_code Sub = one_inst (SubReg 9 9 10)
-operation_code Mul = one_inst (Madd 9 9 10 31)
-operation_code And = one_inst (AndReg 9 9 10)
-operation_code Or = one_inst (OrrReg 9 9 10)
-operation_code Xor = one_inst (EorReg 9 9 10)
-operation_code Shl = one_inst (Lslv 9 9 10)
-operation_code Shr = one_inst (Lsrv 9 9 10)
-operation_code Sar = one_inst (Asrv 9 9 10)
-operation_code Eq = compared_by 1
-operation_code Ne = compared_by 0
-operation_code Lt = compared_by 10
-operation_code Le = compared_by 12
-operation_code Ltu = compared_by 2
-operation_code Leu = compared_by 8
-operation_code Div = divisor_tested (one_inst (Sdiv 9 9 10))
-operation_code Rem = divisor_tested (item.Inst (Sdiv 11 9 10) ∷ one_inst (Msub 9 11 10 9))
-operation_code Divu = divisor_tested (one_inst (Udiv 9 9 10))
-operation_code Remu = divisor_tested (item.Inst (Udiv 11 9 10) ∷ one_inst (Msub 9 11 10 9))
+-- registers a and b are the operands, and then register d is the result
+abbrev pub operation_code : BinOp → (d a b : ℕ) → List Item
+operation_code Add d a b = one_inst (AddReg d a b 0)
+operation_code Sub d a b = one_inst (SubReg d a b)
+operation_code Mul d a b = one_inst (Madd d a b 31)
+operation_code And d a b = one_inst (AndReg d a b)
+operation_code Or d a b = one_inst (OrrReg d a b)
+operation_code Xor d a b = one_inst (EorReg d a b)
+operation_code Shl d a b = one_inst (Lslv d a b)
+operation_code Shr d a b = one_inst (Lsrv d a b)
+operation_code Sar d a b = one_inst (Asrv d a b)
+operation_code Eq d a b = compared_by 1 d a b
+operation_code Ne d a b = compared_by 0 d a b
+operation_code Lt d a b = compared_by 10 d a b
+operation_code Le d a b = compared_by 12 d a b
+operation_code Ltu d a b = compared_by 2 d a b
+operation_code Leu d a b = compared_by 8 d a b
+operation_code Div d a b = divisor_tested b (one_inst (Sdiv d a b))
+operation_code Rem d a b = divisor_tested b (item.Inst (Sdiv 11 a b) ∷ one_inst (Msub d 11 b a))
+operation_code Divu d a b = divisor_tested b (one_inst (Udiv d a b))
+operation_code Remu d a b = divisor_tested b (item.Inst (Udiv 11 a b) ∷ one_inst (Msub d 11 b a))
 
 -- X = Y op Z
-abbrev pub binary_code : BinOp → ℕ → ℕ → ℕ → List Item
-binary_code op x y z = item.Inst (Ldr 9 31 (y + 1)) ∷ item.Inst (Ldr 10 31 (z + 1)) ∷ (operation_code op ++ one_inst (Str 9 31 (x + 1)))
+abbrev pub binary_code : BinOp → Home → Home → Home → List Item
+binary_code op x y z =
+    operand_load 9 y ++ (operand_load 10 z ++ (operation_code op (operand_in 9 x) (operand_in 9 y) (operand_in 10 z) ++ operand_store 9 x))
 
--- how many words that code has
+-- how many words that code has at most
 abbrev pub binary_words : BinOp → ℕ
 binary_words Div = 6
 binary_words Rem = 7
@@ -70,26 +88,26 @@ abbrev pub quarters_moved : ℕ → List Item → List Item
 quarters_moved n is =
     item.Inst (Movz 9 0 (n % 2 ^ 16)) ∷ item.Inst (Movk 9 1 (n / 2 ^ 16 % 2 ^ 16)) ∷ item.Inst (Movk 9 2 (n / 2 ^ 32 % 2 ^ 16)) ∷ item.Inst (Movk 9 3 (n / 2 ^ 48)) ∷ is
 
-abbrev pub const_code : ℕ → ℤ → List Item
-const_code x value = quarters_moved (number value) (one_inst (Str 9 31 (x + 1)))
+abbrev pub const_code : Home → ℤ → List Item
+const_code x value = quarters_moved (number value) (home_store 9 x ∷ [])
 
-abbrev pub copy_code : ℕ → ℕ → List Item
-copy_code x y = item.Inst (Ldr 9 31 (y + 1)) ∷ one_inst (Str 9 31 (x + 1))
+abbrev pub copy_code : Home → Home → List Item
+copy_code x y = home_load 9 y ∷ home_store 9 x ∷ []
 
-abbrev pub input_code : ℕ → List Item
-input_code x = item.Inst (Svc 8) ∷ one_inst (Str 0 31 (x + 1))
+abbrev pub input_code : Home → List Item
+input_code x = item.Inst (Svc 8) ∷ home_store 0 x ∷ []
 
-abbrev pub output_code : ℕ → List Item
-output_code x = item.Inst (Ldr 0 31 (x + 1)) ∷ one_inst (Svc 9)
+abbrev pub output_code : Home → List Item
+output_code x = home_load 0 x ∷ one_inst (Svc 9)
 
 -- ---- terminators, by the labels of blocks
 
 abbrev pub jump_code : ℕ → List Item
 jump_code to = item.Note (note.Jump to) ∷ item.BranchTo form.B to ∷ []
 
-abbrev pub branch_code : ℕ → ℕ → ℕ → List Item
+abbrev pub branch_code : Home → ℕ → ℕ → List Item
 branch_code x first second =
-    item.Inst (Ldr 9 31 (x + 1)) ∷ item.Note (note.Branch first second) ∷ item.Inst (Svc 3) ∷ item.BranchTo (form.Cbnz 9) first ∷ item.BranchTo form.B second ∷ []
+    home_load 9 x ∷ item.Note (note.Branch first second) ∷ item.Inst (Svc 3) ∷ item.BranchTo (form.Cbnz 9) first ∷ item.BranchTo form.B second ∷ []
 
 abbrev pub halt_code : List Item
 halt_code = one_inst (Svc 0)

@@ -9,7 +9,7 @@ use Rattle.oat_ir.specs.declared.instr.BinOp.{BinOp}
 use Rattle.oat_check.specs.Operators.{number, result_of}
 use Rattle.oat_check.specs.Steps.{Frame}
 use Rattle.oat_follow.specs.Events.{prints}
-use Rattle.oat_frames.specs.Frames.{World, IsWorld, IsAt}
+use Rattle.oat_frames.specs.Frames.{World, IsWorld, IsAt, home_in}
 use Rattle.oat_frames.specs.Comes.{ComesTo, StepsTo, EndsWithin, with_result}
 use Rattle.oat_frames.specs.Lines.{IsLineAt, IsNumberLocal, on_next_line}
 use Rattle.oat_locals.specs.Code.{binary_code, const_code, copy_code, input_code, output_code}
@@ -17,7 +17,7 @@ use Rattle.oat_locals.specs.Code.{binary_code, const_code, copy_code, input_code
 -- ---- three operands
 
 pub record IsBinaryLine (w : World) (f : Frame) (op : BinOp) (x y z : ℕ) : Type 0 where
-  pub line : IsLineAt w f (binary_code op x y z)
+  pub line : IsLineAt w f (binary_code op (home_in w f x) (home_in w f y) (home_in w f z))
   pub to : IsNumberLocal w f x
   pub left : IsNumberLocal w f y
   pub right : IsNumberLocal w f z
@@ -39,7 +39,7 @@ DivisionsTrap =
 -- ---- constants and copies
 
 pub record IsConstLine (w : World) (f : Frame) (x : ℕ) (value : ℤ) : Type 0 where
-  pub line : IsLineAt w f (const_code x value)
+  pub line : IsLineAt w f (const_code (home_in w f x) value)
   pub to : IsNumberLocal w f x
 
 abbrev pub ConstsLead : Type 0
@@ -50,7 +50,7 @@ ConstsLead =
 
 -- of one type
 pub record IsCopyLine (w : World) (f : Frame) (x y : ℕ) : Type 0 where
-  pub line : IsLineAt w f (copy_code x y)
+  pub line : IsLineAt w f (copy_code (home_in w f x) (home_in w f y))
   pub to_local : x < w.locals f.func
   pub from_local : y < w.locals f.func
   pub types : w.ty f.func y ≡ w.ty f.func x
@@ -64,7 +64,7 @@ CopiesLead =
 -- ---- inputs and outputs
 
 pub record IsInputLine (w : World) (f : Frame) (x : ℕ) : Type 0 where
-  pub line : IsLineAt w f (input_code x)
+  pub line : IsLineAt w f (input_code (home_in w f x))
   pub to : IsNumberLocal w f x
 
 abbrev pub InputsLead : Type 0
@@ -80,7 +80,7 @@ InputEndsTrap =
     → EndsWithin w 1 (ends.Trap InputEnd) m
 
 pub record IsOutputLine (w : World) (f : Frame) (x : ℕ) : Type 0 where
-  pub line : IsLineAt w f (output_code x)
+  pub line : IsLineAt w f (output_code (home_in w f x))
   pub from : IsNumberLocal w f x
 
 abbrev pub OutputsLead : Type 0

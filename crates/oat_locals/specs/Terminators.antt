@@ -7,7 +7,7 @@ use Rattle.oat_shape.specs.Shape.{IsShaped}
 use Rattle.oat_check.specs.Steps.{Frame}
 use Rattle.oat_frames.specs.Code.{CodeStands}
 use Rattle.oat_follow.specs.Events.{moves}
-use Rattle.oat_frames.specs.Frames.{World, IsWorld, IsSlotted, IsAt, line_address}
+use Rattle.oat_frames.specs.Frames.{World, IsWorld, Home, IsAt, home_in, line_address}
 use Rattle.oat_frames.specs.Comes.{StepsTo, EndsWithin}
 use Rattle.oat_frames.specs.Lines.{IsNumberLocal}
 use Rattle.oat_locals.specs.Code.{jump_code, branch_code, halt_code}
@@ -36,8 +36,7 @@ JumpsLead =
 
 -- No block begins inside the group of a branch, at its third word: there a branch that isn't taken would show the edge of one that is.
 pub record IsBranchLine (w : World) (f : Frame) (x first second taken other : ℕ) : Type 0 where
-  pub code : CodeStands w (line_address w f) (branch_code x taken other)
-  pub slots : IsSlotted w f.func
+  pub code : CodeStands w (line_address w f) (branch_code (home_in w f x) taken other)
   pub from : IsNumberLocal w f x
   pub first_block : BlockBegins w f first taken
   pub second_block : BlockBegins w f second other
@@ -59,7 +58,7 @@ OtherBranchesLead =
 -- where the image has the shape, no block begins inside the group of a branch
 abbrev pub BranchesAreApart : Type 0
 BranchesAreApart =
-    (w : World) (f : Frame) (x taken other : ℕ) → IsShaped w.image → CodeStands w (line_address w f) (branch_code x taken other)
+    (w : World) (f : Frame) (x : Home) (taken other : ℕ) → IsShaped w.image → CodeStands w (line_address w f) (branch_code x taken other)
     → w.label taken ≡ line_address w f + 12 → ⊥
 
 -- ---- halt

@@ -41,6 +41,7 @@ use Rattle.oat_match.proofs.Landing.{ends, steps}
 use Rattle.oat_match.proofs.Operands.{local_inside, number_local}
 use Rattle.oat_match.proofs.CallCode.{call_words, icall_words}
 use Rattle.oat_match.proofs.Finding.{Found, failed, found}
+use Rattle.oat_match.proofs.Leaves.{calls_slotted}
 use Rattle.oat_match.proofs.OperationPlaces.{operation_place}
 use Rattle.oat_match.proofs.Placing.{block_begins, function_at, has_begin}
 use Rattle.oat_match.proofs.Targets.{IsNamed, argument_typed, named_function, number_at, number_taken, parameter_is}
@@ -119,7 +120,7 @@ module _ (p : Program) (ok : IsChecked p) (w : World) (c : IsCompiled p w) (s : 
       next = next;
       is = c.data_of.results s.frame ∙ ap call_result here;
       few = formed.2.0;
-      caller_slots = c.data_of.slots s.frame.func;
+      caller_slots = calls_slotted p w c.data_of s.frame (Call x g args) here refl;
       function = function_at p ok w c g callee.item callee.is (length args) count;
       locals = λ i l. subst (λ (n : ℕ). get_or args i 0 < n) (sym (c.data_of.locals s.frame.func func is)) (formed.2.1 i 0 l);
       types = argument_ty;
@@ -183,7 +184,7 @@ module _ (p : Program) (ok : IsChecked p) (w : World) (c : IsCompiled p w) (s : 
       next = next;
       is = c.data_of.results s.frame ∙ ap call_result here;
       few = formed.2.0;
-      caller_slots = c.data_of.slots s.frame.func;
+      caller_slots = calls_slotted p w c.data_of s.frame (ICall x y args) here refl;
       locals = λ i l. subst (λ (n : ℕ). get_or args i 0 < n) (sym (c.data_of.locals s.frame.func func is)) (formed.2.1 i 0 l);
       types = λ i l. (number_local p ok w c.data_of s.frame func is (get_or args i 0) (number_at func args both.1 i l)).ty;
       from_local = local_inside p ok w c.data_of s.frame.func func is y (Fn (length args)) from_ty;

@@ -16,9 +16,10 @@ use Rattle.oat_check.specs.Lines.{instruction}
 use Rattle.oat_check.specs.RunLaws.{ElementsAreNumbered}
 use Rattle.oat_check.specs.Rules.{IsChecked, has_types, holds_number, is_as_scalar, names_array}
 use Rattle.oat_check.specs.Steps.{SourceState, does, reads, writes}
-use Rattle.oat_frames.specs.Frames.{World}
+use Rattle.oat_frames.specs.Frames.{World, home_in}
+use Rattle.oat_frames.specs.Code.{home_load, home_store}
 use Rattle.oat_frames.specs.Lines.{IsLineAt, IsNumberLocal}
-use Rattle.oat_globals.specs.Code.{define_at_code, define_code, load_code, loadx_code, ref_code, slot_load, slot_store, store_code, storex_code, use_at_code, use_code}
+use Rattle.oat_globals.specs.Code.{define_at_code, define_code, load_code, loadx_code, ref_code, store_code, storex_code, use_at_code, use_code}
 use Rattle.oat_globals.specs.Elements.{IsArrayAt}
 use Rattle.oat_globals.proofs.GlobalLaws.{critical_element_loads_lead, critical_element_loads_trap, critical_element_stores_lead, critical_element_stores_trap, critical_loads_lead, critical_stores_lead, element_loads_lead, element_stores_lead, elements_trap, loads_lead, references_lead, stores_lead}
 use Rattle.oat_match.specs.Code.{by_cell, first_word_of}
@@ -34,44 +35,44 @@ module _ (numbered : ElementsAreNumbered) (p : Program) (ok : IsChecked p) (w : 
   -- ---- scalars
 
   pub load_matched : (x g : ℕ) → is_as_scalar p func x g ≡ true
-      → IsLineAt w s.frame (by_cell (cell_number p g 0) (load_code x (first_word_of p g)) (λ cell. use_code x (first_word_of p g) cell))
+      → IsLineAt w s.frame (by_cell (cell_number p g 0) (load_code (home_in w s.frame x) (first_word_of p g)) (λ cell. use_code (home_in w s.frame x) (first_word_of p g) cell))
       → StepIsMatched p w (does p s s.frame.locals (Load x g)) m
   load_matched x g typed line = by (cell_number p g 0) refl line where
     n : ℕ
     n = first_word_of p g + 0
 
-    by : (o : Option ℕ) → cell_number p g 0 ≡ o → IsLineAt w s.frame (by_cell o (load_code x (first_word_of p g)) (λ cell. use_code x (first_word_of p g) cell))
+    by : (o : Option ℕ) → cell_number p g 0 ≡ o → IsLineAt w s.frame (by_cell o (load_code (home_in w s.frame x) (first_word_of p g)) (λ cell. use_code (home_in w s.frame x) (first_word_of p g) cell))
         → StepIsMatched p w (does p s s.frame.locals (Load x g)) m
     by None none here =
         let fit = scalar_pair p ok w c.data_of s.frame func is g x typed in
-        let line2 : IsLineAt w s.frame (load_code x n) = subst (λ (k : ℕ). IsLineAt w s.frame (load_code x k)) (sym (plus_none (first_word_of p g))) here in
+        let line2 : IsLineAt w s.frame (load_code (home_in w s.frame x) n) = subst (λ (k : ℕ). IsLineAt w s.frame (load_code (home_in w s.frame x) k)) (sym (plus_none (first_word_of p g))) here in
         reads_at p w s m going r numbered x g 0 n None 4 (omega arith) fit.0 refl none (loads_lead w c.world s.frame s.callers (words_held p s.globals) x n m r.is_at line2 fit.1)
     by (Some cell) some here =
         let fit = scalar_pair p ok w c.data_of s.frame func is g x typed in
-        let line2 : IsLineAt w s.frame (use_code x n cell) = subst (λ (k : ℕ). IsLineAt w s.frame (use_code x k cell)) (sym (plus_none (first_word_of p g))) here in
+        let line2 : IsLineAt w s.frame (use_code (home_in w s.frame x) n cell) = subst (λ (k : ℕ). IsLineAt w s.frame (use_code (home_in w s.frame x) k cell)) (sym (plus_none (first_word_of p g))) here in
         reads_at p w s m going r numbered x g 0 n (Some cell) 6 (omega arith) fit.0 refl some
         (critical_loads_lead w c.world s.frame s.callers (words_held p s.globals) x n cell m r.is_at line2 (critical_scalar p ok w c.data_of s.frame func is g cell x typed some))
 
   pub store_matched : (g x : ℕ) → is_as_scalar p func x g ≡ true
-      → IsLineAt w s.frame (by_cell (cell_number p g 0) (store_code (first_word_of p g) x) (λ cell. define_code (first_word_of p g) cell x))
+      → IsLineAt w s.frame (by_cell (cell_number p g 0) (store_code (first_word_of p g) (home_in w s.frame x)) (λ cell. define_code (first_word_of p g) cell (home_in w s.frame x)))
       → StepIsMatched p w (does p s s.frame.locals (Store g x)) m
   store_matched g x typed line = by (cell_number p g 0) refl line where
     n : ℕ
     n = first_word_of p g + 0
 
-    by : (o : Option ℕ) → cell_number p g 0 ≡ o → IsLineAt w s.frame (by_cell o (store_code (first_word_of p g) x) (λ cell. define_code (first_word_of p g) cell x))
+    by : (o : Option ℕ) → cell_number p g 0 ≡ o → IsLineAt w s.frame (by_cell o (store_code (first_word_of p g) (home_in w s.frame x)) (λ cell. define_code (first_word_of p g) cell (home_in w s.frame x)))
         → StepIsMatched p w (does p s s.frame.locals (Store g x)) m
     by None none here =
         let fit = scalar_pair p ok w c.data_of s.frame func is g x typed in
-        let line2 : IsLineAt w s.frame (store_code n x) = subst (λ (k : ℕ). IsLineAt w s.frame (store_code k x)) (sym (plus_none (first_word_of p g))) here in
+        let line2 : IsLineAt w s.frame (store_code n (home_in w s.frame x)) = subst (λ (k : ℕ). IsLineAt w s.frame (store_code k (home_in w s.frame x))) (sym (plus_none (first_word_of p g))) here in
         writes_at p w s m going r numbered g 0 n (s.frame.locals x) None 4 (omega arith) fit.0 refl none (stores_lead w c.world s.frame s.callers (words_held p s.globals) n x m r.is_at line2 fit.1)
     by (Some cell) some here =
         let fit = scalar_pair p ok w c.data_of s.frame func is g x typed in
-        let line2 : IsLineAt w s.frame (define_code n cell x) = subst (λ (k : ℕ). IsLineAt w s.frame (define_code k cell x)) (sym (plus_none (first_word_of p g))) here in
+        let line2 : IsLineAt w s.frame (define_code n cell (home_in w s.frame x)) = subst (λ (k : ℕ). IsLineAt w s.frame (define_code k cell (home_in w s.frame x))) (sym (plus_none (first_word_of p g))) here in
         writes_at p w s m going r numbered g 0 n (s.frame.locals x) (Some cell) 6 (omega arith) fit.0 refl some
         (critical_stores_lead w c.world s.frame s.callers (words_held p s.globals) n cell x m r.is_at line2 (critical_scalar p ok w c.data_of s.frame func is g cell x typed some))
 
-  pub ref_matched : (x callee : ℕ) → has_types p func (instruction (RefTo x callee)) ≡ true → is_referenced p callee ≡ true → IsLineAt w s.frame (ref_code x callee)
+  pub ref_matched : (x callee : ℕ) → has_types p func (instruction (RefTo x callee)) ≡ true → is_referenced p callee ≡ true → IsLineAt w s.frame (ref_code (home_in w s.frame x) callee)
       → StepIsMatched p w (does p s s.frame.locals (RefTo x callee)) m
   ref_matched x callee typed named line =
       let fit = may_refer p ok w c.data_of s.frame func is x callee typed named in
@@ -83,7 +84,7 @@ module _ (numbered : ElementsAreNumbered) (p : Program) (ok : IsChecked p) (w : 
   few_words base len array = let a : base + len ≤ w.globals = array.inside in let b : w.globals ≤ 65536 = c.world.globals in omega arith
 
   pub loadx_matched : (x g i : ℕ) → (holds_number func x && names_array p g && holds_number func i) ≡ true
-      → IsLineAt w s.frame (by_cell (cell_number p g 0) (loadx_code x (first_word_of p g) (length_at p g) i) (λ cell. use_at_code x (first_word_of p g) cell (length_at p g) i))
+      → IsLineAt w s.frame (by_cell (cell_number p g 0) (loadx_code (home_in w s.frame x) (first_word_of p g) (length_at p g) (home_in w s.frame i)) (λ cell. use_at_code (home_in w s.frame x) (first_word_of p g) cell (length_at p g) (home_in w s.frame i)))
       → StepIsMatched p w (does p s s.frame.locals (LoadX x g i)) m
   loadx_matched x g i typed line = by (cell_number p g 0) refl line where
     one : ((holds_number func x && names_array p g) ≡ true) × (holds_number func i ≡ true)
@@ -95,7 +96,7 @@ module _ (numbered : ElementsAreNumbered) (p : Program) (ok : IsChecked p) (w : 
     j : ℕ
     j = s.frame.locals i
 
-    by : (o : Option ℕ) → cell_number p g 0 ≡ o → IsLineAt w s.frame (by_cell o (loadx_code x (first_word_of p g) (length_at p g) i) (λ cell. use_at_code x (first_word_of p g) cell (length_at p g) i))
+    by : (o : Option ℕ) → cell_number p g 0 ≡ o → IsLineAt w s.frame (by_cell o (loadx_code (home_in w s.frame x) (first_word_of p g) (length_at p g) (home_in w s.frame i)) (λ cell. use_at_code (home_in w s.frame x) (first_word_of p g) cell (length_at p g) (home_in w s.frame i)))
         → StepIsMatched p w (does p s s.frame.locals (LoadX x g i)) m
     by None none here =
         let array : IsArrayAt w (first_word_of p g) (length_at p g) = array_at p ok w c.data_of g two.1 in
@@ -106,7 +107,7 @@ module _ (numbered : ElementsAreNumbered) (p : Program) (ok : IsChecked p) (w : 
               (element_loads_lead w c.world s.frame s.callers (words_held p s.globals) x (first_word_of p g) (length_at p g) i m r.is_at here (record { array = array; index = index; local = number_local p ok w c.data_of s.frame func is x two.0 }) l))
           | inr more ↦ beyond p w s m going r g (s.frame.locals i) (reads p s x g (s.frame.locals i)) more
               (ends p w s m going r (trapped Index) 6 (omega arith)
-              (elements_trap w c.world s.frame s.callers (words_held p s.globals) (first_word_of p g) (length_at p g) i (item.Inst (Ldr 9 11 0) ∷ slot_store 9 x ∷ []) m r.is_at here.code here.slots index (few_words (first_word_of p g) (length_at p g) array) more))
+              (elements_trap w c.world s.frame s.callers (words_held p s.globals) (first_word_of p g) (length_at p g) i (item.Inst (Ldr 9 11 0) ∷ home_store 9 (home_in w s.frame x) ∷ []) m r.is_at here.code index (few_words (first_word_of p g) (length_at p g) array) more))
         ]
     by (Some cell) some here =
         let fit = critical_element p ok w c.data_of s.frame func is g i x cell two.1 one.1 two.0 some in
@@ -120,7 +121,7 @@ module _ (numbered : ElementsAreNumbered) (p : Program) (ok : IsChecked p) (w : 
         ]
 
   pub storex_matched : (g i x : ℕ) → (names_array p g && holds_number func i && holds_number func x) ≡ true
-      → IsLineAt w s.frame (by_cell (cell_number p g 0) (storex_code (first_word_of p g) (length_at p g) i x) (λ cell. define_at_code (first_word_of p g) cell (length_at p g) i x))
+      → IsLineAt w s.frame (by_cell (cell_number p g 0) (storex_code (first_word_of p g) (length_at p g) (home_in w s.frame i) (home_in w s.frame x)) (λ cell. define_at_code (first_word_of p g) cell (length_at p g) (home_in w s.frame i) (home_in w s.frame x)))
       → StepIsMatched p w (does p s s.frame.locals (StoreX g i x)) m
   storex_matched g i x typed line = by (cell_number p g 0) refl line where
     one : ((names_array p g && holds_number func i) ≡ true) × (holds_number func x ≡ true)
@@ -129,7 +130,7 @@ module _ (numbered : ElementsAreNumbered) (p : Program) (ok : IsChecked p) (w : 
     two : (names_array p g ≡ true) × (holds_number func i ≡ true)
     two = and_parts (names_array p g) (holds_number func i) one.0
 
-    by : (o : Option ℕ) → cell_number p g 0 ≡ o → IsLineAt w s.frame (by_cell o (storex_code (first_word_of p g) (length_at p g) i x) (λ cell. define_at_code (first_word_of p g) cell (length_at p g) i x))
+    by : (o : Option ℕ) → cell_number p g 0 ≡ o → IsLineAt w s.frame (by_cell o (storex_code (first_word_of p g) (length_at p g) (home_in w s.frame i) (home_in w s.frame x)) (λ cell. define_at_code (first_word_of p g) cell (length_at p g) (home_in w s.frame i) (home_in w s.frame x)))
         → StepIsMatched p w (does p s s.frame.locals (StoreX g i x)) m
     by None none here =
         let array : IsArrayAt w (first_word_of p g) (length_at p g) = array_at p ok w c.data_of g two.0 in
@@ -140,7 +141,7 @@ module _ (numbered : ElementsAreNumbered) (p : Program) (ok : IsChecked p) (w : 
               (element_stores_lead w c.world s.frame s.callers (words_held p s.globals) (first_word_of p g) (length_at p g) i x m r.is_at here (record { array = array; index = index; local = number_local p ok w c.data_of s.frame func is x one.1 }) l))
           | inr more ↦ beyond p w s m going r g (s.frame.locals i) (writes p s g (s.frame.locals i) (s.frame.locals x)) more
               (ends p w s m going r (trapped Index) 6 (omega arith)
-              (elements_trap w c.world s.frame s.callers (words_held p s.globals) (first_word_of p g) (length_at p g) i (slot_load 9 x ∷ item.Inst (Str 9 11 0) ∷ []) m r.is_at here.code here.slots index (few_words (first_word_of p g) (length_at p g) array) more))
+              (elements_trap w c.world s.frame s.callers (words_held p s.globals) (first_word_of p g) (length_at p g) i (home_load 9 (home_in w s.frame x) ∷ item.Inst (Str 9 11 0) ∷ []) m r.is_at here.code index (few_words (first_word_of p g) (length_at p g) array) more))
         ]
     by (Some cell) some here =
         let fit = critical_element p ok w c.data_of s.frame func is g i x cell two.0 two.1 one.1 some in

@@ -1,5 +1,6 @@
 mod Worlds
 mod Finding
+mod Leaves
 mod CallCode
 mod Operands
 mod Words

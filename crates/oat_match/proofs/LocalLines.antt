@@ -18,7 +18,7 @@ use Rattle.oat_ir.specs.declared.instr.Instr.TheVariants.{Output}
 use Rattle.oat_check.proofs.Checking.{OneTy, alike}
 use Rattle.oat_symbols.specs.Programs.{label_of_block}
 use Rattle.oat_frames.specs.Code.{CodeStands}
-use Rattle.oat_frames.specs.Frames.{World, line_address}
+use Rattle.oat_frames.specs.Frames.{World, home_in, line_address}
 use Rattle.oat_frames.specs.Lines.{IsLineAt}
 use Rattle.oat_locals.specs.Code.{binary_code, branch_code, const_code, copy_code, halt_code, input_code, jump_code, output_code}
 use Rattle.oat_locals.specs.Lines.{IsBinaryLine, IsCopyLine, IsInputLine}
@@ -30,11 +30,11 @@ use Rattle.oat_match.proofs.Landing.{assigns, comes, ends, steps}
 use Rattle.oat_match.proofs.Operands.{local_inside, number_local}
 
 module _ (p : Program) (ok : IsChecked p) (w : World) (c : IsCompiled p w) (s : SourceState) (m : Running) (going : s.end ≡ None) (r : GoesAlike p w s m) (func : Func) (is : slice_get p.funcs s.frame.func ≡ Some func) where
-  pub const_matched : (x : ℕ) (value : ℤ) → holds_number func x ≡ true → IsLineAt w s.frame (const_code x value) → StepIsMatched p w (silent (sets s x (number value))) m
+  pub const_matched : (x : ℕ) (value : ℤ) → holds_number func x ≡ true → IsLineAt w s.frame (const_code (home_in w s.frame x) value) → StepIsMatched p w (silent (sets s x (number value))) m
   const_matched x value typed line =
       assigns p w s m going r x (number value) 5 (omega arith) (consts-lead w c.world s.frame s.callers (words_held p s.globals) x value m r.is_at (record { line = line; to = number_local p ok w c.data_of s.frame func is x typed }))
 
-  pub copy_matched : (x y : ℕ) → are_alike (local_ty func x) (local_ty func y) ≡ true → IsLineAt w s.frame (copy_code x y) → StepIsMatched p w (silent (sets s x (s.frame.locals y))) m
+  pub copy_matched : (x y : ℕ) → are_alike (local_ty func x) (local_ty func y) ≡ true → IsLineAt w s.frame (copy_code (home_in w s.frame x) (home_in w s.frame y)) → StepIsMatched p w (silent (sets s x (s.frame.locals y))) m
   copy_matched x y typed line =
       let t : OneTy (local_ty func x) (local_ty func y) = alike (local_ty func x) (local_ty func y) typed in
       let this : IsCopyLine w s.frame x y = record {
@@ -45,7 +45,7 @@ module _ (p : Program) (ok : IsChecked p) (w : World) (c : IsCompiled p w) (s : 
       } in
       assigns p w s m going r x (s.frame.locals y) 2 (omega arith) (copies-lead w c.world s.frame s.callers (words_held p s.globals) x y m r.is_at this)
 
-  pub binary_matched : (op : BinOp) (x y z : ℕ) → (holds_number func x && holds_number func y && holds_number func z) ≡ true → IsLineAt w s.frame (binary_code op x y z)
+  pub binary_matched : (op : BinOp) (x y z : ℕ) → (holds_number func x && holds_number func y && holds_number func z) ≡ true → IsLineAt w s.frame (binary_code op (home_in w s.frame x) (home_in w s.frame y) (home_in w s.frame z))
       → StepIsMatched p w (computes s x (result_of op (s.frame.locals y) (s.frame.locals z))) m
   binary_matched op x y z typed line = by (result_of op (s.frame.locals y) (s.frame.locals z)) refl where
     this : IsBinaryLine w s.frame op x y z
@@ -66,7 +66,7 @@ module _ (p : Program) (ok : IsChecked p) (w : World) (c : IsCompiled p w) (s : 
   fit_of : (xs : List ℤ) → s.inputs ≡ xs → AllByRecursion (FitsSigned w64) xs
   fit_of xs e = subst (AllByRecursion (FitsSigned w64)) e r.fit
 
-  pub input_matched : (x : ℕ) → holds_number func x ≡ true → IsLineAt w s.frame (input_code x) → StepIsMatched p w (takes_in s x s.inputs) m
+  pub input_matched : (x : ℕ) → holds_number func x ≡ true → IsLineAt w s.frame (input_code (home_in w s.frame x)) → StepIsMatched p w (takes_in s x s.inputs) m
   input_matched x typed line = by s.inputs refl where
     this : IsInputLine w s.frame x
     this = record { line = line; to = number_local p ok w c.data_of s.frame func is x typed }
@@ -78,7 +78,7 @@ module _ (p : Program) (ok : IsChecked p) (w : World) (c : IsCompiled p w) (s : 
         comes p w s m going r (silent (sets (record s { inputs = rest }) x (number value))) [] rest m.outputs 2 (omega arith) going refl fit.1 refl
         (inputs-lead w c.world s.frame s.callers (words_held p s.globals) x value rest m r.is_at this (r.inputs ∙ some) fit.0)
 
-  pub output_matched : (x : ℕ) → holds_number func x ≡ true → IsLineAt w s.frame (output_code x) → StepIsMatched p w (does p s s.frame.locals (Output x)) m
+  pub output_matched : (x : ℕ) → holds_number func x ≡ true → IsLineAt w s.frame (output_code (home_in w s.frame x)) → StepIsMatched p w (does p s s.frame.locals (Output x)) m
   output_matched x typed line =
       comes p w s m going r (does p s s.frame.locals (Output x)) _ m.inputs _ 2 (omega arith) going (sym r.inputs) (fit_of m.inputs (sym r.inputs)) refl
       (outputs-lead w c.world s.frame s.callers (words_held p s.globals) x m r.is_at (record { line = line; from = number_local p ok w c.data_of s.frame func is x typed }))
@@ -92,7 +92,7 @@ module _ (p : Program) (ok : IsChecked p) (w : World) (c : IsCompiled p w) (s : 
       (jumps-lead w c.world s.frame s.callers (words_held p s.globals) to (label_of_block p s.frame.func to) m r.is_at (record { code = code; block = begins }))
 
   pub branch_matched : (x first second : ℕ) → holds_number func x ≡ true → BlockBegins w s.frame first (label_of_block p s.frame.func first) → BlockBegins w s.frame second (label_of_block p s.frame.func second)
-      → CodeStands w (line_address w s.frame) (branch_code x (label_of_block p s.frame.func first) (label_of_block p s.frame.func second))
+      → CodeStands w (line_address w s.frame) (branch_code (home_in w s.frame x) (label_of_block p s.frame.func first) (label_of_block p s.frame.func second))
       → StepIsMatched p w (cond (eqb (s.frame.locals x) 0) (goes_to s (branches (line_place s.frame) false second) second) (goes_to s (branches (line_place s.frame) true first) first)) m
   branch_matched x first second typed begins also code = by (eqb (s.frame.locals x) 0) refl where
     taken : ℕ
@@ -104,11 +104,10 @@ module _ (p : Program) (ok : IsChecked p) (w : World) (c : IsCompiled p w) (s : 
     this : IsBranchLine w s.frame x first second taken other
     this = record {
       code = code;
-      slots = c.data_of.slots s.frame.func;
       from = number_local p ok w c.data_of s.frame func is x typed;
       first_block = begins;
       second_block = also;
-      apart = branches-are-apart w s.frame x taken other c.shaped code;
+      apart = branches-are-apart w s.frame (home_in w s.frame x) taken other c.shaped code;
     }
 
     by : (t : Bool) → eqb (s.frame.locals x) 0 ≡ t

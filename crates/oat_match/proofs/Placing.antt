@@ -1,5 +1,5 @@
 -- The code of each line and the start of each function, at their places.
-use Rattle.std.proofs.Common.{inl, inr, ◌≡◌, ◌+◌, ◌*◌, ◌<◌, ◌≤◌, ℕ, [], ◌∷◌, length, map, Some, refl, sym, ap, subst, ◌∙◌, arith}
+use Rattle.std.proofs.Common.{inl, inr, ◌≡◌, ◌+◌, ◌*◌, ◌<◌, ◌≤◌, ℕ, Bool, [], ◌∷◌, length, map, Some, refl, sym, ap, subst, ◌∙◌, arith}
 use Rattle.std.specs.Prelude.{slice_get}
 use Rattle.std.proofs.lemmas.Option.{slice_get_within}
 use Rattle.oat_ir.specs.declared.program.Program.{Program}
@@ -18,6 +18,7 @@ use Rattle.oat_parts.proofs.Lists.{get_before, map_get, map_length}
 use Rattle.oat_frames.specs.Calls.{IsFunctionAt}
 use Rattle.oat_frames.specs.Code.{CodeStands, prologue}
 use Rattle.oat_frames.specs.Frames.{World}
+use Rattle.oat_frames.specs.Leaves.{is_leaf}
 use Rattle.oat_frames.specs.Lines.{words_before_line}
 use Rattle.oat_frames.proofs.FrameLaws.{lines-stand}
 use Rattle.oat_globals.specs.Operations.{HasBegin, HasShortNumber, start_code}
@@ -37,19 +38,19 @@ pub short_number : (p : Program) → IsChecked p → (f : ℕ) (func : Func) →
 short_number p ok f func is = short func func.role (func_formed p ok f func is).role
 
 -- a line's code among those of its block
-code_in_block : (p : Program) (f : ℕ) (func : Func) (block : BlockIr) (n : ℕ) (line : CodeLine) → LineCases block n line → slice_get (block_items p f func block) n ≡ Some (line_items p f func line)
+code_in_block : (p : Program) (f : ℕ) (func : Func) (block : BlockIr) (n : ℕ) (line : CodeLine) → LineCases block n line → slice_get (block_items p f func block) n ≡ Some (line_items p f func (is_leaf func) line)
 code_in_block p f func block n line (inl i) =
     let low : n < length block.instrs = slice_get_within block.instrs n i.0 i.1 in
-    let long : length (map (instruction_items p) block.instrs) ≡ length block.instrs = map_length (instruction_items p) block.instrs in
-    get_before (map (instruction_items p) block.instrs) (terminator_items p f func block.term ∷ []) n (omega arith) ∙ map_get (instruction_items p) block.instrs n i.0 i.1
-    ∙ ap (λ (l : CodeLine). Some (line_items p f func l)) (sym i.2)
+    let long : length (map (instruction_items p (is_leaf func)) block.instrs) ≡ length block.instrs = map_length (instruction_items p (is_leaf func)) block.instrs in
+    get_before (map (instruction_items p (is_leaf func)) block.instrs) (terminator_items p f func (is_leaf func) block.term ∷ []) n (omega arith) ∙ map_get (instruction_items p (is_leaf func)) block.instrs n i.0 i.1
+    ∙ ap (λ (l : CodeLine). Some (line_items p f func (is_leaf func) l)) (sym i.2)
 code_in_block p f func block n line (inr t) =
-    last_one (map (instruction_items p) block.instrs) (terminator_items p f func block.term) n (t.0 ∙ sym (map_length (instruction_items p) block.instrs)) ∙ ap (λ (l : CodeLine). Some (line_items p f func l)) (sym t.1)
+    last_one (map (instruction_items p (is_leaf func)) block.instrs) (terminator_items p f func (is_leaf func) block.term) n (t.0 ∙ sym (map_length (instruction_items p (is_leaf func)) block.instrs)) ∙ ap (λ (l : CodeLine). Some (line_items p f func (is_leaf func) l)) (sym t.1)
 
 pub lines_are_placed : LinesArePlaced
 lines_are_placed p w c f func block line is there at =
-    lines-stand w f (label_of_block p f.func f.block) (block_items p f.func func block) (line_items p f.func func line) (c.blocks f.func f.block func block is there)
-    (code_in_block p f.func func block f.line line (line_cases block f.line line at)) (c.data_of.slots f.func)
+    lines-stand w f (label_of_block p f.func f.block) (block_items p f.func func block) (line_items p f.func func (w.is_leaf f.func) line) (c.blocks f.func f.block func block is there)
+    (code_in_block p f.func func block f.line line (line_cases block f.line line at) ∙ ap (λ (leaf : Bool). Some (line_items p f.func func leaf line)) (sym (c.data_of.leaves f.func func is)))
 
 module _ (p : Program) (ok : IsChecked p) (w : World) (c : IsCompiled p w) where
   -- the first line of a block stands at its label
@@ -63,13 +64,14 @@ module _ (p : Program) (ok : IsChecked p) (w : World) (c : IsCompiled p w) where
   -- ---- the start of a function
 
   module _ (f : ℕ) (func : Func) (is : slice_get p.funcs f ≡ Some func) where
-    start_here : CodeStands w (w.label f) (start_code func.params (w.locals f) (operation_number func.role))
-    start_here = subst (λ (n : ℕ). CodeStands w (w.label f) (start_code func.params n (operation_number func.role))) (sym (c.data_of.locals f func is)) (c.functions f func is).code
+    start_here : CodeStands w (w.label f) (start_code (w.is_leaf f) func.params (w.locals f) (operation_number func.role))
+    start_here =
+        subst (λ (leaf : Bool). CodeStands w (w.label f) (start_code leaf func.params (w.locals f) (operation_number func.role))) (sym (c.data_of.leaves f func is))
+        (subst (λ (n : ℕ). CodeStands w (w.label f) (start_code (is_leaf func) func.params n (operation_number func.role))) (sym (c.data_of.locals f func is)) (c.functions f func is).code)
 
     pub function_at : (params : ℕ) → params ≡ func.params → IsFunctionAt w f params
     function_at params same = record {
-      start = subst (λ (n : ℕ). CodeStands w (w.label f) (prologue n (w.locals f))) (sym same) (starts_stand w f func.params (operation_number func.role) start_here).0;
-      slots = c.data_of.slots f;
+      start = subst (λ (n : ℕ). CodeStands w (w.label f) (prologue (w.is_leaf f) n (w.locals f))) (sym same) (starts_stand w f func.params (operation_number func.role) start_here).0;
     }
 
     pub has_begin : (block : BlockIr) → slice_get func.blocks 0 ≡ Some block → HasBegin w f (operation_number func.role)

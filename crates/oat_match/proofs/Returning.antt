@@ -24,7 +24,7 @@ use Rattle.oat_follow.specs.Events.{moves}
 use Rattle.oat_follow.specs.Placement.{seen_at}
 use Rattle.oat_frames.specs.Code.{CodeStands}
 use Rattle.oat_frames.specs.Comes.{StepsTo, with_result}
-use Rattle.oat_frames.specs.Frames.{IsAt, World, line_address, return_address}
+use Rattle.oat_frames.specs.Frames.{IsAt, World, home_in, line_address, return_address}
 use Rattle.oat_frames.specs.Lines.{IsNumberLocal}
 use Rattle.oat_frames.specs.Returns.{IsReturnOf, return_edge}
 use Rattle.oat_globals.specs.Operations.{end_shown, leave_code, role_words}
@@ -33,6 +33,7 @@ use Rattle.oat_match.specs.Compiled.{IsCompiled, call_result}
 use Rattle.oat_match.specs.Matching.{GoesAlike, StepIsMatched, words_held}
 use Rattle.oat_match.specs.Placed.{placement}
 use Rattle.oat_match.proofs.Landing.{steps}
+use Rattle.oat_match.proofs.Leaves.{calls_slotted}
 use Rattle.oat_match.proofs.Operands.{number_local}
 use Rattle.oat_match.proofs.Placing.{short_number}
 
@@ -68,7 +69,7 @@ module _ (p : Program) (ok : IsChecked p) (w : World) (c : IsCompiled p w) (s : 
   seen_end None e = refl
   seen_end (Some op) e = refl
 
-  gives_matched : (x : ℕ) → holds_number func x ≡ true → CodeStands w (line_address w s.frame) (leave_code (length func.locals) x (operation_number func.role))
+  gives_matched : (x : ℕ) → holds_number func x ≡ true → CodeStands w (line_address w s.frame) (leave_code (length func.locals) (home_in w s.frame x) (operation_number func.role))
       → (callers : List Frame) → s.callers ≡ callers → AreCallers p s.frame.func callers → (callers ≡ [] → ⊥) → StepIsMatched p w (gives p s (s.frame.locals x) callers) m
   gives_matched x typed code [] same are some = absurd (some refl)
   gives_matched x typed code (g ∷ gs) same are some =
@@ -100,15 +101,14 @@ module _ (p : Program) (ok : IsChecked p) (w : World) (c : IsCompiled p w) (s : 
         from : IsNumberLocal w s.frame x
         from = number_local p ok w c.data_of s.frame func is x typed
 
-        here : CodeStands w (line_address w s.frame) (leave_code (w.locals s.frame.func) x op)
-        here = subst (λ (n : ℕ). CodeStands w (line_address w s.frame) (leave_code n x op)) (sym (c.data_of.locals s.frame.func func is)) code
+        here : CodeStands w (line_address w s.frame) (leave_code (w.locals s.frame.func) (home_in w s.frame x) op)
+        here = subst (λ (n : ℕ). CodeStands w (line_address w s.frame) (leave_code n (home_in w s.frame x) op)) (sym (c.data_of.locals s.frame.func func is)) code
 
         this : IsReturnOf w s.frame g x result.to
         this = record {
-          slots = c.data_of.slots s.frame.func;
           from_local = from.local;
           result = c.data_of.results g ∙ ap call_result line ∙ result.given;
-          caller_slots = c.data_of.slots g.func;
+          caller_slots = calls_slotted p w c.data_of g waits.instr line waits.calling;
           to_local = to.local;
           types = from.ty ∙ sym to.ty;
         }
@@ -124,7 +124,7 @@ module _ (p : Program) (ok : IsChecked p) (w : World) (c : IsCompiled p w) (s : 
             seen_end (operation_of p s.frame.func) e
             ∙ ap (λ (o : Option ℕ). end_shown o ++ moves (edges.Ret (line_address w s.frame + 4 * role_words o + 12) (return_address w g)) ∷ []) role
 
-  pub return_matched : (x : ℕ) → IsAllowed p func (terminator (Ret x)) → AreCallers p s.frame.func s.callers → CodeStands w (line_address w s.frame) (leave_code (length func.locals) x (operation_number func.role))
+  pub return_matched : (x : ℕ) → IsAllowed p func (terminator (Ret x)) → AreCallers p s.frame.func s.callers → CodeStands w (line_address w s.frame) (leave_code (length func.locals) (home_in w s.frame x) (operation_number func.role))
       → StepIsMatched p w (closes p s s.frame.locals (Ret x)) m
   return_matched x al are code = gives_matched x al.typed code s.callers refl are (λ none. left none (subst (λ (cs : List Frame). AreCallers p s.frame.func cs) none are)) where
     -- main doesn't return

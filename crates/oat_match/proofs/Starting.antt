@@ -69,8 +69,8 @@ module _ (p : Program) (ok : IsChecked p) (w : World) (c : IsCompiled p w) (inpu
   start at block there =
       let here : IsFunctionAt w main 0 = function_at p ok w c main func is 0 (sym no_params) in
       let begins : FunctionBegins p w main func = c.functions main func is in
-      start-leads w c.world main inputs (words_held p (first_values p)) (c.data_of.slots main) at
-      (subst (λ (a : ℕ). CodeStands w a (prologue 0 (w.locals main))) at here.start)
+      start-leads w c.world main inputs (words_held p (first_values p)) at
+      (subst (λ (a : ℕ). CodeStands w a (prologue (w.is_leaf main) 0 (w.locals main))) at here.start)
       (block_begins p ok w c main 0 func block is there ∙ begins.first ∙ ap (λ (r : Role). prologue_end w main + 4 * role_words (operation_number r)) role ∙ nothing (prologue_end w main))
       (globals_start p w c) where
         nothing : (n : ℕ) → n + 4 * 0 ≡ n

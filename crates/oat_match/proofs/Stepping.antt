@@ -37,7 +37,7 @@ use Rattle.oat_match.proofs.Targets.{referenced_here}
 
 module _ (numbered : ElementsAreNumbered) (p : Program) (ok : IsChecked p) (w : World) (c : IsCompiled p w) (s : SourceState) (m : Running) (going : s.end ≡ None) (r : GoesAlike p w s m) (g : IsConsistent p s) where
   by_instruction : (i : Instr) → slice_get g.stands.block.instrs s.frame.line ≡ Some i → current_line p s.frame ≡ Some (instruction i) → IsInstr p g.stands.func i → IsAllowed p g.stands.func (instruction i)
-      → IsLineAt w s.frame (instruction_items p i) → StepIsMatched p w (does p s s.frame.locals i) m
+      → IsLineAt w s.frame (instruction_items p (w.is_leaf s.frame.func) i) → StepIsMatched p w (does p s s.frame.locals i) m
   by_instruction (Const x value) at here formed al line = const_matched p ok w c s m going r g.stands.func g.stands.func_is x value al.typed line
   by_instruction (Copy x y) at here formed al line = copy_matched p ok w c s m going r g.stands.func g.stands.func_is x y al.typed line
   by_instruction (Binary op x y z) at here formed al line = binary_matched p ok w c s m going r g.stands.func g.stands.func_is op x y z al.typed line
@@ -59,7 +59,7 @@ module _ (numbered : ElementsAreNumbered) (p : Program) (ok : IsChecked p) (w : 
   begins : (b : ℕ) → b < length g.stands.func.blocks → BlockBegins w s.frame b (label_of_block p s.frame.func b)
   begins b l = let t : There g.stands.func.blocks b = there g.stands.func.blocks b l in block_begins p ok w c s.frame.func b g.stands.func t.item g.stands.func_is t.is
 
-  by_terminator : (t : Term) → IsTerm g.stands.func t → IsAllowed p g.stands.func (terminator t) → IsLineAt w s.frame (terminator_items p s.frame.func g.stands.func t)
+  by_terminator : (t : Term) → IsTerm g.stands.func t → IsAllowed p g.stands.func (terminator t) → IsLineAt w s.frame (terminator_items p s.frame.func g.stands.func (w.is_leaf s.frame.func) t)
       → StepIsMatched p w (closes p s s.frame.locals t) m
   by_terminator (Jump to) formed al line = jump_matched p ok w c s m going r g.stands.func g.stands.func_is to (begins to formed) line.code
   by_terminator (Branch x first second) formed al line =

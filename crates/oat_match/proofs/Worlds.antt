@@ -1,5 +1,5 @@
 -- A checked program has its world.
-use Rattle.std.proofs.Common.{◌≡◌, ◌+◌, ◌*◌, ◌≤◌, ℕ, List, [], Option, Some, None, refl, ap, ◌∙◌, arith}
+use Rattle.std.proofs.Common.{◌≡◌, ◌+◌, ◌*◌, ◌≤◌, ℕ, false, List, [], Option, Some, None, refl, ap, ◌∙◌, arith}
 use Rattle.std.specs.Prelude.{slice_get, unwrap_or}
 use Rattle.std.specs.Option.{option_map, option_and_then}
 use Rattle.oat_asm.specs.declared.item.Item.{Item}
@@ -12,6 +12,7 @@ use Rattle.oat_check.specs.RuleLaws.{FuncKeepsRules}
 use Rattle.oat_check.specs.Rules.{IsChecked, local_ty}
 use Rattle.oat_check.proofs.Checking.{each_at, keeps_rules}
 use Rattle.oat_symbols.specs.Programs.{label_of_block}
+use Rattle.oat_frames.specs.Leaves.{is_leaf}
 use Rattle.oat_frames.specs.Lines.{words_before_line}
 use Rattle.oat_match.specs.Code.{block_items}
 use Rattle.oat_match.specs.Compiled.{ProgramsHaveWorlds, codes_in, count_of_locals}
@@ -31,7 +32,7 @@ programs_have_worlds p ok image label low labels = record {
   world = record { low = low; labels = labels; few = λ f. few_locals p ok f (slice_get p.funcs f) refl; globals = (keeps_rules p ok.accepted).words };
   data_of = record {
     locals = λ f func is. ap count_of_locals is;
-    slots = λ f i inside. refl;
+    leaves = λ f func is. ap (λ (o : Option Func). unwrap_or (option_map is_leaf o) false) is;
     types = λ f func is x ty h. ap (λ (o : Option Func). unwrap_or (option_and_then (λ g. local_ty g x) o) I64) is ∙ ap (λ (o : Option Ty). unwrap_or o I64) h;
     globals = refl;
     global_types = λ n ty h. ap (λ (o : Option Ty). unwrap_or o I64) h;

@@ -1,5 +1,5 @@
 -- What the image of a program has that was compiled: all that the laws of its lines ask for.
-use Rattle.std.specs.Prelude.{◌≡◌, ◌+◌, ◌*◌, ◌^◌, ◌<◌, ◌≤◌, ℕ, true, List, [], length, slice_get, Option, Some, None}
+use Rattle.std.specs.Prelude.{◌≡◌, ◌+◌, ◌*◌, ◌^◌, ◌<◌, ◌≤◌, ℕ, true, false, List, [], length, slice_get, Option, Some, None}
 use Rattle.std.specs.Option.{option_map, option_and_then, unwrap_or}
 use Rattle.std.specs.List.{sum_by, list_any}
 use Rattle.oat_a64.specs.Step.{code_base}
@@ -22,7 +22,8 @@ use Rattle.oat_check.specs.Rules.{IsChecked, local_ty}
 use Rattle.oat_check.specs.Runs.{main_number}
 use Rattle.oat_check.specs.Steps.{Frame, current_line, operation_number}
 use Rattle.oat_symbols.specs.Programs.{label_of_block}
-use Rattle.oat_frames.specs.Frames.{World, IsWorld, IsLow, IsSlotted, slot}
+use Rattle.oat_frames.specs.Frames.{World, IsWorld, IsLow}
+use Rattle.oat_frames.specs.Leaves.{is_leaf}
 use Rattle.oat_frames.specs.Code.{CodeStands}
 use Rattle.oat_frames.specs.Calls.{prologue_end}
 use Rattle.oat_frames.specs.Lines.{IsBlockAt, IsLineAt, words_before_line}
@@ -37,10 +38,10 @@ call_result (Some (instruction (Call x g args))) = Some x
 call_result (Some (instruction (ICall x y args))) = Some x
 call_result _ = None
 
--- Locals, words, types and results are the program's, and each local has a slot.
+-- Locals, leaves, words, types and results are the program's.
 pub record HasDataOf (p : Program) (w : World) : Type 0 where
   pub locals : (f : ℕ) (func : Func) → slice_get p.funcs f ≡ Some func → w.locals f ≡ length func.locals
-  pub slots : (f : ℕ) → IsSlotted w f
+  pub leaves : (f : ℕ) (func : Func) → slice_get p.funcs f ≡ Some func → w.is_leaf f ≡ is_leaf func
   pub types : (f : ℕ) (func : Func) → slice_get p.funcs f ≡ Some func → (x : ℕ) (ty : Ty) → local_ty func x ≡ Some ty → w.ty f x ≡ ty
   pub globals : w.globals ≡ sum_by size_in_words p.globals
   pub global_types : (n : ℕ) (ty : Ty) → word_ty p.globals n ≡ Some ty → w.global_ty n ≡ ty
@@ -51,7 +52,7 @@ pub record HasDataOf (p : Program) (w : World) : Type 0 where
 
 -- a function's start stands at its label, and behind it its first block
 pub record FunctionBegins (p : Program) (w : World) (f : ℕ) (func : Func) : Type 0 where
-  pub code : CodeStands w (w.label f) (start_code func.params (length func.locals) (operation_number func.role))
+  pub code : CodeStands w (w.label f) (start_code (is_leaf func) func.params (length func.locals) (operation_number func.role))
   pub first : w.label (label_of_block p f 0) ≡ prologue_end w f + 4 * role_words (operation_number func.role)
   pub entry : code_base ≤ w.label f
   -- where a reference names it, an indirect call finds it among the functions of the map
@@ -88,7 +89,7 @@ world_of p image label = record {
   may_name = may_name p;
   locals = λ f. count_of_locals (slice_get p.funcs f);
   ty = λ f x. unwrap_or (option_and_then (λ func. local_ty func x) (slice_get p.funcs f)) I64;
-  home = λ f i. slot (i + 1);
+  is_leaf = λ f. unwrap_or (option_map is_leaf (slice_get p.funcs f)) false;
   place = λ f b l. label (label_of_block p f b) + 4 * words_before_line (codes_in p f b) l;
   result = λ f b l. call_result (current_line p (record { func = f; block = b; line = l; locals = λ i. 0 }));
   globals = sum_by size_in_words p.globals;
@@ -111,4 +112,4 @@ abbrev pub LinesArePlaced : Type 0
 LinesArePlaced =
     (p : Program) (w : World) → IsCompiled p w → (f : Frame) (func : Func) (block : BlockIr) (line : CodeLine)
     → slice_get p.funcs f.func ≡ Some func → slice_get func.blocks f.block ≡ Some block → line_in block f.line ≡ Some line
-    → IsLineAt w f (line_items p f.func func line)
+    → IsLineAt w f (line_items p f.func func (w.is_leaf f.func) line)

@@ -3,6 +3,7 @@ mod Meeting
 mod Following
 mod InTurn
 mod Standings
+mod Parting
 mod Loop
 mod Spacing
 mod SplitLines

@@ -1,4 +1,4 @@
--- In the map of an image the words of an edge hold bytes and no blank, so that they are its line split at blanks.
+-- The words of an edge hold bytes and no blank, so that they are its line split at blanks.
 use Rattle.std.proofs.Common.{◌≡◌, ℕ, ◌^◌, ◌<◌, Bool, true, false, List, [], ◌∷◌, ◌++◌, length, take, Option, Some, None, inl, inr, refl, sym, ap, subst, ◌∙◌, arith}
 use Rattle.std.specs.Prelude.{codes, position, unwrap_or}
 use Rattle.std.specs.Fmt.{decimal}
@@ -17,13 +17,12 @@ use Rattle.oat_lines.proofs.Hexadecimals.{hexadecimal_length}
 use Rattle.oat_map.specs.declared.edge.Edge.{Edge}
 use Rattle.oat_map.specs.declared.edge.Edge.TheVariants as edges
 use Rattle.oat_map.specs.EdgeName.{PlaceName, Site, place_name}
-use Rattle.oat_image.specs.declared.image.Image.{Image}
-use Rattle.oat_image.specs.Grammar.{IsWellFormedImage}
 use Rattle.oat_report.specs.PathLine.{place_text, site_text, bit_text, address_digits}
-use Rattle.oat_report.specs.SameLines.{IsEdgeOf}
+use Rattle.oat_map.specs.declared.map.Map.{Map}
+use Rattle.oat_report.specs.SameLines.{IsEdgeOf, IsOfMapType}
 use Rattle.oat_report.proofs.Sites.{IsNamed, named_by}
 use Rattle.oat_report.proofs.Splitting.{IsSiteWord, is_place_byte, is_nonzero_digit, all_weaker, place_bytes, place_visible, digit_visible, site_visible, address_visible, place_of_nonzero, position_bound}
-use Rattle.oat_report.proofs.SameLines.{function_fits, place_word, name_word}
+use Rattle.oat_report.proofs.SameLines.{function_named, place_word, name_word}
 use Rattle.oat_policy.specs.EdgeWords.{edge_words}
 use Rattle.oat_policy.specs.Laws.{WordsSplitTheLine}
 use Rattle.oat_policy.proofs.Spacing.{words_make_the_line}
@@ -63,21 +62,21 @@ some_joined front byte rest =
     let part = length-append front (byte ∷ []) in
     omega (arith, whole, part)
 
-some_name : (image : Image) → IsWellFormedImage image → (place : ℕ) (name : PlaceName) → IsNamed image.map place name → 0 < length (place_text (Some name))
-some_name image formed place name (inl (f, has, at, same)) =
-    let begun = (function_fits image formed f has).name.begun in
+some_name : (flow : Map) → IsOfMapType flow → (place : ℕ) (name : PlaceName) → IsNamed flow place name → 0 < length (place_text (Some name))
+some_name flow typed place name (inl (f, has, at, same)) =
+    let begun = (function_named flow typed f has).begun in
     subst (λ (n : PlaceName). 0 < length (place_text (Some n))) (sym same) (omega (arith, begun))
-some_name image formed place name (inr (b, has, at, same)) =
+some_name flow typed place name (inr (b, has, at, same)) =
     subst (λ (n : PlaceName). 0 < length (place_text (Some n))) (sym same) (some_joined _ 46 b.label)
 
-some_place : (image : Image) → IsWellFormedImage image → (place : ℕ) (o : Option PlaceName) → place_name image.map place ≡ o → 0 < length (place_text o)
-some_place image formed place None is = omega arith
-some_place image formed place (Some name) is = some_name image formed place name (named_by image.map place name is)
+some_place : (flow : Map) → IsOfMapType flow → (place : ℕ) (o : Option PlaceName) → place_name flow place ≡ o → 0 < length (place_text o)
+some_place flow typed place None is = omega arith
+some_place flow typed place (Some name) is = some_name flow typed place name (named_by flow place name is)
 
-place_field : (image : Image) → IsWellFormedImage image → (place : ℕ) → IsField (place_text (place_name image.map place))
-place_field image formed place = record {
-  visible = all_weaker is_place_byte is_visible place_visible (place_text (place_name image.map place)) (place_bytes (place_name image.map place) (place_word image formed place));
-  nonempty = some_place image formed place (place_name image.map place) refl;
+place_field : (flow : Map) → IsOfMapType flow → (place : ℕ) → IsField (place_text (place_name flow place))
+place_field flow typed place = record {
+  visible = all_weaker is_place_byte is_visible place_visible (place_text (place_name flow place)) (place_bytes (place_name flow place) (place_word flow typed place));
+  nonempty = some_place flow typed place (place_name flow place) refl;
 }
 
 site_field : (site : Site) → IsSiteWord site → IsField (site_text site)
@@ -103,22 +102,22 @@ address_field n =
 keyword_field : (keyword : List ℕ) → list_all is_visible keyword ≡ true → 0 < length keyword → IsField keyword
 keyword_field keyword visible some = record { visible = visible; nonempty = some }
 
-fields : (image : Image) (formed : IsWellFormedImage image) (edge : Edge) → IsEdgeOf image.map edge → AllByRecursion IsField (edge_words image.map edge)
-fields image formed (edges.Jump from to) is =
-    (keyword_field (codes "jump") refl (omega arith), (site_field _ (name_word image formed (edges.Jump from to) is).0, (place_field image formed to, tt)))
-fields image formed (edges.Branch from bit to) is =
-    (keyword_field (codes "branch") refl (omega arith), (site_field _ (name_word image formed (edges.Branch from bit to) is).0, (bit_field bit, (place_field image formed to, tt))))
-fields image formed (edges.Call from to) is =
-    (keyword_field (codes "call") refl (omega arith), (site_field _ (name_word image formed (edges.Call from to) is).0, (place_field image formed to, tt)))
-fields image formed (edges.ICall from to) is =
-    (keyword_field (codes "icall") refl (omega arith), (site_field _ (name_word image formed (edges.ICall from to) is).0, (place_field image formed to, tt)))
-fields image formed (edges.Ret from to) is =
-    let words = name_word image formed (edges.Ret from to) is in
+fields : (flow : Map) (typed : IsOfMapType flow) (edge : Edge) → IsEdgeOf flow edge → AllByRecursion IsField (edge_words flow edge)
+fields flow typed (edges.Jump from to) is =
+    (keyword_field (codes "jump") refl (omega arith), (site_field _ (name_word flow typed (edges.Jump from to) is).0, (place_field flow typed to, tt)))
+fields flow typed (edges.Branch from bit to) is =
+    (keyword_field (codes "branch") refl (omega arith), (site_field _ (name_word flow typed (edges.Branch from bit to) is).0, (bit_field bit, (place_field flow typed to, tt))))
+fields flow typed (edges.Call from to) is =
+    (keyword_field (codes "call") refl (omega arith), (site_field _ (name_word flow typed (edges.Call from to) is).0, (place_field flow typed to, tt)))
+fields flow typed (edges.ICall from to) is =
+    (keyword_field (codes "icall") refl (omega arith), (site_field _ (name_word flow typed (edges.ICall from to) is).0, (place_field flow typed to, tt)))
+fields flow typed (edges.Ret from to) is =
+    let words = name_word flow typed (edges.Ret from to) is in
     (keyword_field (codes "ret") refl (omega arith), (site_field _ words.0, (site_field _ words.1, tt)))
-fields image formed (edges.End op) is =
-    (keyword_field (codes "end") refl (omega arith), (number_field op (name_word image formed (edges.End op) is), tt))
-fields image formed (edges.Stray from to) is = (keyword_field (codes "stray") refl (omega arith), (address_field from, (address_field to, tt)))
+fields flow typed (edges.End op) is =
+    (keyword_field (codes "end") refl (omega arith), (number_field op (name_word flow typed (edges.End op) is), tt))
+fields flow typed (edges.Stray from to) is = (keyword_field (codes "stray") refl (omega arith), (address_field from, (address_field to, tt)))
 
 pub words_split_the_line : WordsSplitTheLine
-words_split_the_line image edge formed is =
-    sym (ap words_of (words_make_the_line image.map edge)) ∙ words_spaced (edge_words image.map edge) (fields image formed edge is)
+words_split_the_line flow edge typed is =
+    sym (ap words_of (words_make_the_line flow edge)) ∙ words_spaced (edge_words flow edge) (fields flow typed edge is)

@@ -4,17 +4,14 @@ use Rattle.oat_lines.specs.Fields.{spaced}
 use Rattle.oat_lines.specs.Lines.{words_of}
 use Rattle.oat_map.specs.declared.map.Map.{Map}
 use Rattle.oat_map.specs.declared.edge.Edge.{Edge}
-use Rattle.oat_image.specs.declared.image.Image.{Image}
-use Rattle.oat_image.specs.Grammar.{IsWellFormedImage}
 use Rattle.oat_report.specs.PathLine.{edge_line}
-use Rattle.oat_report.specs.SameLines.{IsEdgeOf}
+use Rattle.oat_report.specs.SameLines.{IsEdgeOf, IsOfMapType}
 use Rattle.oat_policy.specs.EdgeWords.{edge_words}
 
 -- the line is the words with one space between two
 abbrev pub WordsMakeTheLine : Type 0
 WordsMakeTheLine = (flow : Map) (edge : Edge) → spaced (edge_words flow edge) ≡ edge_line flow edge
 
--- in the map of an image the words are the line split at blanks
+-- the words are the line split at blanks
 abbrev pub WordsSplitTheLine : Type 0
-WordsSplitTheLine =
-    (image : Image) (edge : Edge) → IsWellFormedImage image → IsEdgeOf image.map edge → words_of (edge_line image.map edge) ≡ edge_words image.map edge
+WordsSplitTheLine = (flow : Map) (edge : Edge) → IsOfMapType flow → IsEdgeOf flow edge → words_of (edge_line flow edge) ≡ edge_words flow edge

@@ -1,6 +1,6 @@
 -- The path for which a Watch stands while its edges come in one by one (docs/DEFINITIONS.md).
-use Rattle.std.specs.Prelude.{◌≡◌, ◌≤◌, ℕ, ◌+◌, ◌==◌, ◌&&◌, Bool, false, List, [], ◌∷◌, ◌++◌, map, length, Option, Some, None, if◌then◌else◌}
-use Rattle.std.specs.List.{fold, slice_get}
+use Rattle.std.specs.Prelude.{◌≡◌, ◌≤◌, ℕ, ◌+◌, ◌==◌, ◌&&◌, Bool, false, List, [], ◌∷◌, ◌++◌, map, length, Option, Some, None, unwrap_or, IfSome, if◌then◌else◌}
+use Rattle.std.specs.List.{All, flat_map, fold, slice_get}
 use Rattle.oat_lines.specs.Lines.{TextWord}
 use Rattle.oat_map.specs.declared.map.Map.{Map}
 use Rattle.oat_map.specs.declared.edge.Edge.{Edge}
@@ -8,10 +8,9 @@ use Rattle.oat_policy.specs.declared.policy.PathRule.{PathRule}
 use Rattle.oat_policy.specs.declared.policy.PathRule.TheVariants.{Never, Before, Most, Order}
 use Rattle.oat_policy.specs.declared.policy.PolicyRule.{PolicyRule}
 use Rattle.oat_policy.specs.declared.rule.Standing.{Standing}
+use Rattle.oat_policy.specs.declared.recent.RecentEdge.{RecentEdge}
 use Rattle.oat_policy.specs.declared.watch.Watch.{Watch}
-use Rattle.oat_policy.specs.declared.words.PathWord.{PathWord}
 use Rattle.oat_policy.specs.EdgeWords.{edge_words, meets_each}
-use Rattle.oat_policy.specs.Pieces.{path_word}
 use Rattle.oat_policy.specs.Rules.{first_forbidden}
 
 -- the pattern at this place, if there is one, is met by these words
@@ -47,14 +46,42 @@ standing flow path rule = record { count = counted flow rule path; broken = firs
 abbrev pub standings : Map → List Edge → List PolicyRule → List Standing
 standings flow path policy = map (λ rule. standing flow path rule.rule) policy
 
--- behind the path comes this edge, at this place and with these words
-abbrev pub ComesNext : Map → List Edge → Edge → ℕ → List PathWord → Type 0
-ComesNext flow path edge place words = (place ≡ length path + 1) × (map path_word words ≡ edge_words flow edge)
+-- ---- one more edge
 
--- what stands for a path before an edge of these words at this place stands for the longer path after it
-abbrev pub StandsNext : {S : Type 0} → (Map → List Edge → S) → ℕ → List PathWord → S → S → Type 0
-StandsNext stands place words before after =
-    (flow : Map) (path : List Edge) (edge : Edge) → ComesNext flow path edge place words → before ≡ stands flow path → after ≡ stands flow (path ++ edge ∷ [])
+-- the patterns of a rule, in the order of its line
+abbrev pub patterns_of : PathRule → List (List TextWord)
+patterns_of (Never pattern) = pattern ∷ []
+patterns_of (Before first second) = first ∷ second ∷ []
+patterns_of (Most limit pattern) = pattern ∷ []
+patterns_of (Order patterns) = patterns
+
+-- the patterns of all rules, one behind the other
+abbrev pub all_patterns : List PolicyRule → List (List TextWord)
+all_patterns policy = flat_map (λ rule. patterns_of rule.rule) policy
+
+-- which of these patterns the words meet
+abbrev pub met_of : List TextWord → List (List TextWord) → List Bool
+met_of words patterns = map (λ pattern. meets_each pattern words) patterns
+
+-- the pattern of this number is there and met
+abbrev pub is_met : List Bool → ℕ → Bool
+is_met met number = unwrap_or (slice_get met number) false
+
+-- behind the path comes this edge, at this place, and these of the patterns are met by its words
+abbrev pub ComesNext : Map → List Edge → Edge → ℕ → List (List TextWord) → List Bool → Type 0
+ComesNext flow path edge place patterns met = (place ≡ length path + 1) × (met ≡ met_of (edge_words flow edge) patterns)
+
+-- What stands for a path before an edge at this place, which meets these of the patterns, stands for the longer path after it.
+abbrev pub StandsNext : {S : Type 0} → (Map → List Edge → S) → ℕ → List (List TextWord) → List Bool → S → S → Type 0
+StandsNext stands place patterns met before after =
+    (flow : Map) (path : List Edge) (edge : Edge) → ComesNext flow path edge place patterns met → before ≡ stands flow path → after ≡ stands flow (path ++ edge ∷ [])
+
+-- ---- the watch
+
+-- what is kept of an edge says which of the patterns it matches
+pub record IsRecent (flow : Map) (patterns : List (List TextWord)) (recent : RecentEdge) : Type 0 where
+  pub many : length recent.met.items ≡ length patterns
+  pub met : IfSome recent.edge (λ edge. recent.met.items ≡ met_of (edge_words flow edge) patterns)
 
 pub record HasSeen (watch : Watch) (policy : List PolicyRule) (flow : Map) (path : List Edge) : Type 0 where
   pub same_policy : watch.policy.now ≡ policy
@@ -62,3 +89,5 @@ pub record HasSeen (watch : Watch) (policy : List PolicyRule) (flow : Map) (path
   pub given : watch.given ≡ length path
   pub room : watch.given ≤ 4194304
   pub each : watch.standings.items ≡ standings flow path policy
+  pub patterns : map (λ pattern. pattern.now) watch.patterns.items ≡ all_patterns policy
+  pub recent : All (IsRecent flow (all_patterns policy)) watch.recent.items

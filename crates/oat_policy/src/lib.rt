@@ -7,6 +7,7 @@ mod matching;
 mod pattern;
 mod policy;
 mod reading;
+mod recent;
 mod rule;
 mod rules;
 mod verdict;

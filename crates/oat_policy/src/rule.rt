@@ -1,16 +1,14 @@
 //! How one rule stands while the edges of a path come in.
 
-ghost use Rattle.std.specs.Prelude.{◌≡◌, ℕ, ◌+◌, ◌^◌, ◌<◌, ◌≤◌, nat_lt, List, length, map, Some, None, if◌then◌else◌};
+ghost use Rattle.std.specs.Prelude.{◌≡◌, ℕ, ◌+◌, ◌^◌, ◌<◌, ◌≤◌, nat_lt, List, length, Some, None, if◌then◌else◌};
 ghost use Rattle.std.specs.Option.{option_or};
 ghost use Rattle.oat_map.specs.declared.map.Map.{Map};
 ghost use Rattle.oat_map.specs.declared.edge.Edge.{Edge};
-ghost use Rattle.oat_policy.specs.Pieces.{path_word};
+ghost use Rattle.oat_lines.specs.Lines.{TextWord};
 ghost use Rattle.oat_policy.specs.Rules.{broken_at};
-ghost use Rattle.oat_policy.specs.Standing.{counts, forbids_behind, standing, StandsNext};
+ghost use Rattle.oat_policy.specs.Standing.{counts, forbids_behind, is_met, met_of, patterns_of, standing, StandsNext};
 
-use crate::matching::meets_each;
 use crate::policy::PathRule;
-use crate::words::PathWord;
 
 /// What is kept of one rule.
 #[derive(Clone, Copy, Debug)]
@@ -21,29 +19,35 @@ pub struct Standing {
     pub broken: Option<u64>,
 }
 
-/// Whether an edge of these words counts behind so many that do.
-fn counts(rule: &PathRule, count: usize, words: &[PathWord<'_>]) -> bool
-    ensures { result ≡ counts rule.now count (map path_word words.now) }
+/// Whether the pattern of this number is met; one that isn't there isn't.
+fn is_met(met: &[bool], number: usize) -> bool
+    ensures { result ≡ is_met met.now number }
 {
-    match rule {
-        PathRule::Never(_) => false,
-        PathRule::Before(first, _) => meets_each(first, words),
-        PathRule::Most(_, pattern) => meets_each(pattern, words),
-        PathRule::Order(patterns) => match patterns.as_slice().get(count) {
-            Some(pattern) => meets_each(pattern, words),
-            None => false,
-        },
+    match met.get(number) {
+        Some(met) => *met,
+        None => false,
     }
 }
 
-/// Whether the rule forbids an edge of these words behind so many that count.
-fn forbids(rule: &PathRule, count: usize, words: &[PathWord<'_>]) -> bool
-    ensures { result ≡ forbids_behind rule.now count (map path_word words.now) }
+/// Whether an edge that meets these of the rule's patterns counts behind so many that do.
+fn counts(rule: &PathRule, count: usize, met: &[bool]) -> bool
+    ensures { (words : List TextWord) → met.now ≡ met_of words (patterns_of rule.now) → result ≡ counts rule.now count words }
 {
     match rule {
-        PathRule::Never(pattern) => meets_each(pattern, words),
-        PathRule::Before(_, second) => count == 0 && meets_each(second, words),
-        PathRule::Most(limit, pattern) => count == *limit as usize && meets_each(pattern, words),
+        PathRule::Never(_) => false,
+        PathRule::Before(_, _) | PathRule::Most(_, _) => is_met(met, 0),
+        PathRule::Order(_) => is_met(met, count),
+    }
+}
+
+/// Whether the rule forbids an edge that meets these of its patterns behind so many that count.
+fn forbids(rule: &PathRule, count: usize, met: &[bool]) -> bool
+    ensures { (words : List TextWord) → met.now ≡ met_of words (patterns_of rule.now) → result ≡ forbids_behind rule.now count words }
+{
+    match rule {
+        PathRule::Never(_) => is_met(met, 0),
+        PathRule::Before(_, _) => count == 0 && is_met(met, 1),
+        PathRule::Most(limit, _) => count == *limit as usize && is_met(met, 0),
         PathRule::Order(_) => false,
     }
 }
@@ -71,25 +75,26 @@ fn broken_order(count: usize, patterns: usize, edges: u64) -> Option<u64>
 }
 
 impl Standing {
-    /// The first place so far that the rule forbids, with an edge of these words at `place`.
-    fn broken_behind(self, rule: &PathRule, place: u64, words: &[PathWord<'_>]) -> Option<u64>
-        ensures { result ≡ option_or self.broken (if forbids_behind rule.now self.count (map path_word words.now) then Some place else None) }
+    /// The first place so far that the rule forbids, with an edge at `place` that meets these of its patterns.
+    fn broken_behind(self, rule: &PathRule, place: u64, met: &[bool]) -> Option<u64>
+        ensures { (words : List TextWord) → met.now ≡ met_of words (patterns_of rule.now)
+            → result ≡ option_or self.broken (if forbids_behind rule.now self.count words then Some place else None) }
     {
         match self.broken {
             Some(first) => Some(first),
-            None if forbids(rule, self.count, words) => Some(place),
+            None if forbids(rule, self.count, met) => Some(place),
             None => None,
         }
     }
 
-    /// How the rule stands behind an edge of these words at this place, counted from 1.
-    pub fn behind(self, rule: &PathRule, place: u64, words: &[PathWord<'_>]) -> Standing
-        ensures { StandsNext (λ flow path. standing flow path rule.now) place words.now self result }
+    /// How the rule stands behind an edge at this place, counted from 1, that meets these of its patterns.
+    pub fn behind(self, rule: &PathRule, place: u64, met: &[bool]) -> Standing
+        ensures { StandsNext (λ flow path. standing flow path rule.now) place (patterns_of rule.now) met.now self result }
     {
-        let is_counted = counts(rule, self.count, words);
+        let is_counted = counts(rule, self.count, met);
         Standing {
             count: next_count(self.count, is_counted),
-            broken: self.broken_behind(rule, place, words),
+            broken: self.broken_behind(rule, place, met),
         }
     }
 

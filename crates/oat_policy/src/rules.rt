@@ -3,21 +3,35 @@
 ghost use Rattle.std.specs.Prelude.{◌≡◌, ◌≤◌, List, length};
 ghost use Rattle.oat_map.specs.declared.map.Map.{Map};
 ghost use Rattle.oat_map.specs.declared.edge.Edge.{Edge};
-ghost use Rattle.oat_policy.specs.Standing.{standings, StandsNext};
+ghost use Rattle.oat_policy.specs.Standing.{all_patterns, patterns_of, standings, StandsNext};
 ghost use Rattle.oat_policy.specs.Verdict.{verdict_of};
 
-use crate::policy::PolicyRule;
+use crate::policy::{PathRule, PolicyRule};
 use crate::rule::Standing;
 use crate::verdict::PolicyVerdict;
-use crate::words::PathWord;
 
-/// Each rule's standing behind one more edge, of these words.
-pub fn follow(rules: &[PolicyRule], place: u64, words: &[PathWord<'_>], states: &mut [Standing])
-    ensures { StandsNext (λ flow path. standings flow path rules.now) place words.now states.old states.new }
+/// How many patterns a rule has.
+fn pattern_count(rule: &PathRule) -> usize
+    ensures { result ≡ length (patterns_of rule.now) }
+{
+    match rule {
+        PathRule::Never(_) | PathRule::Most(_, _) => 1,
+        PathRule::Before(_, _) => 2,
+        PathRule::Order(patterns) => patterns.len(),
+    }
+}
+
+/// Each rule's standing behind one more edge, which meets these of the policy's patterns.
+pub fn follow(rules: &[PolicyRule], place: u64, met: &[bool], states: &mut [Standing])
+    ensures { StandsNext (λ flow path. standings flow path rules.now) place (all_patterns rules.now) met.now states.old states.new }
 {
     let end = rules.len().min(states.len());
+    let mut rest = met;
     for i in 0..end {
-        states[i] = states[i].behind(&rules[i].rule, place, words);
+        let rule = &rules[i].rule;
+        let (of_rule, others) = rest.split_at(pattern_count(rule).min(rest.len()));
+        states[i] = states[i].behind(rule, place, of_rule);
+        rest = others;
     }
 }
 

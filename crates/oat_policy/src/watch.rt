@@ -1,21 +1,37 @@
-ghost use Rattle.std.specs.Prelude.{◌≤◌};
+ghost use Rattle.std.specs.Prelude.{◌≡◌, ◌≤◌, length, None, IfOk};
+ghost use Rattle.std.specs.List.{All};
 
-use crate::policy::Policy;
+use crate::policy::{Pattern, Policy};
+use crate::recent::{RECENT, RecentEdge, patterns_in, slot_of};
 use crate::rule::Standing;
 use crate::rules::{first_broken, follow};
 use crate::verdict::PolicyVerdict;
-use crate::words::{DigitRoom, words_of};
 use oat_map::{Edge, Map};
 use std::alloc::{AllocError, Global};
 
-/// The edges of a path so far, as a policy sees them. It keeps no edge.
+/// The edges of a path so far, as a policy sees them. Of the edges it keeps a few that came lately, with the patterns that they match.
 #[derive(Drop)]
 pub struct Watch<'a> {
     policy: &'a Policy,
     map: &'a Map,
     given: u64,
     standings: Vec<Standing>,
+    patterns: Vec<&'a Pattern>,
+    recent: Vec<RecentEdge>,
     ghost short: { given ≤ 4194304 },
+    ghost slots: { length recent.items ≡ 128 },
+}
+
+/// As many places as are kept, each without an edge.
+fn no_edges(alloc: Global, patterns: usize) -> Result<Vec<RecentEdge>, AllocError>
+    ensures count { IfOk result (λ recent. length recent.items ≡ 128) }
+    ensures each { IfOk result (λ recent. All (λ kept. (kept.edge ≡ None) × (length kept.met.items ≡ patterns)) recent.items) }
+{
+    let mut recent = Vec::new(alloc);
+    for k in 0..RECENT {
+        recent.push(RecentEdge::none(alloc, patterns)?)?;
+    }
+    Ok(recent)
 }
 
 impl<'a> Watch<'a> {
@@ -34,11 +50,15 @@ impl<'a> Watch<'a> {
             count: 0,
             broken: None,
         };
+        let patterns = patterns_in(alloc, policy)?;
+        let recent = no_edges(alloc, patterns.len())?;
         Ok(Watch {
             policy,
             map,
             given: 0,
             standings: vec![in alloc; start; policy.len()]?,
+            patterns,
+            recent,
         })
     }
 
@@ -49,12 +69,12 @@ impl<'a> Watch<'a> {
             → HasSeen self.new policy flow (path ++ edge.now ∷ []) }
     {
         self.given += 1;
-        let mut digits = DigitRoom::new();
-        let words = words_of(self.map, edge, &mut digits);
+        let slot = slot_of(edge);
+        self.recent[slot].keep(self.map, self.patterns.as_slice(), edge);
         follow(
             self.policy.as_slice(),
             self.given,
-            words.as_slice(),
+            self.recent[slot].met.as_slice(),
             &mut self.standings,
         );
     }

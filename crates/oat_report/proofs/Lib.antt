@@ -3,5 +3,6 @@ pub mod Splitting
 mod Listing
 pub mod Sites
 pub mod SameLines
-mod PlainTexts
+pub mod PlainTexts
 mod JsonTexts
+pub mod PlainLines

@@ -34,7 +34,7 @@ pub plain_text : (text : List ℕ) → list_all is_plain text ≡ true → IsPla
 plain_text [] test = tt
 plain_text (byte ∷ text) test = let both = and_parts (is_plain byte) (list_all is_plain text) test in (plain_byte byte both.0, plain_text text both.1)
 
-plain_append : (first second : List ℕ) → IsPlainText first → IsPlainText second → IsPlainText (first ++ second)
+pub plain_append : (first second : List ℕ) → IsPlainText first → IsPlainText second → IsPlainText (first ++ second)
 plain_append [] second first_plain second_plain = second_plain
 plain_append (byte ∷ first) second first_plain second_plain = (first_plain.0, plain_append first second first_plain.1 second_plain)
 
@@ -61,7 +61,7 @@ plain_onto (suc k) n behind plain =
     let longer : List ℕ = digit_glyph false (n % 10) ∷ behind in
     plain_either (n / 10 == 0) longer (digits_onto k 10 false (n / 10) longer) (glyph n, plain) (plain_onto k (n / 10) longer (glyph n, plain))
 
-plain_decimal : (n : ℕ) → IsPlainText (decimal n)
+pub plain_decimal : (n : ℕ) → IsPlainText (decimal n)
 unfolding digits
 plain_decimal n = plain_onto 64 n [] tt
 
@@ -73,13 +73,13 @@ plain_signed (negsuc n) = (plain_byte 45 refl, plain_decimal (suc n))
 hexadecimal_glyph : (d : ℕ) → d < 16 → IsPlainByte (hexadecimal_digit d)
 hexadecimal_glyph d low = between (hexadecimal_digit d) (grind (arith, nat_tests)) (grind (arith, nat_tests))
 
-plain_hexadecimal : (k n : ℕ) → IsPlainText (hexadecimal k n)
+pub plain_hexadecimal : (k n : ℕ) → IsPlainText (hexadecimal k n)
 unfolding hexadecimal
 plain_hexadecimal zero n = tt
 plain_hexadecimal (suc k) n =
     plain_append (hexadecimal k (n / 16)) (hexadecimal_digit (n % 16) ∷ []) (plain_hexadecimal k (n / 16)) (hexadecimal_glyph (n % 16) (omega arith), tt)
 
-plain_address : (n : ℕ) → IsPlainText (address_digits n)
+pub plain_address : (n : ℕ) → IsPlainText (address_digits n)
 plain_address n = plain_drop _ (hexadecimal 16 n) (plain_hexadecimal 16 n)
 
 -- ---- causes
@@ -102,7 +102,7 @@ plain_replay (TargetsLeft count) = counted (codes "TargetsLeft ") count refl
 plain_replay PathLimit = plain_text (codes "PathLimit") refl
 
 -- text behind a space
-spaced : (first second : List ℕ) → IsPlainText first → IsPlainText second → IsPlainText ((first ++ space) ++ second)
+pub spaced : (first second : List ℕ) → IsPlainText first → IsPlainText second → IsPlainText ((first ++ space) ++ second)
 unfolding is_plain
 spaced first second first_plain second_plain = plain_append (first ++ space) second (plain_append first space first_plain (plain_text space refl)) second_plain
 

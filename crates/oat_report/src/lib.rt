@@ -8,6 +8,7 @@ mod place;
 mod source;
 mod text;
 mod trace;
+mod typed;
 mod verdict;
 
 pub use json_report::{Report, json_line};
@@ -16,4 +17,5 @@ pub use place::{block_at, function_at, last_below, number_in_place, place_at_or_
 pub use source::source_line;
 pub use text::without_zeros;
 pub use trace::{apart_line, use_line};
+pub use typed::look_at_map;
 pub use verdict::verdict_line;

@@ -4,6 +4,7 @@
 mod draft;
 mod fault;
 mod file;
+pub mod laws;
 mod reading;
 mod script;
 mod word;

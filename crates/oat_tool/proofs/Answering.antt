@@ -1,9 +1,9 @@
--- A defined outcome with a status of work is an answer of the command that was asked for.
+-- A defined outcome with a status of work is one of the command that was asked for.
 use Rattle.std.proofs.Common.{refl, subst}
 use Rattle.oat_first.specs.First.{fails, passes}
 use Rattle.oat_tool.specs.declared.command.Command.{Command}
 use Rattle.oat_tool.specs.Loads.{AreLoaded}
-use Rattle.oat_tool.specs.Commands.{files_of}
+use Rattle.oat_tool.specs.Commands.{numbers_of, files_of}
 use Rattle.oat_tool.specs.Defined.{Does, done, other}
 use Rattle.oat_tool.specs.DefinedLaws.{WorkIsOfCommand}
 use Rattle.oat_tool.proofs.Apart.{one_command}
@@ -13,12 +13,10 @@ pub work_is_of_command : WorkIsOfCommand
 work_is_of_command words contents command o asked (other none is) work = absurd (none command asked)
 work_is_of_command words contents command o asked (done given line (fails failed)) work =
     absurd (failed_is_no_work contents (files_of words given) o failed o.status refl work)
-work_is_of_command words contents command o asked (done given line (passes files held answers)) work =
+work_is_of_command words contents command o asked (done given line (passes files held does)) work =
     let same = one_command words command given asked line in
     record {
       files = files;
       held = subst (λ (c : Command). AreLoaded contents (files_of words c) files) same held;
-      answer = answers.answer;
-      given = subst (λ (c : Command). Does c files answers.answer) same answers.given;
-      is = answers.is;
+      does = subst (λ (c : Command). Does c (numbers_of words c) contents ⊥ files o) same does;
     }

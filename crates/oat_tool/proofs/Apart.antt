@@ -5,7 +5,7 @@ use Rattle.std.proofs.lemmas.Bool.{cases_lt, eq-eqb}
 use Rattle.std.proofs.lemmas.List.{get_or_default}
 use Rattle.std.proofs.lemmas.Slice.Eq.{bytes_eq-Decides}
 use Rattle.oat_tool.specs.declared.command.Command.{Command}
-use Rattle.oat_tool.specs.Commands.{commands, fixed_of, limits_of, IsLine, differ, are_apart, is_apart_from, all_apart}
+use Rattle.oat_tool.specs.Commands.{commands, fixed_of, bounds_of, limits_of, IsLine, differ, are_apart, is_apart_from, all_apart}
 
 both_true : (a b : Bool) → IsTrue (a && b) → IsTrue a × IsTrue b
 both_true true true both = (refl, refl)
@@ -31,9 +31,9 @@ differ_never (v ∷ fixed) (w ∷ others) (x ∷ words) differs first second =
 
 lines_apart : (words : List (List ℕ)) (c d : Command) → IsTrue (are_apart c d) → IsLine words c → IsLine words d → ⊥
 lines_apart words c d apart one two =
-    let count : length (fixed_of c) + length (limits_of c) ≡ length (fixed_of d) + length (limits_of d) = sym one.count ∙ two.count in
+    let count : length (fixed_of c) + length (bounds_of c) + length (limits_of c) ≡ length (fixed_of d) + length (bounds_of d) + length (limits_of d) = sym one.count ∙ two.count in
     differ_never (fixed_of c) (fixed_of d) words
-    (other_true _ _ (eq-eqb (length (fixed_of c) + length (limits_of c)) (length (fixed_of d) + length (limits_of d)) count) apart)
+    (other_true _ _ (eq-eqb (length (fixed_of c) + length (bounds_of c) + length (limits_of c)) (length (fixed_of d) + length (bounds_of d) + length (limits_of d)) count) apart)
     one.begins two.begins
 
 apart_from : (others : List Command) (c d : Command) (j : ℕ) → IsTrue (is_apart_from c others) → j < length others → get_or others j d ≡ d

@@ -1,22 +1,25 @@
 -- The room of `build`: where its work stops and goes on, that it has one answer but for the image, and what its status says.
-use Rattle.std.proofs.Common.{◌∙◌, ℕ, List, [], ◌∷◌, inl, inr, ap, sym, subst}
+use Rattle.std.proofs.Common.{◌≡◌, ◌∙◌, ◌<◌, ◌≤◌, ◌++◌, ◌⊎◌, ℕ, List, [], ◌∷◌, Ok, decimal, codes, inl, inr, ap, ap₂, sym, subst, arith}
 use Rattle.oat_world.specs.Outside.{Contents}
 use Rattle.oat_ir.specs.declared.program.Program.{Program}
-use Rattle.oat_first.specs.First.{fails, passes}
-use Rattle.oat_first.proofs.FirstLaws.{First-through}
+use Rattle.oat_asm.specs.Items.{code_limit}
+use Rattle.oat_build.specs.Built.{program_words}
+use Rattle.oat_ir.specs.Size.{most_words}
+use Rattle.oat_first.specs.First.{fails, passes, IsDecisive}
+use Rattle.oat_first.proofs.FirstLaws.{First-through, Tests-decisive}
 use Rattle.oat_tool.specs.declared.page.Page.{Page}
 use Rattle.std.proofs.Common.{Result}
 use Rattle.oat_tool.specs.declared.page.Stop.{Stop}
 use Rattle.oat_tool.specs.declared.command.Command.TheVariants as commands
 use Rattle.oat_tool.specs.Outcome.{Outcome}
-use Rattle.oat_tool.specs.Answer.{Answer, as_outcome}
+use Rattle.oat_tool.specs.Answer.{Answer, as_outcome, refused}
 use Rattle.oat_tool.specs.Loads.{File, AreLoaded}
 use Rattle.oat_tool.specs.Commands.{files_of}
 use Rattle.oat_tool.specs.Programs.{IsCheckedText, RefusesProgram}
-use Rattle.oat_tool.specs.Build.{ShowsImage, built, too_large, Builds}
-use Rattle.oat_tool.specs.BuildLaws.{IsBuiltImage, BuildIsShown, OneBuildRefusal}
-use Rattle.oat_tool.specs.Works.{StopsWith, Works}
-use Rattle.oat_tool.proofs.Working.{StopsWith-more, Works-more, IsDone, refused_is_not_done}
+use Rattle.oat_tool.specs.Build.{Builds, CodeFits, Compiles, RefusesCode, ShowsImage}
+use Rattle.oat_tool.specs.BuildLaws.{AreBuilt, IsBuiltImage, BuildIsShown, OneBuildRefusal}
+use Rattle.oat_tool.specs.Works.{RefusesWith, StopsWith, Works}
+use Rattle.oat_tool.proofs.Working.{RefusesWith-stops, StopsWith-more, Works-more, IsDone, refused_is_not_done}
 use Rattle.oat_tool.proofs.Programming.{program_is_decisive, refused_program_is_not_done}
 use Rattle.oat_tool.proofs.Setting.{work_is_done}
 use Rattle.oat_tool.proofs.Answering.{work_is_of_command}
@@ -27,10 +30,32 @@ pub stops_at_program : (program : File) (stop : Stop) → StopsWith (RefusesProg
 stops_at_program program stop stops = StopsWith-more (RefusesProgram program) (Builds (program ∷ [])) stop (λ a refused. fails refused) stops
 
 pub works_on_checked : {P : Type 0} (text : P → List ℕ) (program : File) (p : Program) (work : Result (Page P) Stop) → IsCheckedText program.text p
-    → Works text (ShowsImage program p) work → Works text (Builds (program ∷ [])) work
-works_on_checked text program p work checked works = Works-more text (ShowsImage program p) (Builds (program ∷ [])) work (λ a shown. passes p checked shown) works
+    → Works text (Compiles program p) work → Works text (Builds (program ∷ [])) work
+works_on_checked text program p work checked works = Works-more text (Compiles program p) (Builds (program ∷ [])) work (λ a shown. passes p checked shown) works
+
+-- a stop that says of how many words the code is, where these are too many
+pub refuses_words : (file : File) (p : Program) (words : ℕ) (name : List ℕ) (stop : Stop) → words ≡ program_words p → code_limit < words → words ≤ most_words p
+    → name ≡ file.name → RefusesWith (refused name (codes "CodeTooLarge " ++ decimal words)) (Ok stop) → StopsWith (RefusesCode file p) stop
+refuses_words file p words name stop needed large few named stops =
+    RefusesWith-stops (RefusesCode file p) (refused name (codes "CodeTooLarge " ++ decimal words)) stop stops (record {
+      large = subst (λ (n : ℕ). code_limit < n) needed large;
+      few = subst (λ (n : ℕ). n ≤ most_words p) needed few;
+      told = ap₂ (λ (file words : List ℕ). refused file (codes "CodeTooLarge " ++ words)) named (ap decimal needed);
+    })
+
+pub stops_at_code : (file : File) (p : Program) (stop : Stop) → StopsWith (RefusesCode file p) stop → StopsWith (Compiles file p) stop
+stops_at_code file p stop stops = StopsWith-more (RefusesCode file p) (Compiles file p) stop (λ a refused. fails refused) stops
 
 -- ---- one answer, but for the image
+
+pub code_is_decisive : (file : File) (p : Program) → IsDecisive (Unit {0}) Answer (λ u. CodeFits p) (RefusesCode file p)
+code_is_decisive file p = Tests-decisive Answer (CodeFits p) (RefusesCode file p) (λ a b one two. one.told ∙ sym two.told) (λ a fits refuses. omega (arith, fits, refuses.large))
+
+compiled : (file : File) (p : Program) (a b : Answer) → IsCheckedText file.text p → Compiles file p a → Compiles file p b → (a ≡ b) ⊎ AreBuilt file a b
+compiled file p a b checked (fails one) (fails two) = inl ((code_is_decisive file p).one_failure a b one two)
+compiled file p a b checked (fails one) (passes u fits two) = absurd ((code_is_decisive file p).apart u a fits one)
+compiled file p a b checked (passes u fits one) (fails two) = absurd ((code_is_decisive file p).apart u b fits two)
+compiled file p a b checked (passes u fits one) (passes v fits' two) = inr (record { p = p; checked = checked; one = one; other = two })
 
 pub one_build_refusal : OneBuildRefusal
 one_build_refusal file a b (fails one) (fails two) = inl ((program_is_decisive file).one_failure a b one two)
@@ -38,35 +63,33 @@ one_build_refusal file a b (fails one) (passes p checked shown) = absurd ((progr
 one_build_refusal file a b (passes p checked shown) (fails two) = absurd ((program_is_decisive file).apart p b checked two)
 one_build_refusal file a b (passes p checked shown) (passes q checked' shown') =
     let same = (program_is_decisive file).one_value q p checked' checked in
-    inr (record { p = p; checked = checked; one = shown; other = subst (λ (r : Program). ShowsImage file r b) same shown' })
+    compiled file p a b checked shown (subst (λ (r : Program). Compiles file r b) same shown')
 
 -- ---- what the status says
-
-image_shown : (file : File) (p : Program) (a : Answer) (words : List (List ℕ)) (contents : Contents) → AreLoaded contents (files_of words commands.Build) (file ∷ [])
-    → IsCheckedText file.text p → IsDone (as_outcome a).status → ShowsImage file p a → IsBuiltImage words contents (as_outcome a)
-image_shown file p a words contents held checked is_done (built image of_program is) = record {
-  program = file;
-  held = held;
-  p = p;
-  checked = checked;
-  image = image;
-  of_program = of_program;
-  is = ap as_outcome is;
-}
-image_shown file p a words contents held checked is_done (too_large n large is) = absurd (refused_is_not_done a _ _ is is_done)
 
 build_shown : (words : List (List ℕ)) (contents : Contents) (files : List File) (a : Answer) → AreLoaded contents (files_of words commands.Build) files
     → Builds files a → IsDone (as_outcome a).status → IsBuiltImage words contents (as_outcome a)
 build_shown words contents [] a held none is_done = absurd none
 build_shown words contents (program ∷ []) a held builds is_done =
-    let taken = First-through Program Answer (IsCheckedText program.text) (RefusesProgram program) (ShowsImage program) a
+    let taken = First-through Program Answer (IsCheckedText program.text) (RefusesProgram program) (Compiles program) a
     (refused_program_is_not_done program a is_done) builds in
-    image_shown program taken.0 a words contents held taken.1 is_done taken.2
+    let shown = First-through (Unit {0}) Answer (λ u. CodeFits taken.0) (RefusesCode program taken.0) (λ u. ShowsImage taken.0) a
+    (λ refused. refused_is_not_done a _ _ refused.told is_done) taken.2 in
+    record {
+      program = program;
+      held = held;
+      p = taken.0;
+      checked = taken.1;
+      fits = shown.1;
+      image = shown.2.image;
+      of_program = shown.2.of_program;
+      is = ap as_outcome shown.2.is;
+    }
 build_shown words contents (program ∷ other ∷ files) a held none is_done = absurd none
 
 pub build_is_shown : BuildIsShown
 build_is_shown words contents o asked defined work =
     let answered = work_is_of_command words contents commands.Build o asked defined work in
-    subst (λ (p : Outcome). IsBuiltImage words contents p) (sym answered.is)
-    (build_shown words contents answered.files answered.answer answered.held answered.given
-    (λ two. work_is_done o.status work (ap (λ (p : Outcome). p.status) answered.is ∙ two)))
+    subst (λ (p : Outcome). IsBuiltImage words contents p) (sym answered.does.is)
+    (build_shown words contents answered.files answered.does.answer answered.held answered.does.given
+    (λ two. work_is_done o.status work (ap (λ (p : Outcome). p.status) answered.does.is ∙ two)))

@@ -41,7 +41,7 @@ defined_shown : (words : List (List ℕ)) (contents : Contents) (rose : Type 0) 
     → SetsOut words contents rose o → ShowsJust o out err status → (rose → status ≡ 4 → ⊥) → ShowsDefined words contents out err status
 defined_shown words contents rose out err status o sets just no_fault = elim (SetsOut-defined words contents rose o sets) [
   | inl defined ↦ record { outcome = o; is_defined = defined; shown = just }
-  | inr fault ↦ absurd (no_fault fault.0 (just.same_status ∙ ap (λ (x : Outcome). x.status) fault.1.1.told))
+  | inr fault ↦ absurd (no_fault fault.0 (just.same_status ∙ ap (λ (x : Outcome). x.status) fault.1.1))
 ]
 
 pub defined_is_shown : DefinedIsShown
@@ -80,7 +80,7 @@ refusals_are_quiet words contents files out err status told ran above below =
       | shown o sets just ↦ elim (SetsOut-defined words contents (Rose files.before files.after) o sets) [
         | inl defined ↦ Adds-none o.out out.held out.holds
             (Defined-quiet words contents o defined (omega (arith, just.same_status, above)) (omega (arith, just.same_status, below))) just.out_added
-        | inr fault ↦ Adds-none o.out out.held out.holds (ap (λ (x : Outcome). x.out) fault.1.1.told) just.out_added
+        | inr fault ↦ Adds-none o.out out.held out.holds (ap (λ (x : Outcome). x.out) fault.1.1) just.out_added
       ]
       | cut_short either five ↦ absurd (omega (arith, five, below))
       | wanting six ↦ absurd (omega (arith, six, below))
@@ -110,6 +110,10 @@ IsPrefix-nothing : (text longer : List ℕ) → IsPrefix text longer → longer 
 IsPrefix-nothing [] longer front none = refl
 IsPrefix-nothing (x ∷ text) longer (rest, same) none = let e : [] ≡ x ∷ (text ++ rest) = sym none ∙ same in cc
 
+-- a front of no text
+pub nothing_put : (text : List ℕ) (old new : Option (List ℕ)) → text ≡ [] → PutsFront text old new → new ≡ old
+nothing_put text old new none (front, begins, added) = Adds-none front old new (IsPrefix-nothing front text begins none) added
+
 -- what was put is a front of an outcome's text, or nothing
 front_of : (ending : Outcome → Type 0) (out_failed err_failed : Type 0) (status : ℕ) (put said : List ℕ)
     → IsLeft (OrStarved ending) out_failed err_failed status put said → (put ≡ []) ⊎ ((o : Outcome) × ending o × IsPrefix put o.out)
@@ -137,7 +141,7 @@ front_put : (words : List (List ℕ)) (contents : Contents) (rose : Type 0) (put
 front_put words contents rose put old new added (inl none) = inl (Adds-none put old new none added)
 front_put words contents rose put old new added (inr (o, sets, front)) = elim (SetsOut-defined words contents rose o sets) [
   | inl defined ↦ inr (o, defined, (put, front, added))
-  | inr fault ↦ inl (Adds-none put old new (IsPrefix-nothing put o.out front (ap (λ (x : Outcome). x.out) fault.1.1.told)) added)
+  | inr fault ↦ inl (Adds-none put old new (IsPrefix-nothing put o.out front (ap (λ (x : Outcome). x.out) fault.1.1)) added)
 ]
 
 pub front_is_put : FrontIsPut

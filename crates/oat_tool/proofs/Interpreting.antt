@@ -82,6 +82,6 @@ run_shown words contents (program ∷ case ∷ other ∷ files) a held none is_d
 pub source_run_is_shown : SourceRunIsShown
 source_run_is_shown words contents o asked defined work =
     let answered = work_is_of_command words contents commands.Run o asked defined work in
-    subst (λ (p : Outcome). IsSourceRun words contents p) (sym answered.is)
-    (run_shown words contents answered.files answered.answer answered.held answered.given
-    (λ two. work_is_done o.status work (ap (λ (p : Outcome). p.status) answered.is ∙ two)))
+    subst (λ (p : Outcome). IsSourceRun words contents p) (sym answered.does.is)
+    (run_shown words contents answered.files answered.does.answer answered.held answered.does.given
+    (λ two. work_is_done o.status work (ap (λ (p : Outcome). p.status) answered.does.is ∙ two)))

@@ -1,28 +1,47 @@
--- The words of a command are those that it begins with, and a name for each of its files.
-use Rattle.std.proofs.Common.{◌≡◌, ◌∙◌, ◌++◌, ℕ, List, length, drop, Contains, sym, ap, subst, arith, length-append, length-drop}
-use Rattle.std.proofs.Math.Seq.{take-append_seam}
-use Rattle.std.proofs.lemmas.List.{take-append-drop}
+-- The words of a command are those that it begins with, its numbers, and a name for each of its files.
+use Rattle.std.proofs.Common.{◌≡◌, ◌∙◌, ◌<◌, ◌≤◌, ◌+◌, ◌++◌, ℕ, List, [], length, take, drop, get_or, Contains, sym, ap, subst, arith, length-append, length-drop}
+use Rattle.std.proofs.Math.Seq.{take-append_seam, drop-append_seam}
+use Rattle.std.proofs.Math.ListN.{get_or-append}
+use Rattle.std.proofs.lemmas.List.{take-append-drop, length-take-le, get_or-take}
 use Rattle.oat_tool.specs.declared.command.Command.{Command}
-use Rattle.oat_tool.specs.Commands.{commands, fixed_of, limits_of, IsLine}
-use Rattle.oat_tool.specs.DefinedLaws.{LinesNameFiles}
+use Rattle.oat_tool.specs.Commands.{commands, fixed_of, bounds_of, limits_of, IsNumber, AreNumbers, IsLine}
+use Rattle.oat_tool.specs.DefinedLaws.{IsSpelled, LinesAreSpelled}
 
-abbrev Named : List (List ℕ) → Command → Type 0
-Named words command =
-    (names : List (List ℕ)) × (length names ≡ length (limits_of command)) × (words ≡ fixed_of command ++ names)
+front_numbers : (bounds : List ℕ) (words : List (List ℕ)) → AreNumbers bounds words → AreNumbers bounds (take (length bounds) words)
+front_numbers bounds words are k within = subst (IsNumber (get_or bounds k 0)) (sym (get_or-take (length bounds) words k [] within)) (are k within)
 
-named : (words : List (List ℕ)) (command : Command) → IsLine words command → Named words command
-named words command line =
+numbers_before : (bounds : List ℕ) (numbers names : List (List ℕ)) → length numbers ≡ length bounds → AreNumbers bounds numbers → AreNumbers bounds (numbers ++ names)
+numbers_before bounds numbers names each are k within =
+    subst (IsNumber (get_or bounds k 0)) (sym (get_or-append numbers names [] k (omega (arith, each, within)))) (are k within)
+
+spelled : (words : List (List ℕ)) (command : Command) → IsLine words command → IsSpelled words command
+spelled words command line =
     let fixed = fixed_of command in
-    let dropped = length-drop (length fixed) words in (
-      drop (length fixed) words,
-      omega (arith, dropped, line.count),
-      sym (take-append-drop (length fixed) words) ∙ ap (λ (front : List (List ℕ)). front ++ drop (length fixed) words) line.begins,
-    )
+    let bounds = bounds_of command in
+    let rest = drop (length fixed) words in
+    let dropped = length-drop (length fixed) words in
+    let long : length bounds ≤ length rest = omega (arith, dropped, line.count) in
+    record {
+      numbers = take (length bounds) rest;
+      names = drop (length bounds) rest;
+      bounded = front_numbers bounds rest line.numbers;
+      each_number = length-take-le (length bounds) rest long;
+      each_file = omega (arith, dropped, length-drop (length bounds) rest, line.count);
+      is = sym (take-append-drop (length fixed) words)
+          ∙ (ap (λ (front : List (List ℕ)). front ++ rest) line.begins ∙ ap (λ (more : List (List ℕ)). fixed ++ more) (sym (take-append-drop (length bounds) rest)));
+    }
 
-line_of : (words : List (List ℕ)) (command : Command) → Contains commands command → Named words command → IsLine words command
-line_of words command listed (names, count, is) =
-    let long = length-append (fixed_of command) names in
-    subst (λ (ws : List (List ℕ)). IsLine ws command) (sym is) (record { listed = listed; begins = take-append_seam (fixed_of command) names; count = omega (arith, long, count) })
+line_of : (words : List (List ℕ)) (command : Command) → Contains commands command → IsSpelled words command → IsLine words command
+line_of words command listed s =
+    let fixed = fixed_of command in
+    let rest = s.numbers ++ s.names in
+    subst (λ (ws : List (List ℕ)). IsLine ws command) (sym s.is) (record {
+      listed = listed;
+      begins = take-append_seam fixed rest;
+      numbers = subst (AreNumbers (bounds_of command)) (sym (drop-append_seam fixed rest))
+          (numbers_before (bounds_of command) s.numbers s.names s.each_number s.bounded);
+      count = omega (arith, length-append fixed rest, length-append s.numbers s.names, s.each_number, s.each_file);
+    })
 
-pub lines_name_files : LinesNameFiles
-lines_name_files words command listed = (named words command, line_of words command listed)
+pub lines_are_spelled : LinesAreSpelled
+lines_are_spelled words command listed = (spelled words command, line_of words command listed)

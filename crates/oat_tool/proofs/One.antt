@@ -7,7 +7,7 @@ use Rattle.oat_tool.specs.declared.command.Command.{Command}
 use Rattle.oat_tool.specs.Outcome.{Outcome}
 use Rattle.oat_tool.specs.Answer.{Answer, IsAnswered, as_outcome}
 use Rattle.oat_tool.specs.Loads.{Wanted, File, IsLoaded, LoadFails, absent, faulted, long, AreLoaded, LoadsFail}
-use Rattle.oat_tool.specs.Commands.{files_of}
+use Rattle.oat_tool.specs.Commands.{numbers_of, files_of}
 use Rattle.oat_tool.specs.Defined.{Does, Ends, done, other}
 use Rattle.oat_tool.specs.DefinedLaws.{OneOutcome}
 use Rattle.oat_tool.proofs.Apart.{one_command}
@@ -72,7 +72,7 @@ all_apart contents (w ∷ ws) [] o held failed = held
 all_apart contents (w ∷ ws) (f ∷ fs) o held (fails failed) = held_apart contents w f o held.0 failed
 all_apart contents (w ∷ ws) (f ∷ fs) o held (passes g given later) = all_apart contents ws fs o held.1 later
 
-loads_are_decisive : (contents : Contents) (wanted : List Wanted)
+pub loads_are_decisive : (contents : Contents) (wanted : List Wanted)
     → IsDecisive (List File) Outcome (AreLoaded contents wanted) (LoadsFail contents ⊥ wanted)
 loads_are_decisive contents wanted = record {
   one_value = all_one contents wanted;
@@ -80,15 +80,17 @@ loads_are_decisive contents wanted = record {
   apart = all_apart contents wanted;
 }
 
-one_answers : (Q : Answer → Type 0) → IsOne Answer Q → IsOne Outcome (IsAnswered Q)
-one_answers Q one o p first second = first.is ∙ (ap as_outcome (one first.answer second.answer first.given second.given) ∙ sym second.is)
+-- A command that has one answer to its files ends in one way.
+pub one_answered : (Q : Answer → Type 0) → IsOne Answer Q → IsOne Outcome (IsAnswered Q)
+one_answered Q one o p first second = first.is ∙ (ap as_outcome (one first.answer second.answer first.given second.given) ∙ sym second.is)
 
-one_end : (words : List (List ℕ)) (contents : Contents) (command : Command) → ((files : List File) → IsOne Answer (Does command files))
+one_end : (words : List (List ℕ)) (contents : Contents) (command : Command)
+    → ((files : List File) → IsOne Outcome (Does command (numbers_of words command) contents ⊥ files))
     → IsOne Outcome (Ends words command contents ⊥)
 one_end words contents command one =
     First-one (List File) Outcome (AreLoaded contents (files_of words command)) (LoadsFail contents ⊥ (files_of words command))
-    (λ files. IsAnswered (Does command files)) (loads_are_decisive contents (files_of words command))
-    (λ files held. one_answers (Does command files) (one files))
+    (Does command (numbers_of words command) contents ⊥) (loads_are_decisive contents (files_of words command))
+    (λ files held. one files)
 
 pub one_outcome : OneOutcome
 one_outcome words contents one o p (done given line ends) (done given' line' ends') =

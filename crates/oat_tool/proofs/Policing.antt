@@ -41,7 +41,7 @@ pub refuses_policy : (file : File) (fault : Fault PolicyFaultKind) (a : Answer) 
 refuses_policy file fault a other given told =
     record { fault = fault; first = is_fault fault (policy_of file.text) other given; told = told }
 
-policy_is_decisive : (file : File) → IsDecisive (List PolicyRule) Answer (IsPolicyText file.text) (RefusesPolicy file)
+pub policy_is_decisive : (file : File) → IsDecisive (List PolicyRule) Answer (IsPolicyText file.text) (RefusesPolicy file)
 policy_is_decisive file = record {
   one_value = λ rules others one two. ok_one others rules (policy_of file.text) two one;
   one_failure = λ a b one two.

@@ -29,7 +29,7 @@ use Rattle.oat_tool.proofs.Admitting.{Admits-through}
 use Rattle.oat_tool.proofs.Setting.{work_is_done}
 use Rattle.oat_tool.proofs.Answering.{work_is_of_command}
 use Rattle.oat_tool.proofs.Following.{whole_is_put}
-use Rattle.oat_tool.proofs.Naming.{lines_name_files}
+use Rattle.oat_tool.proofs.Naming.{lines_are_spelled}
 use Rattle.oat_tool.proofs.Verifying.{verifies_concluded, judged_holds}
 use Rattle.oat_tool.proofs.Policing.{Policing}
 
@@ -116,9 +116,9 @@ policy_reported words contents (image ∷ case ∷ blob ∷ policy ∷ other ∷
 pub policy_is_reported : PolicyIsReported
 policy_is_reported words contents o asked defined work =
     let answered = work_is_of_command words contents Policy o asked defined work in
-    subst (λ (p : Outcome). ReportsPolicy words contents p) (sym answered.is)
-    (policy_reported words contents answered.files answered.answer answered.held answered.given
-    (λ two. work_is_done o.status work (ap (λ (p : Outcome). p.status) answered.is ∙ two)))
+    subst (λ (p : Outcome). ReportsPolicy words contents p) (sym answered.does.is)
+    (policy_reported words contents answered.files answered.does.answer answered.held answered.does.given
+    (λ two. work_is_done o.status work (ap (λ (p : Outcome). p.status) answered.does.is ∙ two)))
 
 pub policy_is_said : PolicyIsSaid
 policy_is_said words contents o asked defined work =
@@ -149,8 +149,14 @@ asks_verify : (words : List (List ℕ)) → IsLine words Policy → IsLine (veri
 asks_verify words asked =
     let dropped = length-drop 1 words in
     let count : length words ≡ 5 = asked.count in
-    (lines_name_files (verify_words words) Verify (1, omega arith, refl)).1
-    (take 3 (drop 1 words), length-take-le 3 (drop 1 words) (omega (arith, dropped, count)), refl)
+    (lines_are_spelled (verify_words words) Verify (1, omega arith, refl)).1 (record {
+      numbers = [];
+      names = take 3 (drop 1 words);
+      bounded = λ k within. absurd (omega (arith, within));
+      each_number = refl;
+      each_file = length-take-le 3 (drop 1 words) (omega (arith, dropped, count));
+      is = refl;
+    })
 
 pub verify_is_put_first : VerifyIsPutFirst
 verify_is_put_first words contents o asked defined work =

@@ -151,9 +151,9 @@ run_shown words contents (image ∷ case ∷ other ∷ files) a held none is_don
 pub run_is_shown : RunIsShown
 run_is_shown words contents o asked defined work =
     let answered = work_is_of_command words contents Device o asked defined work in
-    subst (λ (p : Outcome). IsMeasuredRun words contents p) (sym answered.is)
-    (run_shown words contents answered.files answered.answer answered.held answered.given
-    (λ two. work_is_done o.status work (ap (λ (p : Outcome). p.status) answered.is ∙ two)))
+    subst (λ (p : Outcome). IsMeasuredRun words contents p) (sym answered.does.is)
+    (run_shown words contents answered.files answered.does.answer answered.held answered.does.given
+    (λ two. work_is_done o.status work (ap (λ (p : Outcome). p.status) answered.does.is ∙ two)))
 
 never_rejected : (status : ℕ) (X : Type 0) → (status ≡ 0 ↔ X) → (status ≡ 7 ↔ ¬ X) → status ≡ 1 → ⊥
 never_rejected status X seals others first =

@@ -3,6 +3,8 @@ use Rattle.std.proofs.Common.{◌≡◌, ◌↔◌, ◌<◌, ◌≤◌, ◌+◌,
 use Rattle.std.specs.Prelude.{IfSome, IsTrue, if◌then◌else◌, nat_le, unwrap_or}
 use Rattle.std.proofs.lemmas.Bool.{and_parts, leb-true, ltb-true, ltb-false}
 use Rattle.std.proofs.lemmas.List.{take_more}
+use Rattle.oat_attest.specs.Headline.{IsSetting}
+use Rattle.oat_case.specs.Laws.{WritesCanBeMade}
 use Rattle.oat_case.specs.Limits.{calls_fit}
 use Rattle.oat_device.proofs.Counting.{windows_are_counted}
 use Rattle.oat_device.specs.DeviceRun.{CountsItsWindows, IsSealed}
@@ -13,6 +15,7 @@ use Rattle.oat_tool.proofs.Running.{first_window}
 use Rattle.oat_world.specs.Outside.{Contents}
 use Rattle.oat_image.specs.declared.image.Image.{Image}
 use Rattle.oat_map.specs.declared.map.Map.{Map}
+use Rattle.oat_map.specs.Rows.{BeginsAt}
 use Rattle.oat_case.specs.declared.case.Case.{Case}
 use Rattle.oat_watch.specs.declared.watched.WatchedWindow.{WatchedWindow}
 use Rattle.oat_tool.specs.declared.page.Stop.{Stop}
@@ -23,11 +26,15 @@ use Rattle.oat_tool.specs.Answer.{Answer, as_outcome, status_of}
 use Rattle.oat_tool.specs.Loads.{File, AreLoaded}
 use Rattle.oat_tool.specs.Commands.{files_of}
 use Rattle.oat_tool.specs.Admits.{Rejects, AreAdmitted}
-use Rattle.oat_tool.specs.Trace.{Traces, TracesCase, are_few, window_number, part_text, parts_from, refuses_one}
+use Rattle.oat_tool.specs.Trace.{Traces, TracesCase, part_text, parts_from, verdicts_on}
+use Rattle.oat_tool.specs.Windows.{are_few, refuses_one, window_number}
 use Rattle.oat_tool.specs.TraceLaws.{IsTracedRun, TraceIsShown}
 use Rattle.oat_tool.specs.Works.{StopsWith}
+use Rattle.oat_tool.proofs.CaseGiven.{case_is_given}
+use Rattle.oat_tool.proofs.SameTrace.{same_is_followed, shown_edges}
 use Rattle.oat_tool.proofs.Working.{StopsWith-more, IsDone}
 use Rattle.oat_tool.proofs.Admitting.{Admits-rejected, Admits-admitted, Admits-through}
+use Rattle.oat_tool.proofs.Windowing.{statuses}
 use Rattle.oat_tool.proofs.Setting.{work_is_done}
 use Rattle.oat_tool.proofs.Answering.{work_is_of_command}
 
@@ -61,61 +68,22 @@ part_taken flow calls windows s shown below at =
     ap (λ (ws : List WatchedWindow). parts_from flow calls 0 ws) (take_more windows s shown below ∙ ap (λ (w : WatchedWindow). take s windows ++ w ∷ []) (sym at))
     ∙ (parts_more flow calls 0 (take s windows) shown ∙ ap (λ (n : ℕ). parts_from flow calls 0 (take s windows) ++ part_text flow (window_number calls n) shown) taken)
 
--- ---- a case calls for few windows
-
-most_calls : (calls : Option ℕ) → IfSome calls (λ k. IsTrue (calls_fit k)) → unwrap_or calls 1 ≤ 1024
-most_calls None fit = omega arith
-most_calls (Some k) fit = leb-true k 1024 (and_parts (nat_le 1 k) (nat_le k 1024) fit).1
-
-pub few_windows : (image : Image) (case : Case) (begin_at n : ℕ) → IfSome case.session.calls (λ k. IsTrue (calls_fit k))
-    → n ≡ length (sealed_bodies (opening_of image case.session begin_at) (run_of image case begin_at).measurements) → n < 4294967296
-few_windows image case begin_at n fit count =
-    let o = opening_of image case.session begin_at in
-    let counted = windows_are_counted image o case.inputs case.writes case.steps (first_window case.session.calls fit) in
-    let most = most_calls case.session.calls fit in
-    by (ltb n 4294967296) refl counted most where
-      by : (b : Bool) → ltb n 4294967296 ≡ b → CountsItsWindows (opening_of image case.session begin_at) (run_of image case begin_at) → unwrap_or case.session.calls 1 ≤ 1024 → n < 4294967296
-      by true is counted most = ltb-true n 4294967296 is
-      by false is counted most =
-          let long = ltb-false n 4294967296 is in
-          let open_still : ¬ IsSealed (run_of image case begin_at) = λ shut. let all = counted.all shut in omega (arith, count, all, most, long) in
-          let fewer = counted.fewer open_still in absurd (omega (arith, count, fewer, most, long))
-
 -- ---- what the statuses say
 
-statuses : (few refused : Bool) (status : ℕ) → status ≡ status_of (if few then Unsealed else (if refused then Rejected else Done))
-    → (status ≡ 7 ↔ (few ≡ true)) × ((status ≡ 1 ↔ ((few ≡ false) × (refused ≡ true))) × (status ≡ 0 ↔ ((few ≡ false) × (refused ≡ false))))
-statuses true refused status is = (
-  (λ seven. refl, λ few. is),
-  (
-    (λ one. absurd (omega (arith, is, one)), λ both. absurd (let q = both.0 in cc)),
-    (λ none. absurd (omega (arith, is, none)), λ both. absurd (let q = both.0 in cc)),
-  ),
-)
-statuses false true status is = (
-  (λ seven. absurd (omega (arith, is, seven)), λ few. absurd (let q = few in cc)),
-  (
-    (λ one. (refl, refl), λ both. is),
-    (λ none. absurd (omega (arith, is, none)), λ both. absurd (let q = both.1 in cc)),
-  ),
-)
-statuses false false status is = (
-  (λ seven. absurd (omega (arith, is, seven)), λ few. absurd (let q = few in cc)),
-  (
-    (λ one. absurd (omega (arith, is, one)), λ both. absurd (let q = both.1 in cc)),
-    (λ none. (refl, refl), λ both. is),
-  ),
-)
+setting_of : (i : Image) (c : Case) (begin_at : ℕ) (image case : File) → AreAdmitted image case i c → BeginsAt i.map c.session.op begin_at → IsSetting i c.session begin_at
+setting_of i c begin_at image case admitted begins = record { well_formed = admitted.image_read.well_formed; shaped = admitted.shaped; begins = begins }
 
-trace_shown : (words : List (List ℕ)) (contents : Contents) (files : List File) (a : Answer) → AreLoaded contents (files_of words commands.Trace) files
+trace_shown : WritesCanBeMade → (words : List (List ℕ)) (contents : Contents) (files : List File) (a : Answer) → AreLoaded contents (files_of words commands.Trace) files
     → Traces files a → IsDone (as_outcome a).status → IsTracedRun words contents (as_outcome a)
-trace_shown words contents [] a held none is_done = absurd none
-trace_shown words contents (image ∷ []) a held none is_done = absurd none
-trace_shown words contents (image ∷ case ∷ []) a held traces is_done =
+trace_shown made words contents [] a held none is_done = absurd none
+trace_shown made words contents (image ∷ []) a held none is_done = absurd none
+trace_shown made words contents (image ∷ case ∷ []) a held traces is_done =
     let through = Admits-through image case TracesCase a is_done traces in
     let calls = through.c.session.calls in
     let windows = through.after.windows in
-    let told = statuses (are_few calls windows) (refuses_one windows) (as_outcome a).status (ap (λ (x : Answer). (as_outcome x).status) through.after.is) in
+    let setting = setting_of through.i through.c through.after.begin_at image case through.admitted through.after.begins in
+    let given = case_is_given made case.text through.c through.admitted.case_read in
+    let told = statuses (are_few calls (verdicts_on windows)) (refuses_one (verdicts_on windows)) (as_outcome a).status (ap (λ (x : Answer). (as_outcome x).status) through.after.is) in
     record {
       image = image;
       case = case;
@@ -129,12 +97,14 @@ trace_shown words contents (image ∷ case ∷ []) a held traces is_done =
       leaves_unsealed = told.0;
       rejects = told.1.0;
       accepts = told.1.1;
+      edges = shown_edges through.i through.c through.after.begin_at setting given through.admitted.begun windows through.after.traced;
+      same = same_is_followed through.i through.c through.after.begin_at setting given windows through.after.traced;
     }
-trace_shown words contents (image ∷ case ∷ other ∷ files) a held none is_done = absurd none
+trace_shown made words contents (image ∷ case ∷ other ∷ files) a held none is_done = absurd none
 
-pub trace_is_shown : TraceIsShown
-trace_is_shown words contents o asked defined work =
+pub trace_is_shown : WritesCanBeMade → TraceIsShown
+trace_is_shown made words contents o asked defined work =
     let answered = work_is_of_command words contents commands.Trace o asked defined work in
-    subst (λ (p : Outcome). IsTracedRun words contents p) (sym answered.is)
-    (trace_shown words contents answered.files answered.answer answered.held answered.given
-    (λ two. work_is_done o.status work (ap (λ (p : Outcome). p.status) answered.is ∙ two)))
+    subst (λ (p : Outcome). IsTracedRun words contents p) (sym answered.does.is)
+    (trace_shown made words contents answered.files answered.does.answer answered.held answered.does.given
+    (λ two. work_is_done o.status work (ap (λ (p : Outcome). p.status) answered.does.is ∙ two)))

@@ -124,9 +124,9 @@ outcome_reached : (words : List (List ℕ)) (contents : Contents) (o : Outcome) 
     → Reached words contents o
 outcome_reached words contents o asked defined work =
     let answered = work_is_of_command words contents Verify o asked defined work in
-    subst (λ (p : Outcome). Reached words contents p) (sym answered.is)
-    (reached words contents answered.files answered.answer answered.held answered.given
-    (λ two. work_is_done o.status work (ap (λ (p : Outcome). p.status) answered.is ∙ two)))
+    subst (λ (p : Outcome). Reached words contents p) (sym answered.does.is)
+    (reached words contents answered.files answered.does.answer answered.held answered.does.given
+    (λ two. work_is_done o.status work (ap (λ (p : Outcome). p.status) answered.does.is ∙ two)))
 
 accepts : (words : List (List ℕ)) (contents : Contents) (verdict : Verdict) (o : Outcome) → ReportsVerdict words contents verdict o → o.status ≡ 0
     → (path : List Edge) × ReportsVerdict words contents (Accept path) o

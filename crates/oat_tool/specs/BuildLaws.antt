@@ -13,14 +13,15 @@ use Rattle.oat_tool.specs.Commands.{IsLine, files_of}
 use Rattle.oat_tool.specs.Programs.{IsCheckedText}
 use Rattle.oat_tool.specs.Defined.{Defined}
 use Rattle.oat_tool.specs.DefinedLaws.{IsOfWork}
-use Rattle.oat_tool.specs.Build.{Builds, ShowsImage}
+use Rattle.oat_tool.specs.Build.{Builds, CodeFits, ShowsImage}
 
--- The file that the words name holds a checked program, and the outcome is the text of an image of it, with status 0.
+-- The file that the words name holds a checked program whose code fits, and the outcome is the text of an image of it, with status 0.
 pub record IsBuiltImage (words : List (List ℕ)) (contents : Contents) (o : Outcome) : Type 0 where
   pub program : File
   pub held : AreLoaded contents (files_of words commands.Build) (program ∷ [])
   pub p : Program
   pub checked : IsCheckedText program.text p
+  pub fits : CodeFits p
   pub image : Image
   pub of_program : IsImageOf p image
   pub is : o ≡ record { status = 0; out = image_text image; err = [] }
@@ -34,8 +35,8 @@ BuildIsShown = (words : List (List ℕ)) (contents : Contents) (o : Outcome) →
 pub record AreBuilt (file : File) (a b : Answer) : Type 0 where
   pub p : Program
   pub checked : IsCheckedText file.text p
-  pub one : ShowsImage file p a
-  pub other : ShowsImage file p b
+  pub one : ShowsImage p a
+  pub other : ShowsImage p b
 
 -- Of a file there is one answer, but for which image of a checked program it is.
 abbrev pub OneBuildRefusal : Type 0

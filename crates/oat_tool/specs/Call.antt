@@ -4,8 +4,10 @@ use Rattle.std.specs.String.{string_bytes}
 use Rattle.std.specs.declared.string.String.{String}
 use Rattle.std.specs.declared.alloc.Global.{Global}
 use Rattle.oat_world.specs.Outside.{Contents, Rose}
+use Rattle.oat_tool.specs.declared.command.Command.{Command}
+use Rattle.oat_tool.specs.Loads.{File}
 use Rattle.oat_tool.specs.Shows.{Put, Shows}
-use Rattle.oat_tool.specs.Defined.{SetsOut}
+use Rattle.oat_tool.specs.Defined.{Does, SetsOut}
 
 -- what a call did to the files: what they tell, and the count of faults before and after
 pub record Read : Type 0 where
@@ -18,6 +20,12 @@ read_of told faults old new = record { told = told old; before = faults old; aft
 
 abbrev pub put_of : {S : Type 0} → (S → Option (List ℕ)) → (S → ℕ) → S → S → Put
 put_of told faults old new = record { held = told old; holds = told new; before = faults old; after = faults new }
+
+-- Where contents are told, the work of a command on its numbers and its loaded files shows what it ends with.
+abbrev pub ShowsWork : Command → (numbers : List ℕ) → List File → Read → Put → Put → ℕ → Type 0
+ShowsWork command numbers loaded files out err status =
+    (contents : Contents) → files.told ≡ Some contents
+    → Shows (Does command numbers contents (Rose files.before files.after) loaded) out err status
 
 -- Where contents are told, the call shows the outcome that it set out for.
 abbrev pub IsCall : List (List ℕ) → Read → Put → Put → ℕ → Type 0

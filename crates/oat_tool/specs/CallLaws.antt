@@ -5,9 +5,9 @@ use Rattle.oat_first.specs.First.{IsOne}
 use Rattle.oat_tool.specs.declared.command.Command.{Command}
 use Rattle.oat_tool.specs.Outcome.{Outcome}
 use Rattle.oat_tool.specs.Texts.{read_fault}
-use Rattle.oat_tool.specs.Loads.{Wanted}
+use Rattle.oat_tool.specs.Loads.{Wanted, File, AreLoaded}
 use Rattle.oat_tool.specs.Commands.{IsLine, files_of}
-use Rattle.oat_tool.specs.Defined.{Defined}
+use Rattle.oat_tool.specs.Defined.{NamesFile, Defined}
 use Rattle.oat_tool.specs.DefinedLaws.{IsOfWork}
 use Rattle.oat_tool.specs.Shows.{Put, HasFailed}
 use Rattle.oat_tool.specs.Puts.{PutsFront}
@@ -25,12 +25,18 @@ pub record ShowsDefined (words : List (List ℕ)) (contents : Contents) (out err
   pub is_defined : Defined words contents outcome
   pub shown : ShowsJust outcome out err status
 
--- A file of the words isn't held, and that is the first refusal.
+-- A command loads this file: its words name it, or the files that they name do.
+pub data IsAskedFor (words : List (List ℕ)) (contents : Contents) (command : Command) (wanted : Wanted) : Type 0 where
+  named : Contains (files_of words command) wanted → IsAskedFor words contents command wanted
+  further : (files : List File) → AreLoaded contents (files_of words command) files → NamesFile command files wanted
+      → IsAskedFor words contents command wanted
+
+-- A file that the words' command loads isn't held, and that is the first refusal.
 pub record IsAbsentFirst (words : List (List ℕ)) (contents : Contents) : Type 0 where
   pub command : Command
   pub asked : IsLine words command
   pub wanted : Wanted
-  pub among : Contains (files_of words command) wanted
+  pub among : IsAskedFor words contents command wanted
   pub absent : contents wanted.name ≡ None
   pub first : Defined words contents (read_fault wanted.name)
 

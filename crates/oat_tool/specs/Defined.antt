@@ -3,33 +3,47 @@ use Rattle.std.specs.Prelude.{◌≡◌, ℕ, List}
 use Rattle.oat_world.specs.Outside.{Contents}
 use Rattle.oat_first.specs.First.{First}
 use Rattle.oat_tool.specs.declared.command.Command.{Command}
-use Rattle.oat_tool.specs.declared.command.Command.TheVariants.{Run, Build, Verify, Device, Trace, Policy}
+use Rattle.oat_tool.specs.declared.command.Command.TheVariants.{Run, Build, Verify, Device, Trace, Policy, Owner, Attest, AttestJson, Drill}
 use Rattle.oat_tool.specs.Outcome.{Outcome}
 use Rattle.oat_tool.specs.Texts.{usage}
-use Rattle.oat_tool.specs.Answer.{Answer, IsAnswered}
-use Rattle.oat_tool.specs.Loads.{File, AreLoaded, LoadsFail}
-use Rattle.oat_tool.specs.Commands.{IsLine, files_of}
+use Rattle.oat_tool.specs.Answer.{IsAnswered}
+use Rattle.oat_tool.specs.Loads.{Wanted, File, AreLoaded, LoadsFail}
+use Rattle.oat_tool.specs.Commands.{IsLine, numbers_of, files_of}
 use Rattle.oat_tool.specs.Interpret.{Interprets}
 use Rattle.oat_tool.specs.Build.{Builds}
 use Rattle.oat_tool.specs.Verify.{Verifies}
 use Rattle.oat_tool.specs.Device.{Runs}
 use Rattle.oat_tool.specs.Trace.{Traces}
 use Rattle.oat_tool.specs.Policy.{Polices}
+use Rattle.oat_tool.specs.Owner.{Serves, NamesImage}
+use Rattle.oat_tool.specs.Attest.{AttestsProgram}
+use Rattle.oat_tool.specs.Json.{AttestsInJson}
+use Rattle.oat_tool.specs.Drill.{Drills}
 
--- what a command answers to its files
-abbrev pub Does : Command → List File → Answer → Type 0
-Does Run = Interprets
-Does Build = Builds
-Does Verify = Verifies
-Does Device = Runs
-Does Trace = Traces
-Does Policy = Polices
+-- What a command ends with behind the loads of its files: an answer to its numbers and to these. One that loads further files looks at
+-- contents besides, and such a load may fail where the count of faults rose.
+abbrev pub Does : Command → (numbers : List ℕ) → Contents → (rose : Type 0) → List File → Outcome → Type 0
+Does Run numbers contents rose files = IsAnswered (Interprets files)
+Does Build numbers contents rose files = IsAnswered (Builds files)
+Does Verify numbers contents rose files = IsAnswered (Verifies files)
+Does Device numbers contents rose files = IsAnswered (Runs files)
+Does Trace numbers contents rose files = IsAnswered (Traces files)
+Does Policy numbers contents rose files = IsAnswered (Polices files)
+Does Owner numbers contents rose files = Serves contents rose files
+Does Attest numbers contents rose files = IsAnswered (AttestsProgram files)
+Does AttestJson numbers contents rose files = IsAnswered (AttestsInJson files)
+Does Drill numbers contents rose files = IsAnswered (Drills numbers)
 
--- The first load that fails decides, and else the command's answer; a load may fail where the count of faults rose.
+-- a further file that a command loads, which its files name
+abbrev pub NamesFile : Command → List File → Wanted → Type 0
+NamesFile Owner files wanted = NamesImage files wanted
+NamesFile _ files wanted = ⊥
+
+-- The first load that fails decides, and else the command; a load may fail where the count of faults rose.
 abbrev pub Ends : List (List ℕ) → Command → Contents → (rose : Type 0) → Outcome → Type 0
 Ends words command contents rose =
     First (List File) Outcome (AreLoaded contents (files_of words command)) (LoadsFail contents rose (files_of words command))
-    (λ files. IsAnswered (Does command files))
+    (Does command (numbers_of words command) contents rose)
 
 -- What a call sets out for: the end of the command that the words are of, or usage.
 pub data SetsOut (words : List (List ℕ)) (contents : Contents) (rose : Type 0) (o : Outcome) : Type 0 where

@@ -4,39 +4,43 @@ use Rattle.oat_world.specs.Outside.{Contents}
 use Rattle.oat_first.specs.First.{IsOne}
 use Rattle.oat_tool.specs.declared.command.Command.{Command}
 use Rattle.oat_tool.specs.Outcome.{Outcome}
-use Rattle.oat_tool.specs.Answer.{Answer, as_outcome}
 use Rattle.oat_tool.specs.Loads.{File, AreLoaded}
-use Rattle.oat_tool.specs.Commands.{commands, fixed_of, limits_of, IsLine, files_of}
+use Rattle.oat_tool.specs.Commands.{commands, fixed_of, bounds_of, limits_of, AreNumbers, IsLine, numbers_of, files_of}
 use Rattle.oat_tool.specs.Defined.{Does, Defined}
 
--- The words of a command are those that it begins with, and a name for each file that it loads.
-abbrev pub LinesNameFiles : Type 0
-LinesNameFiles = (words : List (List ℕ)) (command : Command) → Contains commands command → IsLine words command
-    ↔ ((names : List (List ℕ)) × (length names ≡ length (limits_of command)) × (words ≡ fixed_of command ++ names))
+-- The words of a command are those that it begins with, its numbers, and a name for each file that it loads.
+pub record IsSpelled (words : List (List ℕ)) (command : Command) : Type 0 where
+  pub numbers : List (List ℕ)
+  pub names : List (List ℕ)
+  pub bounded : AreNumbers (bounds_of command) numbers
+  pub each_number : length numbers ≡ length (bounds_of command)
+  pub each_file : length names ≡ length (limits_of command)
+  pub is : words ≡ fixed_of command ++ (numbers ++ names)
+
+abbrev pub LinesAreSpelled : Type 0
+LinesAreSpelled = (words : List (List ℕ)) (command : Command) → Contains commands command → IsLine words command ↔ IsSpelled words command
 
 -- Words are of one command at most.
 abbrev pub OneCommand : Type 0
 OneCommand = (words : List (List ℕ)) (c d : Command) → IsLine words c → IsLine words d → d ≡ c
 
--- Where the command that words are of has one answer to its files, words and contents have one defined outcome.
+-- Where the command that words are of ends in one way behind its files, words and contents have one defined outcome.
 abbrev pub OneOutcome : Type 0
 OneOutcome = (words : List (List ℕ)) (contents : Contents)
-    → ((command : Command) → IsLine words command → (files : List File) → IsOne Answer (Does command files))
+    → ((command : Command) → IsLine words command → (files : List File) → IsOne Outcome (Does command (numbers_of words command) contents ⊥ files))
     → IsOne Outcome (Defined words contents)
 
 -- the statuses of work that was done
 abbrev pub IsOfWork : ℕ → Type 0
 IsOfWork status = (status ≡ 0) ⊎ ((status ≡ 1) ⊎ (status ≡ 7))
 
--- The outcome is a command's answer to the files that its words name.
+-- The outcome is what a command ends with behind the files that its words name.
 pub record IsOfCommand (words : List (List ℕ)) (contents : Contents) (command : Command) (o : Outcome) : Type 0 where
   pub files : List File
   pub held : AreLoaded contents (files_of words command) files
-  pub answer : Answer
-  pub given : Does command files answer
-  pub is : o ≡ as_outcome answer
+  pub does : Does command (numbers_of words command) contents ⊥ files o
 
--- A defined outcome with a status of work is an answer of the command that was asked for.
+-- A defined outcome with a status of work is one of the command that was asked for.
 abbrev pub WorkIsOfCommand : Type 0
 WorkIsOfCommand = (words : List (List ℕ)) (contents : Contents) (command : Command) (o : Outcome)
     → IsLine words command → Defined words contents o → IsOfWork o.status → IsOfCommand words contents command o

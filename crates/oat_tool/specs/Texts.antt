@@ -4,7 +4,7 @@ use Rattle.std.specs.Fmt.{decimal}
 use Rattle.oat_tool.specs.Outcome.{Outcome, line, says}
 
 abbrev pub usage : Outcome
-usage = says 3 (line (codes "usage: oat run PROG CASE | build PROG | device IMAGE CASE | verify IMAGE CASE BLOB | attest [--json] PROG CASE | drill N | trace IMAGE CASE | policy IMAGE CASE BLOB POLICY"))
+usage = says 3 (line (codes "usage: oat run PROG CASE | build PROG | device IMAGE CASE | verify IMAGE CASE BLOB | attest [--json] PROG CASE | drill N | trace IMAGE CASE | policy IMAGE CASE BLOB POLICY | owner SCRIPT"))
 
 -- the line of a refused input, by the file's name and the reason
 abbrev pub refusal : List ℕ → List ℕ → List ℕ

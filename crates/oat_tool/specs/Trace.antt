@@ -1,8 +1,7 @@
 -- `trace IMAGE CASE`: the first refusal of an input, or the lines of the measured run, and for each window that it sealed what it did there beside the
 -- verdict on the window's blob (docs/FORMATS.md).
-use Rattle.std.specs.Prelude.{◌≡◌, ◌+◌, ℕ, Bool, true, false, if◌then◌else◌, nat_lt, List, [], ◌∷◌, ◌++◌, length, codes, Option, Some, None, unwrap_or}
-use Rattle.std.specs.List.{flat_map, list_any}
-use Rattle.std.specs.Option.{option_map}
+use Rattle.std.specs.Prelude.{◌≡◌, ◌+◌, ℕ, List, [], ◌∷◌, ◌++◌, length, map, Option, Some, None}
+use Rattle.std.specs.List.{flat_map}
 use Rattle.oat_chain.specs.Clash.{bytes_of}
 use Rattle.oat_chain.specs.declared.message.Clash.{Clash}
 use Rattle.oat_image.specs.declared.image.Image.{Image}
@@ -18,14 +17,13 @@ use Rattle.oat_verify.specs.declared.verdict.Verdict.TheVariants.{Accept, Refuse
 use Rattle.oat_watch.specs.declared.watched.CheckedUse.{CheckedUse}
 use Rattle.oat_watch.specs.declared.watched.WatchedWindow.{WatchedWindow}
 use Rattle.oat_watch.specs.Watching.{HasItsVerdict, OfEach, Parts, ShowsWindow}
-use Rattle.oat_tool.specs.declared.page.Ended.{Ended}
-use Rattle.oat_tool.specs.declared.page.Ended.TheVariants.{Done, Rejected, Unsealed}
 use Rattle.oat_tool.specs.Outcome.{line}
 use Rattle.oat_tool.specs.Answer.{Answer, shows}
 use Rattle.oat_tool.specs.Loads.{File}
 use Rattle.oat_tool.specs.Report.{path_text}
 use Rattle.oat_tool.specs.Device.{run_lines, run_of}
 use Rattle.oat_tool.specs.Admits.{Admits}
+use Rattle.oat_tool.specs.Windows.{ended_with, want_text, window_number}
 
 -- ---- the part of a window
 
@@ -43,35 +41,14 @@ abbrev pub part_text : Map → Option ℕ → WatchedWindow → List ℕ
 part_text flow number shown =
     line (verdict_text number shown.verdict) ++ path_text flow shown.path ++ flat_map use_line shown.uses.items ++ parting_text shown.verdict shown.apart
 
--- the number of window s, where the case numbers its windows
-abbrev pub window_number : Option ℕ → ℕ → Option ℕ
-window_number calls s = option_map (λ count. s) calls
-
 -- the parts of windows, of which the first is window s
 abbrev pub parts_from : Map → Option ℕ → ℕ → List WatchedWindow → List ℕ
 parts_from flow calls s [] = []
 parts_from flow calls s (shown ∷ others) = part_text flow (window_number calls s) shown ++ parts_from flow calls (s + 1) others
 
--- ---- how it ends
-
-abbrev pub is_refusal : Verdict → Bool
-is_refusal (Accept path) = false
-is_refusal (Refuse cause) = true
-
-abbrev pub refuses_one : List WatchedWindow → Bool
-refuses_one windows = list_any (λ shown. is_refusal shown.verdict) windows
-
--- fewer windows than the case calls for
-abbrev pub are_few : Option ℕ → List WatchedWindow → Bool
-are_few calls windows = nat_lt (length windows) (unwrap_or calls 1)
-
-abbrev pub ended_with : Option ℕ → List WatchedWindow → Ended
-ended_with calls windows = if are_few calls windows then Unsealed else (if refuses_one windows then Rejected else Done)
-
--- of an unsealed run it is said that a blob is wanting
-abbrev pub want_text : Ended → List ℕ
-want_text Unsealed = line (codes "no blob")
-want_text _ = []
+-- the verdicts on windows
+abbrev pub verdicts_on : List WatchedWindow → List Verdict
+verdicts_on windows = map (λ shown. shown.verdict) windows
 
 -- ---- the answer
 
@@ -89,9 +66,9 @@ pub record TracesCase (image : Image) (case : Case) (a : Answer) : Type 0 where
   pub begins : BeginsAt image.map case.session.op begin_at
   pub windows : List WatchedWindow
   pub traced : AreTraced image case begin_at windows
-  pub is : a ≡ shows (ended_with case.session.calls windows)
+  pub is : a ≡ shows (ended_with case.session.calls (verdicts_on windows))
       (run_lines (run_of image case begin_at) ++ parts_from image.map case.session.calls 0 windows)
-      (want_text (ended_with case.session.calls windows))
+      (want_text (ended_with case.session.calls (verdicts_on windows)))
 
 abbrev pub Traces : List File → Answer → Type 0
 Traces (image ∷ case ∷ []) a = Admits image case TracesCase a

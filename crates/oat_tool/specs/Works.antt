@@ -40,6 +40,17 @@ HaltsWith Q (halt.ReadFault text) = Q (says 4 text.items)
 HaltsWith Q (halt.Refused text) = Q (says 2 text.items)
 HaltsWith Q halt.Starved = Unit {0}
 
+-- the outcome that loads stand for which didn't go through
+abbrev pub IsHaltOutcome : Halt → Outcome → Type 0
+IsHaltOutcome (halt.ReadFault text) o = o ≡ says 4 text.items
+IsHaltOutcome (halt.Refused text) o = o ≡ says 2 text.items
+IsHaltOutcome halt.Starved o = ⊥
+
+-- the halt that a stop is
+abbrev pub halt_of : Stop → Halt
+halt_of (stop.Refused text) = halt.Refused text
+halt_of stop.Starved = halt.Starved
+
 abbrev pub IsReadFault : Halt → Type 0
 IsReadFault (halt.ReadFault text) = Unit {0}
 IsReadFault (halt.Refused text) = ⊥

@@ -2,7 +2,7 @@ ghost use Rattle.std.specs.Prelude.{◌≡◌, MatchResult, map};
 ghost use Rattle.oat_tool.specs.declared.command.Command.TheVariants as commands;
 ghost use Rattle.oat_tool.specs.Commands.{limits_of};
 ghost use Rattle.oat_tool.specs.Works.{Works, answer_in, StopsWith};
-ghost use Rattle.oat_tool.specs.Build.{Builds, ShowsImage};
+ghost use Rattle.oat_tool.specs.Build.{Builds, Compiles};
 
 use crate::files::File;
 use crate::page::{Ended, Page, Stop};
@@ -16,7 +16,7 @@ use std::alloc::Global;
 
 /// The text of an image of the program, or why there is none.
 fn image_page(alloc: Global, file: &File, checked: &Checked) -> Result<Page<Whole>, Stop>
-    ensures { Works ⟦<Whole as Pieces>⟧.text (ShowsImage file.now checked.now) result }
+    ensures { Works ⟦<Whole as Pieces>⟧.text (Compiles file.now checked.now) result }
 {
     match build(alloc, checked) {
         Ok(shaped) => Ok(Page {

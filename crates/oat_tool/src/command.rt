@@ -1,15 +1,20 @@
 ghost use Rattle.std.specs.Prelude.{◌≡◌, map};
-ghost use Rattle.oat_tool.specs.Commands.{fixed_of, limits_of};
+ghost use Rattle.oat_tool.specs.Commands.{fixed_of, bounds_of, limits_of};
+
+/// The greatest number of a drill.
+const DRILL_BOUND: u32 = 4_294_967_295;
 
 const PROGRAM_LIMIT: usize = 1_048_576;
 
-const IMAGE_LIMIT: usize = 16_777_216;
+pub const IMAGE_LIMIT: usize = 16_777_216;
 
 const CASE_LIMIT: usize = 4_194_304;
 
 const BLOB_LIMIT: usize = 41_943_040;
 
 const POLICY_LIMIT: usize = 65_536;
+
+const SCRIPT_LIMIT: usize = 67_108_864;
 
 /// A command of the program.
 #[derive(Clone, Copy, Debug, PartialEq, Eq)]
@@ -26,6 +31,14 @@ pub enum Command {
     Trace,
     /// Judges a blob as `Verify` does, and the accepted path by a policy.
     Policy,
+    /// Puts a script to an owner of its devices.
+    Owner,
+    /// Builds a program, runs a case on its image, measured, and judges the run's blobs.
+    Attest,
+    /// Attests as `Attest` does, and tells of each window in JSON.
+    AttestJson,
+    /// Attests the program and the case that are made from a number.
+    Drill,
 }
 
 impl Command {
@@ -40,6 +53,28 @@ impl Command {
             Command::Device => &["device"],
             Command::Trace => &["trace"],
             Command::Policy => &["policy"],
+            Command::Owner => &["owner"],
+            Command::Attest => &["attest"],
+            Command::AttestJson => &["attest", "--json"],
+            Command::Drill => &["drill"],
+        }
+    }
+
+    /// The greatest value of each of its numbers.
+    pub fn bounds(self) -> &'static [u32]
+        ensures { result.now ≡ bounds_of self }
+    {
+        match self {
+            Command::Run
+            | Command::Build
+            | Command::Verify
+            | Command::Device
+            | Command::Trace
+            | Command::Policy
+            | Command::Owner
+            | Command::Attest
+            | Command::AttestJson => &[],
+            Command::Drill => &[DRILL_BOUND],
         }
     }
 
@@ -54,16 +89,24 @@ impl Command {
             Command::Device => &[IMAGE_LIMIT, CASE_LIMIT],
             Command::Trace => &[IMAGE_LIMIT, CASE_LIMIT],
             Command::Policy => &[IMAGE_LIMIT, CASE_LIMIT, BLOB_LIMIT, POLICY_LIMIT],
+            Command::Owner => &[SCRIPT_LIMIT],
+            Command::Attest => &[PROGRAM_LIMIT, CASE_LIMIT],
+            Command::AttestJson => &[PROGRAM_LIMIT, CASE_LIMIT],
+            Command::Drill => &[],
         }
     }
 }
 
 /// The commands of the program.
-pub const COMMANDS: [Command; 6] = [
+pub const COMMANDS: [Command; 10] = [
     Command::Run,
     Command::Verify,
     Command::Device,
     Command::Policy,
     Command::Build,
     Command::Trace,
+    Command::Owner,
+    Command::Attest,
+    Command::AttestJson,
+    Command::Drill,
 ];

@@ -61,7 +61,12 @@ fn too_long_line(alloc: Global, name: &str, limit: usize) -> Result<Vec<u8>, All
 }
 
 /// Loads one file by the word that names it.
-fn load_one<F: Files>(alloc: Global, files: &mut F, name: &str, limit: usize) -> Result<File, Halt>
+pub fn load_one<F: Files>(
+    alloc: Global,
+    files: &mut F,
+    name: &str,
+    limit: usize,
+) -> Result<File, Halt>
     ensures same { F.told files.new ≡ F.told files.old }
     ensures faults_stay { F.faults files.old ≤ F.faults files.new }
     ensures limited { IfOk result (λ file. file.limit ≡ limit) }

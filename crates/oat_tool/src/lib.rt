@@ -10,28 +10,38 @@
 
 mod admit;
 mod asked;
+mod attest;
+mod attest_json;
 mod blob_lines;
 mod blob_text;
 mod build;
 mod command;
 mod device;
+mod drill;
+mod enrol;
 mod feeding;
 mod files;
 mod inputs;
 mod interpret;
+mod json_lines;
 pub mod laws;
+mod opening;
+mod owner;
 mod page;
 mod pieces;
 mod policy;
 mod programs;
 mod put;
+mod replies;
 mod report;
 mod run_lines;
+mod script;
 mod source_path;
 mod texts;
 mod top_call;
 mod trace;
 mod verify;
+mod windows;
 
 pub use top_call::run;
 

@@ -97,3 +97,17 @@ impl<T: Drop> From<AllocFailed<T>> for Halt {
         Halt::Starved
     }
 }
+
+impl From<Stop> for Halt {
+    ghost use Rattle.std.specs.Prelude.{◌≡◌};
+    ghost use Rattle.oat_tool.specs.Works.{halt_of};
+
+    ghost from_gives = { λ stop halt. halt ≡ halt_of stop };
+
+    fn from(stop: Stop) -> Halt {
+        match stop {
+            Stop::Refused(line) => Halt::Refused(line),
+            Stop::Starved => Halt::Starved,
+        }
+    }
+}

@@ -1,19 +1,22 @@
-ghost use Rattle.std.specs.Prelude.{◌≡◌, ◌≢◌, ◌<◌, ◌⊎◌, ℕ, List, Option};
+ghost use Rattle.std.specs.Prelude.{◌≡◌, ◌≢◌, ◌<◌, ◌⊎◌, ℕ, List, Option, Err};
 ghost use Rattle.oat_world.specs.Outside.{Rose};
-ghost use Rattle.oat_tool.specs.Outcome.{says};
+ghost use Rattle.oat_world.specs.declared.sink.SinkFault.{SinkFault};
+ghost use Rattle.oat_tool.specs.Outcome.{Outcome, says};
 ghost use Rattle.oat_tool.specs.Texts.{starved};
 ghost use Rattle.oat_tool.specs.Answer.{IsWorkOutcome};
 ghost use Rattle.oat_tool.specs.Puts.{PutsAll, SaysLast};
 ghost use Rattle.oat_tool.specs.Shows.{Put, HasFailed, Shows};
 ghost use Rattle.oat_tool.specs.Call.{put_of};
-ghost use Rattle.oat_tool.specs.Works.{IsOutcomeOf, IsStopOutcome};
+ghost use Rattle.oat_tool.specs.Works.{IsHaltOutcome, IsOutcomeOf, IsReadFault, IsStopOutcome};
 
-use crate::page::{Ended, Page, Stop};
+use crate::page::{Ended, Halt, Page, Stop};
 use crate::pieces::Pieces;
 use oat_world::{Sink, SinkFault};
 use std::alloc::Global;
 
 const INPUT: u8 = 2;
+
+const NOT_READ: u8 = 4;
 
 const WRITE_FAULT: u8 = 5;
 
@@ -81,6 +84,9 @@ pub fn close<E: Sink>(put: Result<(), SinkFault>, ended: Ended, said: &[u8], err
     ensures write_fault { (text : List ℕ) (out : Put) → PutsAll text out put → result ≡ 5 → HasFailed out ⊎ Rose (E.faults err.old) (E.faults err.new) }
     ensures raised { (text : List ℕ) (out : Put) → PutsAll text out put → (out.before < out.after) ⊎ (E.faults err.old < E.faults err.new) → result ≡ 5 }
     ensures no_fault { result ≢ 4 }
+    // Where the text wasn't put whole, the outcome is any with this text.
+    ensures stopped { (fault : SinkFault) (o : Outcome) (out : Put) → put ≡ Err fault → PutsAll o.out out put
+        → Shows (λ p. p ≡ o) out (put_of E.told E.faults err.old err.new) result }
 {
     let Err(fault) = put else {
         return say(err, said, ended.status());
@@ -101,6 +107,20 @@ pub fn say_stop<E: Sink>(stop: &Stop, err: &mut E) -> u8
     match stop {
         Stop::Refused(line) => say(err, line.as_slice(), INPUT),
         Stop::Starved => say_starved(err),
+    }
+}
+
+/// Says why loads stopped, and answers the call's status.
+pub fn say_halt<E: Sink>(halt: &Halt, err: &mut E) -> u8
+    ensures shows { (out : Option (List ℕ)) (faults : ℕ) → Shows (IsHaltOutcome halt.now) (record { held = out; holds = out; before = faults; after = faults }) (put_of E.told E.faults err.old err.new) result }
+    ensures write_fault { result ≡ 5 → Rose (E.faults err.old) (E.faults err.new) }
+    ensures raised { E.faults err.old < E.faults err.new → result ≡ 5 }
+    ensures read_fault { result ≡ 4 → IsReadFault halt.now }
+{
+    match halt {
+        Halt::ReadFault(line) => say(err, line.as_slice(), NOT_READ),
+        Halt::Refused(line) => say(err, line.as_slice(), INPUT),
+        Halt::Starved => say_starved(err),
     }
 }
 

@@ -24,6 +24,15 @@ use std::alloc::{AllocError, Global};
 /// The most turns of a replay that lead on.
 const PATH_LIMIT: u32 = 4_194_304;
 
+/// The line of a verdict.
+fn line_of(alloc: Global, number: Option<u32>, verdict: &Verdict) -> Result<Vec<u8>, AllocError>
+    ensures { IfOk result (λ text. text.items ≡ line (verdict_text number verdict.now)) }
+{
+    let mut text = verdict_line(alloc, number, verdict)?;
+    text.extend_from_slice(b"\n")?;
+    Ok(text)
+}
+
 /// The line of what was settled.
 fn first_line(alloc: Global, settled: &Settled) -> Result<Vec<u8>, AllocError>
     ensures { (verdict : Verdict) → settled.now.verdict ≡ feed_verdict_of verdict → IfOk result (λ text. text.items ≡ line (verdict_text settled.now.serial verdict)) }
@@ -32,13 +41,11 @@ fn first_line(alloc: Global, settled: &Settled) -> Result<Vec<u8>, AllocError>
         FeedVerdict::Accept => Verdict::Accept(Path::from_vec(Vec::new(alloc))),
         FeedVerdict::Refuse(cause) => Verdict::Refuse(cause),
     };
-    let mut text = verdict_line(alloc, settled.serial, &told)?;
-    text.extend_from_slice(b"\n")?;
-    Ok(text)
+    line_of(alloc, settled.serial, &told)
 }
 
 /// The line of one edge.
-fn edge_line(alloc: Global, map: &Map, edge: &Edge) -> Result<Vec<u8>, AllocError>
+pub fn edge_line(alloc: Global, map: &Map, edge: &Edge) -> Result<Vec<u8>, AllocError>
     ensures { IfOk result (λ text. text.items ≡ path_text map.now (edge.now ∷ [])) }
 {
     let mut text = path_line(alloc, map, edge)?;
@@ -56,7 +63,13 @@ pub fn ended(verdict: FeedVerdict) -> Ended
     }
 }
 
-fn put_edge<S: Sink>(alloc: Global, sink: &mut S, map: &Map, edge: &Edge) -> Result<(), SinkFault>
+/// Puts the line of one edge.
+pub fn put_edge<S: Sink>(
+    alloc: Global,
+    sink: &mut S,
+    map: &Map,
+    edge: &Edge,
+) -> Result<(), SinkFault>
     ensures { PutsAll (path_text map.now (edge.now ∷ [])) (put_of S.told S.faults sink.old sink.new) result }
 {
     match edge_line(alloc, map, edge) {
@@ -112,5 +125,40 @@ pub fn put_report<S: Sink>(
     match settled.verdict {
         FeedVerdict::Accept => put_path(alloc, sink, shaped, op, &settled.kept),
         FeedVerdict::Refuse(_) => Ok(()),
+    }
+}
+
+/// Puts the lines of a path.
+fn put_edges<S: Sink>(
+    alloc: Global,
+    sink: &mut S,
+    map: &Map,
+    path: &[Edge],
+) -> Result<(), SinkFault>
+    ensures { PutsAll (path_text map.now path.now) (put_of S.told S.faults sink.old sink.new) result }
+{
+    for edge in path {
+        put_edge(alloc, sink, map, edge)?;
+    }
+    Ok(())
+}
+
+/// Puts the line of a verdict on a blob with such a serial number, and after an acceptance those of the path.
+pub fn put_verdict<S: Sink>(
+    alloc: Global,
+    sink: &mut S,
+    map: &Map,
+    number: Option<u32>,
+    verdict: &Verdict,
+) -> Result<(), SinkFault>
+    ensures { PutsAll (report_text map.now number verdict.now) (put_of S.told S.faults sink.old sink.new) result }
+{
+    let Ok(text) = line_of(alloc, number, verdict) else {
+        return Err(SinkFault::Memory);
+    };
+    put_all(sink, text.as_slice())?;
+    match verdict {
+        Verdict::Accept(path) => put_edges(alloc, sink, map, path.as_slice()),
+        Verdict::Refuse(_) => Ok(()),
     }
 }

@@ -44,7 +44,7 @@ fn put_fault(text: &mut Vec<u8>, kind: FaultKind) -> Result<(), AllocError>
 }
 
 /// Adds how a run ended.
-fn put_end(text: &mut Vec<u8>, end: DeviceEnd) -> Result<(), AllocError>
+pub fn put_end(text: &mut Vec<u8>, end: DeviceEnd) -> Result<(), AllocError>
     ensures { OnOk result (text.new.items ≡ text.old.items ++ end_text end) }
 {
     match end {

@@ -11,7 +11,7 @@ use std::fmt::Display;
 
 /// The usage line, put on the second output.
 pub const USAGE: &[u8] =
-    b"usage: oat run PROG CASE | build PROG | device IMAGE CASE | verify IMAGE CASE BLOB | attest [--json] PROG CASE | drill N | trace IMAGE CASE | policy IMAGE CASE BLOB POLICY\n";
+    b"usage: oat run PROG CASE | build PROG | device IMAGE CASE | verify IMAGE CASE BLOB | attest [--json] PROG CASE | drill N | trace IMAGE CASE | policy IMAGE CASE BLOB POLICY | owner SCRIPT\n";
 
 /// An input is refused, for a reason in the words of the output formats.
 pub fn refused<R: Display + Drop>(alloc: Global, file: &str, reason: R) -> Result<Stop, AllocError>

@@ -1,49 +1,63 @@
-ghost use Rattle.std.specs.Prelude.{◌≡◌, ◌≢◌, ◌<◌, ◌⊎◌, None, map};
+ghost use Rattle.std.specs.Prelude.{◌≡◌, ◌<◌, ◌⊎◌, None, length, map};
 ghost use Rattle.oat_world.specs.Outside.{Rose};
-ghost use Rattle.oat_tool.specs.Commands.{limits_of};
-ghost use Rattle.oat_tool.specs.Answer.{IsAnswered};
-ghost use Rattle.oat_tool.specs.Defined.{Does};
-ghost use Rattle.oat_tool.specs.Shows.{Shows};
-ghost use Rattle.oat_tool.specs.Call.{read_of, put_of, Ran};
+ghost use Rattle.oat_tool.specs.Commands.{bounds_of, limits_of};
+ghost use Rattle.oat_tool.specs.Call.{read_of, put_of, Ran, ShowsWork};
 ghost use Rattle.oat_tool.specs.Headline.{Headlined};
+ghost use Rattle.oat_tool.specs.OneRun.{OfOneRun};
 
-use crate::asked::{command_of, names_of};
+use crate::asked::{command_of, names_of, numbers_of};
+use crate::attest::attest_program;
+use crate::attest_json::attest_json;
 use crate::build::build_program;
 use crate::command::Command;
 use crate::device::device;
+use crate::drill::drill;
 use crate::files::{File, load_all};
 use crate::interpret::interpret;
+use crate::owner::serve;
 use crate::page::Halt;
 use crate::policy::police;
 use crate::put::{finish, say, say_starved};
 use crate::texts::USAGE;
 use crate::trace::trace;
 use crate::verify::verify;
+use oat_attestation::laws::{runs_are_headlined, windows_are_judged};
 use oat_world::{Files, Sink};
 use std::alloc::Global;
 
-/// Does the work of a command on its files, and answers the status.
+/// Does the work of a command on its numbers and its files that are loaded, and answers the status.
+///
+/// Further files are loaded where these name some.
 #[tactic(auto, using(crate::proofs::Working::finished))]
-fn work<O: Sink, E: Sink>(
+fn work<F: Files, O: Sink, E: Sink>(
     alloc: Global,
     command: Command,
-    files: &[File],
+    numbers: &[u32],
+    loaded: &[File],
+    files: &mut F,
     out: &mut O,
     err: &mut E,
 ) -> u8
-    requires { map (λ file. file.limit) files.now ≡ limits_of command }
-    ensures shows { Shows (IsAnswered (Does command files.now)) (put_of O.told O.faults out.old out.new) (put_of E.told E.faults err.old err.new) result }
+    requires bounds { length numbers.now ≡ length (bounds_of command) }
+    requires limits { map (λ file. file.limit) loaded.now ≡ limits_of command }
+    ensures same { F.told files.new ≡ F.told files.old }
+    ensures shows { ShowsWork command numbers.now loaded.now (read_of F.told F.faults files.old files.new)
+        (put_of O.told O.faults out.old out.new) (put_of E.told E.faults err.old err.new) result }
+    ensures read_fault { F.told files.old ≡ None → result ≡ 4 → Rose (F.faults files.old) (F.faults files.new) }
     ensures write_fault { result ≡ 5 → Rose (O.faults out.old) (O.faults out.new) ⊎ Rose (E.faults err.old) (E.faults err.new) }
     ensures raised { (O.faults out.old < O.faults out.new) ⊎ (E.faults err.old < E.faults err.new) → result ≡ 5 }
-    ensures no_fault { result ≢ 4 }
 {
     match command {
-        Command::Run => finish(alloc, interpret(alloc, files), out, err),
-        Command::Build => finish(alloc, build_program(alloc, files), out, err),
-        Command::Verify => verify(alloc, files, out, err),
-        Command::Device => finish(alloc, device(alloc, files), out, err),
-        Command::Trace => finish(alloc, trace(alloc, files), out, err),
-        Command::Policy => police(alloc, files, out, err),
+        Command::Run => finish(alloc, interpret(alloc, loaded), out, err),
+        Command::Build => finish(alloc, build_program(alloc, loaded), out, err),
+        Command::Verify => verify(alloc, loaded, out, err),
+        Command::Device => finish(alloc, device(alloc, loaded), out, err),
+        Command::Trace => finish(alloc, trace(alloc, loaded), out, err),
+        Command::Policy => police(alloc, loaded, out, err),
+        Command::Owner => serve(alloc, loaded, files, out, err),
+        Command::Attest => attest_program(alloc, loaded, out, err),
+        Command::AttestJson => finish(alloc, attest_json(alloc, loaded), out, err),
+        Command::Drill => finish(alloc, drill(alloc, numbers), out, err),
     }
 }
 
@@ -67,18 +81,37 @@ pub fn run<F: Files, O: Sink, E: Sink>(
     // messages with one SHA-256 digest.
     ensures headline { Headlined words.now (read_of F.told F.faults files.old files.new)
         (put_of O.told O.faults out.old out.new) (put_of E.told E.faults err.old err.new) result }
+    // And of `attest`: all that it puts is of one measured run of the case on an image of the program, and when the verifier
+    // accepts the blob of a device run, whatever was written into data memory between its instructions, the path it prints
+    // is the path that the run executed in the operation, and each checked critical use there read its last defined value,
+    // or the run's return sequence and the replay's exhibit two different messages with one SHA-256 digest.
+    ensures one_run { OfOneRun words.now (read_of F.told F.faults files.old files.new)
+        (put_of O.told O.faults out.old out.new) (put_of E.told E.faults err.old err.new) result }
     // Where files don't tell what they hold, status 4 comes only where their count of faults rose.
     ensures read_fault { F.told files.old ≡ None → result ≡ 4 → Rose (F.faults files.old) (F.faults files.new) }
     // Status 5 comes where the count of a sink rose, or stands at its end, and always where one is higher than before.
     ensures write_fault { result ≡ 5 → Rose (O.faults out.old) (O.faults out.new) ⊎ Rose (E.faults err.old) (E.faults err.new) }
     ensures raised { (O.faults out.old < O.faults out.new) ⊎ (E.faults err.old < E.faults err.new) → result ≡ 5 }
 {
+    windows_are_judged();
+    runs_are_headlined();
     let Some(command) = command_of(words) else {
         return say(err, USAGE, 3);
     };
+    let Ok(numbers) = numbers_of(alloc, words, command) else {
+        return say_starved(err);
+    };
     let names = names_of(words, command);
     match load_all(alloc, files, names, command.limits()) {
-        Ok(loaded) => work(alloc, command, loaded.as_slice(), out, err),
+        Ok(loaded) => work(
+            alloc,
+            command,
+            numbers.as_slice(),
+            loaded.as_slice(),
+            files,
+            out,
+            err,
+        ),
         Err(Halt::ReadFault(line)) => say(err, line.as_slice(), 4),
         Err(Halt::Refused(line)) => say(err, line.as_slice(), 2),
         Err(Halt::Starved) => say_starved(err),

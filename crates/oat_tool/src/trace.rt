@@ -1,5 +1,5 @@
 ghost use Rattle.std.specs.Prelude.{◌≡◌, ◌++◌, ◌<◌, IfOk, OnOk, length, map};
-ghost use Rattle.std.specs.List.{flat_map};
+ghost use Rattle.std.specs.List.{flat_map, list_any};
 ghost use Rattle.oat_case.specs.Limits.{IsWellFormedCase};
 ghost use Rattle.oat_map.specs.Rows.{IsOperation};
 ghost use Rattle.oat_tool.specs.declared.command.Command.TheVariants as commands;
@@ -10,14 +10,16 @@ ghost use Rattle.oat_report.specs.TraceLine.{apart_text};
 ghost use Rattle.oat_report.specs.VerdictLine.{verdict_text};
 ghost use Rattle.oat_tool.specs.Outcome.{line};
 ghost use Rattle.oat_tool.specs.Report.{path_text};
-ghost use Rattle.oat_tool.specs.Trace.{TracesCase, Traces, ended_with, is_refusal, window_number, part_text, parting_text, parts_from, refuses_one, use_line, want_text};
+ghost use Rattle.oat_tool.specs.Trace.{TracesCase, Traces, part_text, parting_text, parts_from, use_line};
+ghost use Rattle.oat_tool.specs.Windows.{is_refusal};
 ghost use Rattle.oat_tool.specs.Works.{Works, answer_in};
 
 use crate::admit::admit;
 use crate::files::File;
-use crate::page::{Ended, Page, Stop};
+use crate::page::{Page, Stop};
 use crate::pieces::{Pieces, Then, Whole};
 use crate::run_lines::RunLines;
+use crate::windows::{ended_with, is_refusal, want_text, window_number};
 use oat_case::Case;
 use oat_chain::Clash;
 use oat_map::{Edge, Map};
@@ -115,12 +117,6 @@ fn put_part(
     put_parting(text, &shown.verdict, &shown.apart)
 }
 
-fn window_number(calls: Option<u32>, serial: u32) -> Option<u32>
-    ensures { result ≡ window_number calls serial }
-{
-    calls.map(|_| serial)
-}
-
 /// The parts of windows that sealed.
 fn parts_of(
     alloc: Global,
@@ -143,39 +139,10 @@ fn parts_of(
     Ok(text)
 }
 
-fn is_refusal(verdict: &Verdict) -> bool
-    ensures { result ≡ is_refusal verdict.now }
-{
-    matches!(verdict, Verdict::Refuse(_))
-}
-
 fn refuses_one(windows: &[WatchedWindow]) -> bool
-    ensures { result ≡ refuses_one windows.now }
+    ensures { result ≡ list_any (λ shown. is_refusal shown.verdict) windows.now }
 {
     windows.iter().any(|shown| is_refusal(&shown.verdict))
-}
-
-/// How the work ends by the windows that sealed, of so many that the case calls for.
-fn ended_with(calls: Option<u32>, windows: &[WatchedWindow]) -> Ended
-    ensures { result ≡ ended_with calls windows.now }
-{
-    if windows.len() < calls.unwrap_or(1) as usize {
-        return Ended::Unsealed;
-    }
-    if refuses_one(windows) {
-        Ended::Rejected
-    } else {
-        Ended::Done
-    }
-}
-
-fn want_text(alloc: Global, ended: Ended) -> Result<Vec<u8>, AllocError>
-    ensures { IfOk result (λ text. text.items ≡ want_text ended) }
-{
-    match ended {
-        Ended::Unsealed => Vec::from_slice(alloc, b"no blob\n"),
-        Ended::Rejected | Ended::Done => Ok(Vec::new(alloc)),
-    }
 }
 
 /// Makes the run of a case, and gives its page.
@@ -188,9 +155,9 @@ fn trace_case(alloc: Global, shaped: &Shaped, case: &Case) -> Result<Page<RunAnd
     let calls = case.session.calls;
     let windows = watched.windows.as_slice();
     let parts = parts_of(alloc, &shaped.image().map, calls, windows)?;
-    let ended = ended_with(calls, windows);
+    let ended = ended_with(calls, windows.len(), refuses_one(windows));
     let lines = RunLines::of(alloc, watched.outputs.as_slice(), watched.end)?;
-    let said = want_text(alloc, ended)?;
+    let said = Vec::from_slice(alloc, want_text(ended))?;
     Ok(Page {
         ended,
         pieces: Then {

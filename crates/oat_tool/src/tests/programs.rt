@@ -8,11 +8,11 @@ use std::process::Abort;
 use std::test::Fail;
 
 /// An operation with nothing in it, and a main function that calls it.
-const IDLE: &str =
+pub const IDLE: &str =
     "operation 1 idle\nlocal z i64\nblock b0\nret z\nend\nmain\nlocal s i64\nblock b0\ncall s idle\nhalt\nend\n";
 
 /// A loop that scales, clips and adds its inputs.
-const LOOP: &str =
+pub const LOOP: &str =
     "critical limit 50\nglobal total 0\nfunc scale v:i64\nlocal k i64\nlocal r i64\nblock b0\nconst k 3\nmul r v k\nret r\nend\nfunc clip v:i64\nlocal m i64\nlocal c i64\nblock b0\nload m limit\nlt c m v\nbranch c over under\nblock over\nret m\nblock under\nret v\nend\noperation 7 measure n:i64\nlocal i i64\nlocal one i64\nlocal x i64\nlocal c i64\nlocal t i64\nblock b0\nconst one 1\njump test\nblock test\nlt c i n\nbranch c body done\nblock body\nin x\ncall x scale x\ncall x clip x\nload t total\nadd t t x\nstore total t\nout x\nadd i i one\njump test\nblock done\nload t total\nret t\nend\nmain\nlocal n i64\nlocal s i64\nblock b0\nconst n 5\ncall s measure n\nout s\nhalt\nend\n";
 
 /// A function that calls itself.
@@ -89,7 +89,7 @@ const LOOP_PATH: &str =
 /// Runs of programs: a loop; the least number divided by -1, and a division by 0; elements of an array and none; a local
 /// that was never set; an input that isn't there; 256 calls and one more; elements of a critical array. The program, the
 /// case, the run lines and the path lines.
-const RAN: [(&str, &str, &str, &str); 11] = [
+pub const RAN: [(&str, &str, &str, &str); 11] = [
     (
         "S",
         "KS",
@@ -135,7 +135,7 @@ const REFUSED: [(&str, &str); 13] = [
     ("run OVER KA", "refused OVER TooLong 1048576\n"),
 ];
 
-fn program_files(alloc: Global) -> Result<Vec<MemoryFile>, AllocError> {
+pub fn program_files(alloc: Global) -> Result<Vec<MemoryFile>, AllocError> {
     let mut files = Vec::new(alloc);
     for (name, text) in TEXTS {
         files.push(file(alloc, name, text.as_bytes())?)?;
@@ -178,7 +178,7 @@ fn programs_are_run(rt: HostRuntime) -> Result<(), Fail> {
 }
 
 /// What a call puts on its first output.
-fn put_by(alloc: Global, line: &str, files: Vec<MemoryFile>) -> Result<Vec<u8>, AllocError> {
+pub fn put_by(alloc: Global, line: &str, files: Vec<MemoryFile>) -> Result<Vec<u8>, AllocError> {
     let mut files = MemoryFiles::new(files, Vec::new(alloc));
     let mut out = MemorySink::new(4096, Vec::new(alloc));
     let mut err = MemorySink::new(16, Vec::new(alloc));
@@ -187,7 +187,7 @@ fn put_by(alloc: Global, line: &str, files: Vec<MemoryFile>) -> Result<Vec<u8>, 
 }
 
 /// The files of programs, and besides an image and a blob.
-fn files_with(alloc: Global, image: &[u8], blob: &[u8]) -> Result<Vec<MemoryFile>, AllocError> {
+pub fn files_with(alloc: Global, image: &[u8], blob: &[u8]) -> Result<Vec<MemoryFile>, AllocError> {
     let mut files = program_files(alloc)?;
     files.push(file(alloc, "IMAGE", image)?)?;
     files.push(file(alloc, "BLOB", blob)?)?;

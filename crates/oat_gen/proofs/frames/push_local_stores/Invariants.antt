@@ -3,4 +3,4 @@ use Rattle.oat_frames.specs.Code.{local_stores}
 use Rattle.oat_gen.proofs.frames.push_local_stores.Given as goal
 
 abbrev pub invariant-loop-local : goal.invariant-loop-local
-invariant-loop-local l = l.out.items ++ local_stores l.params l.local (l.locals - l.local) ≡ l.initial.out.items ++ local_stores l.params 0 l.locals
+invariant-loop-local l = l.out.items ++ local_stores l.leaf l.params l.local (l.locals - l.local) ≡ l.initial.out.items ++ local_stores l.leaf l.params 0 l.locals

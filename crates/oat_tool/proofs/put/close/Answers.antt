@@ -1,4 +1,4 @@
-use Rattle.std.proofs.Common.{refl, subst, Err}
+use Rattle.std.proofs.Common.{◌∙◌, refl, sym, subst, Err}
 use Rattle.oat_world.specs.declared.sink.SinkFault.{SinkFault}
 use Rattle.oat_tool.specs.Texts.{starved}
 use Rattle.oat_tool.specs.Answer.{shows, as_outcome}
@@ -23,3 +23,16 @@ returns-in-Memory-clause-shows g c = λ text out puts.
     Shows-said _ (record { status = 6; out = front.0; err = starved.err }) out _ _
     (behind (as_outcome (shows c.args.ended text c.args.said.now)) refl front.1 refl refl)
     front.2 c.say_starved.ensures.says
+
+pub returns-in_default-clause-stopped : goal.returns-in_default-clause-stopped
+returns-in_default-clause-stopped g c = λ fault o out failed puts. absurd (let bad = sym c.in_default.is ∙ failed in cc)
+
+pub returns-in-Failed-clause-stopped : goal.returns-in-Failed-clause-stopped
+returns-in-Failed-clause-stopped g c = λ fault o out failed puts.
+    let front = subst (λ (fault : SinkFault). PutsAll o.out out (Err fault)) c.in-Failed.is (subst (PutsAll o.out out) c.in-Err.is puts) in
+    Shows-cut _ o out _ _ _ (ended refl) front.0 front.1
+
+pub returns-in-Memory-clause-stopped : goal.returns-in-Memory-clause-stopped
+returns-in-Memory-clause-stopped g c = λ fault o out failed puts.
+    let front = (subst (λ (fault : SinkFault). PutsAll o.out out (Err fault)) c.in-Memory.is (subst (PutsAll o.out out) c.in-Err.is puts)).1 in
+    Shows-said _ (record { status = 6; out = front.0; err = starved.err }) out _ _ (behind o refl front.1 refl refl) front.2 c.say_starved.ensures.says

@@ -1,11 +1,13 @@
 use Rattle.std.proofs.Common.{◌<◌, ◌∙◌, ◌++◌, ◌+◌, List, length, refl, sym, ap, subst}
+use Rattle.std.proofs.lemmas.List.{length-map}
 use Rattle.oat_image.specs.declared.image.Image.{Image}
 use Rattle.oat_map.specs.Rows.{BeginsAt}
 use Rattle.oat_watch.specs.declared.watched.WatchedWindow.{WatchedWindow}
 use Rattle.oat_tool.specs.Answer.{shows}
 use Rattle.oat_tool.specs.RunText.{run_text}
-use Rattle.oat_tool.specs.Trace.{ended_with, parts_from, want_text}
-use Rattle.oat_tool.proofs.Tracing.{few_windows}
+use Rattle.oat_tool.specs.Trace.{parts_from, verdicts_on}
+use Rattle.oat_tool.specs.Windows.{ended_with, want_text}
+use Rattle.oat_tool.proofs.Windowing.{few_windows, refusals_are}
 use Rattle.oat_tool.proofs.trace.trace_case.Goals as goal
 
 pub parts_of-requires : goal.parts_of-requires
@@ -23,12 +25,14 @@ returns c =
     let watched = c.in_ok-watched.ensures in
     let windows = c.in_ok-watched.watched.windows.items in
     let value = c.as_slice-windows.ensures.value in
-    let ended = c.ended_with-ended.ensures ∙ ap (λ (ws : List WatchedWindow). ended_with calls ws) value in
+    let shown = c.as_slice-windows.result.now in
+    let sealed = sym (length-map shown (λ (w : WatchedWindow). w.verdict)) in
+    let ended = c.ended_with-ended.ensures (verdicts_on shown) sealed (c.refuses_one.ensures ∙ refusals_are shown) ∙ ap (λ (ws : List WatchedWindow). ended_with calls (verdicts_on ws)) value in
     let first = c.in_ok-lines.ensures ∙ ap (λ outputs. run_text outputs c.in_ok-watched.watched.end) (c.as_slice.ensures.value ∙ watched.outputs (at.0 + 4) begins)
     ∙ ap (run_text _) (watched.end (at.0 + 4) begins) in
     let second = c.of-2.ensures ∙ (c.in_ok-parts.ensures ∙ ap (λ (image : Image). parts_from image.map calls 0 c.as_slice-windows.result.now) c.image.ensures.same
     ∙ ap (λ (ws : List WatchedWindow). parts_from flow calls 0 ws) value) in
-    let said = c.in_ok-said.ensures ∙ ap want_text ended in
+    let said = c.in_ok-said.ensures.items ∙ (c.want_text.ensures ∙ ap want_text ended) in
     record {
       begin_at = at.0 + 4;
       begins = begins;

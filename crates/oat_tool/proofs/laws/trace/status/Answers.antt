@@ -2,4 +2,4 @@ use Rattle.oat_tool.proofs.Tracing.{trace_is_shown}
 use Rattle.oat_tool.proofs.laws.trace.status.Goals as goal
 
 pub returns : goal.returns
-returns c = trace_is_shown
+returns c = trace_is_shown c.writes_can_be_made.ensures

@@ -1,0 +1,8 @@
+use Rattle.std.proofs.Common.{take}
+use Rattle.std.specs.List.{All}
+use Rattle.oat_map.specs.Name.{IsName}
+use Rattle.oat_map.specs.declared.map.Block.{Block}
+use Rattle.oat_report.proofs.typed.look_at_blocks.Given as goal
+
+abbrev pub invariant-loop-block : goal.invariant-loop-block
+invariant-loop-block l = All (λ (block : Block). IsName block.label) (take l.block-index l.blocks)
