@@ -119,7 +119,7 @@ pub const RAN: [(&str, &str, &str, &str); 11] = [
 ];
 
 /// Programs that are refused, or their cases: the words, and what is said.
-const REFUSED: [(&str, &str); 13] = [
+const REFUSED: [(&str, &str); 17] = [
     ("build NOWHERE", "refused NOWHERE 3 Unknown\n"),
     ("build PLAIN", "refused PLAIN down more 0 OperationCall\n"),
     ("run GLOBL NOKEY", "refused GLOBL 1 Expected\n"),
@@ -133,6 +133,13 @@ const REFUSED: [(&str, &str); 13] = [
     ("run I NOKEY", "refused NOKEY 5 Missing\n"),
     ("run I KS", "refused KS NoOperation 7\n"),
     ("run OVER KA", "refused OVER TooLong 1048576\n"),
+    ("attest NAME NOKEY", "refused NAME 1 Token\n"),
+    ("attest I KS", "refused KS NoOperation 7\n"),
+    (
+        "attest --json PLAIN KS",
+        "refused PLAIN down more 0 OperationCall\n",
+    ),
+    ("attest --json OVER KA", "refused OVER TooLong 1048576\n"),
 ];
 
 pub fn program_files(alloc: Global) -> Result<Vec<MemoryFile>, AllocError> {
@@ -228,6 +235,8 @@ fn programs_are_refused_by_their_first_fault(rt: HostRuntime) -> Result<(), Fail
 
 #[test]
 fn lines_stop_at_a_put_that_fails(rt: HostRuntime) -> Result<(), Fail> {
-    expect_run(&rt, rt.alloc(), "run S KS", &[1], (5, "out 30\n", ""))?;
+    for line in ["run S KS", "attest S KS"] {
+        expect_run(&rt, rt.alloc(), line, &[1], (5, "out 30\n", ""))?;
+    }
     Ok(())
 }
