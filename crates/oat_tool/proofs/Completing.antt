@@ -1,10 +1,16 @@
 -- Files that are held are answered; and such as the command takes, with a status of work.
-use Rattle.std.proofs.Common.{◌≡◌, ◌∙◌, ◌⊎◌, ℕ, List, [], ◌∷◌, inl, inr, refl, sym, ap, subst}
+use Rattle.std.proofs.Common.{◌≡◌, ◌∙◌, ◌⊎◌, ℕ, List, [], ◌∷◌, Ok, Err, inl, inr, refl, sym, ap, subst}
 use Rattle.oat_world.specs.Outside.{Contents}
 use Rattle.oat_ir.specs.declared.program.Program.{Program}
 use Rattle.oat_image.specs.declared.image.Image.{Image}
 use Rattle.oat_case.specs.declared.case.Case.{Case}
+use Rattle.oat_image.specs.Grammar.{IsImageText}
+use Rattle.oat_owner.specs.declared.device.Known.{Known}
+use Rattle.oat_owner.specs.declared.call.OwnerCall.{OwnerCall}
 use Rattle.oat_policy.specs.declared.policy.PolicyRule.{PolicyRule}
+use Rattle.oat_script.specs.declared.script.Script.{Script}
+use Rattle.oat_script.specs.declared.script.ScriptDevice.{ScriptDevice}
+use Rattle.oat_shape.specs.Shape.{IsShaped}
 use Rattle.hex.specs.Hex.{decode_of}
 use Rattle.oat_measure.specs.declared.opening.Opening.{Opening}
 use Rattle.oat_journal.specs.Measured.{Run}
@@ -23,7 +29,7 @@ use Rattle.oat_tool.specs.Defined.{Does, Defined, done, other}
 use Rattle.oat_tool.specs.DefinedLaws.{IsOfWork}
 use Rattle.oat_tool.specs.Shows.{Put}
 use Rattle.oat_tool.specs.CallLaws.{ShowsJust}
-use Rattle.oat_tool.specs.Completeness.{CallsAreComplete, HeldFilesAreAnswered, ShowsEnd, TakenFilesAreWorkedOn}
+use Rattle.oat_tool.specs.Completeness.{CallsAreComplete, EndsWork, HeldFilesAreAnswered, IsServable, ShowsEnd, TakenFilesAreWorkedOn}
 use Rattle.oat_tool.specs.BlobText.{HasDigits, IsBlobText}
 use Rattle.oat_tool.specs.Admits.{Admits, AreAdmitted}
 use Rattle.oat_tool.specs.Report.{ended_of}
@@ -35,6 +41,8 @@ use Rattle.oat_tool.specs.Device.{Runs, RunsCase, ShowsRun, sealed, unsealed}
 use Rattle.oat_tool.specs.Trace.{Traces, TracesCase}
 use Rattle.oat_tool.specs.Policy.{IsOpenedWith, Polices, with_policy}
 use Rattle.oat_tool.specs.Drill.{Drills}
+use Rattle.oat_tool.specs.Refusals.{RefusesImage, RefusesShape}
+use Rattle.oat_tool.specs.Owner.{AreEnrolled, EnrolmentFails, EnrolmentsFail, IsEnrolled, RepliesTo, Serves, ServesScript, image_file, to_all, to_some}
 use Rattle.oat_tool.specs.Attest.{AreAttestable, AttestsFiles, AttestsProgram, ShowsAttested, ShowsWindows}
 use Rattle.oat_tool.specs.Json.{AttestsInJson, TellsWindows}
 use Rattle.oat_tool.proofs.Apart.{one_command}
@@ -42,7 +50,7 @@ use Rattle.oat_tool.proofs.Refusing.{blob_is_decisive, case_is_decisive, image_i
 use Rattle.oat_tool.proofs.Programming.{case_of_is_decisive, program_is_decisive}
 use Rattle.oat_tool.proofs.Building.{code_is_decisive}
 use Rattle.oat_tool.proofs.Policing.{policy_is_decisive}
-use Rattle.oat_tool.proofs.One.{loads_are_decisive}
+use Rattle.oat_tool.proofs.One.{load_is_decisive, loads_are_decisive}
 use Rattle.oat_tool.proofs.Following.{defined_is_shown}
 
 -- ---- files that are held
@@ -150,6 +158,46 @@ drill_works [] a none = absurd none
 drill_works (n ∷ []) a shown = shown_is_work a _ _ _ shown.is
 drill_works (n ∷ m ∷ numbers) a none = absurd none
 
+-- ---- an owner
+
+image_apart : (file : File) (image : Image) (o : Outcome) → IsImageText file.text image → IsShaped image
+    → First Image Outcome (IsImageText file.text) (IsAnswered (RefusesImage file)) (λ i. IsAnswered (RefusesShape file i)) o → ⊥
+image_apart file image o read shaped (fails answered) = (image_is_decisive file).apart image answered.answer read answered.given
+image_apart file image o read shaped (passes other given answered) =
+    let same : other ≡ image = (image_is_decisive file).one_value other image given read in
+    (shape_is_decisive file image).apart tt answered.answer shaped (subst (λ (i : Image). RefusesShape file i answered.answer) same answered.given)
+
+enrolment_apart : (contents : Contents) (device : ScriptDevice) (known : Known) (o : Outcome) → IsEnrolled contents device known
+    → EnrolmentFails contents ⊥ device o → ⊥
+enrolment_apart contents device known o enrolled (fails failed) =
+    (load_is_decisive contents (image_file device)).apart enrolled.file o enrolled.loaded failed
+enrolment_apart contents device known o enrolled (passes file loaded refused) =
+    let same : enrolled.file ≡ file = (load_is_decisive contents (image_file device)).one_value enrolled.file file enrolled.loaded loaded in
+    image_apart file known.shaped o (subst (λ (f : File). IsImageText f.text known.shaped) same enrolled.read) enrolled.shaped refused
+
+enrolments_apart : (contents : Contents) (devices : List ScriptDevice) (known : List Known) (o : Outcome) → AreEnrolled contents devices known
+    → EnrolmentsFail contents ⊥ devices o → ⊥
+enrolments_apart contents [] known o enrolled none = none
+enrolments_apart contents (d ∷ ds) [] o enrolled failed = enrolled
+enrolments_apart contents (d ∷ ds) (k ∷ ks) o enrolled (fails failed) = enrolment_apart contents d k o enrolled.0 failed
+enrolments_apart contents (d ∷ ds) (k ∷ ks) o enrolled (passes other given later) = enrolments_apart contents ds ks o enrolled.1 later
+
+replies_end : (known : List Known) (calls : List OwnerCall) (o : Outcome) → RepliesTo known calls o → (o.status ≡ 6) ⊎ IsOfWork o.status
+replies_end known calls o (to_all exchanges are all is) = inr (subst (λ (p : Outcome). IsOfWork p.status) (sym is) (inl refl))
+replies_end known calls o (to_some exchanges are later parted is) = inl (ap (λ (p : Outcome). p.status) is)
+
+owner_works : (contents : Contents) (file : File) (o : Outcome) → IsServable contents file → ServesScript contents ⊥ file o
+    → (o.status ≡ 6) ⊎ IsOfWork o.status
+owner_works contents file o served (fails answered) =
+    let refusal = answered.given in
+    let apart : Ok served.script ≡ Err refusal.fault = sym served.read ∙ refusal.first in cc
+owner_works contents file o served (passes script read (fails failed)) =
+    let both : Ok served.script ≡ Ok script = sym served.read ∙ read in
+    let same : served.script ≡ script = cc in
+    absurd (enrolments_apart contents script.devices served.known o
+        (subst (λ (s : Script). AreEnrolled contents s.devices served.known) same served.enrolled) failed)
+owner_works contents file o served (passes script read (passes known enrolled replies)) = replies_end known script.calls o replies
+
 answered_is_work : (Q : Answer → Type 0) (o : Outcome) → ((a : Answer) → Q a → IsOfWork (as_outcome a).status) → IsAnswered Q o → IsOfWork o.status
 answered_is_work Q o works answered = subst (λ (p : Outcome). IsOfWork p.status) (sym answered.is) (works answered.answer answered.given)
 
@@ -166,20 +214,39 @@ taken_files_are_worked_on commands.Trace numbers contents files o (image, case, 
     answered_is_work (Traces files) o (λ a of. trace_works image case i c a admitted (subst (λ (fs : List File). Traces fs a) are of)) does
 taken_files_are_worked_on commands.Policy numbers contents files o (i, c, digits, rules, opened) does =
     answered_is_work (Polices files) o (λ a of. policy_works files i c digits rules a opened of) does
-taken_files_are_worked_on commands.Owner numbers contents files o none does = absurd none
+taken_files_are_worked_on commands.Owner numbers contents files o (file, are, served) does =
+    owner_works contents file o served (subst (λ (fs : List File). Serves contents ⊥ fs o) are does)
 taken_files_are_worked_on commands.Attest numbers contents files o (p, c, held) does =
     answered_is_work (AttestsProgram files) o (λ a of. shown_is_work a _ _ _ (attest_works ShowsWindows files p c a held of).shown) does
 taken_files_are_worked_on commands.AttestJson numbers contents files o (p, c, held) does =
     answered_is_work (AttestsInJson files) o (λ a of. shown_is_work a _ _ _ (attest_works TellsWindows files p c a held of).shown) does
 taken_files_are_worked_on commands.Drill numbers contents files o none does = answered_is_work (Drills numbers) o (drill_works numbers) does
 
+ended_or_wanting : (command : Command) (status : ℕ) → EndsWork command status → (status ≡ 6) ⊎ IsOfWork status
+ended_or_wanting commands.Run status ends = inr ends
+ended_or_wanting commands.Build status ends = inr ends
+ended_or_wanting commands.Verify status ends = inr ends
+ended_or_wanting commands.Device status ends = inr ends
+ended_or_wanting commands.Trace status ends = inr ends
+ended_or_wanting commands.Policy status ends = inr ends
+ended_or_wanting commands.Owner status ends = ends
+ended_or_wanting commands.Attest status ends = inr ends
+ended_or_wanting commands.AttestJson status ends = inr ends
+ended_or_wanting commands.Drill status ends = inr ends
+
+-- What was shown ends work, or tells that memory was wanting.
+shown_ends : (words : List (List ℕ)) (contents : Contents) (command : Command) (held : List File) (out err : Put) (status : ℕ)
+    → ShowsEnd words contents command held out err status → (status ≡ 6) ⊎ IsOfWork status
+    → (status ≡ 6) ⊎ (IsOfWork status × ShowsEnd words contents command held out err status)
+shown_ends words contents command held out err status end (inl six) = inl six
+shown_ends words contents command held out err status end (inr work) = inr (work, end)
+
 pub calls_are_complete : CallsAreComplete
 calls_are_complete words contents files out err status told ran command asked held loaded taken no_fault no_out no_err =
     elim (held_files_are_answered words contents files out err status told ran command asked held loaded no_fault no_out no_err) [
       | inl six ↦ inl six
-      | inr end ↦ inr (
-        subst IsOfWork (sym end.shown.same_status)
-            (taken_files_are_worked_on command (numbers_of words command) contents held end.outcome taken end.does),
-        end,
-      )
+      | inr end ↦
+        let ends = taken_files_are_worked_on command (numbers_of words command) contents held end.outcome taken end.does in
+        shown_ends words contents command held out err status end
+            (ended_or_wanting command status (subst (EndsWork command) (sym end.shown.same_status) ends))
     ]

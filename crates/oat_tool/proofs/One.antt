@@ -42,7 +42,7 @@ held_apart contents wanted f o held (faulted none is) = none
 held_apart contents wanted f o held (long over is) =
     let above : wanted.limit < length f.text = rw held.held at over in omega (arith, above, held.short)
 
-load_is_decisive : (contents : Contents) (wanted : Wanted) → IsDecisive File Outcome (IsLoaded contents wanted) (LoadFails contents ⊥ wanted)
+pub load_is_decisive : (contents : Contents) (wanted : Wanted) → IsDecisive File Outcome (IsLoaded contents wanted) (LoadFails contents ⊥ wanted)
 load_is_decisive contents wanted = record {
   one_value = one_held contents wanted;
   one_failure = one_failure contents wanted;

@@ -1,10 +1,13 @@
 -- Completeness: what is answered to files that are held within their limits, where no count rises (docs/PROMISES.md).
-use Rattle.std.specs.Prelude.{◌≡◌, ◌⊎◌, ℕ, List, [], ◌∷◌}
+use Rattle.std.specs.Prelude.{◌≡◌, ◌⊎◌, ℕ, List, [], ◌∷◌, Ok}
 use Rattle.oat_world.specs.Outside.{Contents, Rose}
 use Rattle.oat_ir.specs.declared.program.Program.{Program}
 use Rattle.oat_image.specs.declared.image.Image.{Image}
 use Rattle.oat_case.specs.declared.case.Case.{Case}
+use Rattle.oat_owner.specs.declared.device.Known.{Known}
 use Rattle.oat_policy.specs.declared.policy.PolicyRule.{PolicyRule}
+use Rattle.oat_script.specs.declared.script.Script.{Script}
+use Rattle.oat_script.specs.Reading.{script_of}
 use Rattle.oat_tool.specs.declared.command.Command.{Command}
 use Rattle.oat_tool.specs.declared.command.Command.TheVariants.{Run, Build, Verify, Device, Trace, Policy, Owner, Attest, AttestJson, Drill}
 use Rattle.oat_tool.specs.Outcome.{Outcome}
@@ -14,6 +17,7 @@ use Rattle.oat_tool.specs.Admits.{AreAdmitted}
 use Rattle.oat_tool.specs.Programs.{IsCheckedText, IsCaseOf}
 use Rattle.oat_tool.specs.Build.{CodeFits}
 use Rattle.oat_tool.specs.Attest.{AreAttestable}
+use Rattle.oat_tool.specs.Owner.{AreEnrolled}
 use Rattle.oat_tool.specs.Policy.{IsOpenedWith}
 use Rattle.oat_tool.specs.Verify.{IsOpened}
 use Rattle.oat_tool.specs.Defined.{Does}
@@ -33,29 +37,41 @@ HeldFilesAreAnswered = OfCalls (λ words contents files out err status.
     (command : Command) → IsLine words command → (held : List File) → AreLoaded contents (files_of words command) held
     → ¬ Rose files.before files.after → ¬ HasFailed out → ¬ HasFailed err → (status ≡ 6) ⊎ ShowsEnd words contents command held out err status)
 
+-- The file is a script, and the files of its devices' images are held, with an image that has the shape in each.
+pub record IsServable (contents : Contents) (file : File) : Type 0 where
+  pub script : Script
+  pub read : script_of file.text ≡ Ok script
+  pub known : List Known
+  pub enrolled : AreEnrolled contents script.devices known
+
 -- The files are such as the command takes: texts in their grammars, a program that keeps the checking rules or an image that has the shape, an operation
--- that is there, and code that fits. Of an owner nothing is claimed here: a script names further files, and its replies end where memory is wanting.
-abbrev pub AreTaken : Command → List File → Type 0
-AreTaken Run files =
+-- that is there, and code that fits.
+abbrev pub AreTaken : Command → Contents → List File → Type 0
+AreTaken Run contents files =
     (program case : File) × (files ≡ program ∷ case ∷ []) × (p : Program) × IsCheckedText program.text p × (c : Case) × IsCaseOf p case.text c
-AreTaken Build files = (program : File) × (files ≡ program ∷ []) × (p : Program) × IsCheckedText program.text p × CodeFits p
-AreTaken Verify files = (i : Image) × (c : Case) × (digits : List ℕ) × IsOpened files i c digits
-AreTaken Device files = (image case : File) × (files ≡ image ∷ case ∷ []) × (i : Image) × (c : Case) × AreAdmitted image case i c
-AreTaken Trace files = (image case : File) × (files ≡ image ∷ case ∷ []) × (i : Image) × (c : Case) × AreAdmitted image case i c
-AreTaken Policy files = (i : Image) × (c : Case) × (digits : List ℕ) × (rules : List PolicyRule) × IsOpenedWith files i c digits rules
-AreTaken Owner files = ⊥
-AreTaken Attest files = (p : Program) × (c : Case) × AreAttestable files p c
-AreTaken AttestJson files = (p : Program) × (c : Case) × AreAttestable files p c
-AreTaken Drill files = files ≡ []
+AreTaken Build contents files = (program : File) × (files ≡ program ∷ []) × (p : Program) × IsCheckedText program.text p × CodeFits p
+AreTaken Verify contents files = (i : Image) × (c : Case) × (digits : List ℕ) × IsOpened files i c digits
+AreTaken Device contents files = (image case : File) × (files ≡ image ∷ case ∷ []) × (i : Image) × (c : Case) × AreAdmitted image case i c
+AreTaken Trace contents files = (image case : File) × (files ≡ image ∷ case ∷ []) × (i : Image) × (c : Case) × AreAdmitted image case i c
+AreTaken Policy contents files = (i : Image) × (c : Case) × (digits : List ℕ) × (rules : List PolicyRule) × IsOpenedWith files i c digits rules
+AreTaken Owner contents files = (file : File) × (files ≡ file ∷ []) × IsServable contents file
+AreTaken Attest contents files = (p : Program) × (c : Case) × AreAttestable files p c
+AreTaken AttestJson contents files = (p : Program) × (c : Case) × AreAttestable files p c
+AreTaken Drill contents files = files ≡ []
+
+-- The work of a command ends with such a status; that of an owner may end where memory is wanting, behind some replies.
+abbrev pub EndsWork : Command → (status : ℕ) → Type 0
+EndsWork Owner status = (status ≡ 6) ⊎ IsOfWork status
+EndsWork _ status = IsOfWork status
 
 -- Behind such files the command ends with a status of work.
 abbrev pub TakenFilesAreWorkedOn : Type 0
-TakenFilesAreWorkedOn = (command : Command) (numbers : List ℕ) (contents : Contents) (files : List File) (o : Outcome) → AreTaken command files
-    → Does command numbers contents ⊥ files o → IsOfWork o.status
+TakenFilesAreWorkedOn = (command : Command) (numbers : List ℕ) (contents : Contents) (files : List File) (o : Outcome) → AreTaken command contents files
+    → Does command numbers contents ⊥ files o → EndsWork command o.status
 
 -- So where such files are held and no count rose, the status is 0, 1 or 7 as defined, or memory was wanting.
 abbrev pub CallsAreComplete : Type 0
 CallsAreComplete = OfCalls (λ words contents files out err status.
-    (command : Command) → IsLine words command → (held : List File) → AreLoaded contents (files_of words command) held → AreTaken command held
+    (command : Command) → IsLine words command → (held : List File) → AreLoaded contents (files_of words command) held → AreTaken command contents held
     → ¬ Rose files.before files.after → ¬ HasFailed out → ¬ HasFailed err
     → (status ≡ 6) ⊎ (IsOfWork status × ShowsEnd words contents command held out err status))
