@@ -5,12 +5,12 @@ use std::alloc::{AllocError, Global};
 use std::test::Fail;
 
 /// The path of the run of the image of calls: what stands in front of the second return, and the rest.
-const FRONT: &str = "call work#0 helper\nret helper#0 work#0\ncall work#1 helper\n";
+pub const FRONT: &str = "call work#0 helper\nret helper#0 work#0\ncall work#1 helper\n";
 
-const REST: &str =
+pub const REST: &str =
     "ret helper#0 work#1\nicall work#2 up\nret up#0 work#2\nbranch work#3 1 work.yes\njump work.yes#0 work.done\nend 2\n";
 
-const DOWN_REST: &str =
+pub const DOWN_REST: &str =
     "ret helper#0 work#1\nicall work#2 down\nret down#0 work#2\nbranch work#3 0 work.done\nend 2\n";
 
 const SEVEN: &str = "out 7\nended halted\n";
@@ -146,7 +146,7 @@ const TRACED: [(&str, u8, &[&str]); 11] = [
     ),
 ];
 
-fn joined(alloc: Global, parts: &[&str]) -> Result<String, AllocError> {
+pub fn joined(alloc: Global, parts: &[&str]) -> Result<String, AllocError> {
     let mut text = String::new(alloc);
     for part in parts {
         text.push_str(part)?;
