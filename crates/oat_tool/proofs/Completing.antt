@@ -195,7 +195,7 @@ owner_works contents file o served (passes script read (fails failed)) =
     let both : Ok served.script ≡ Ok script = sym served.read ∙ read in
     let same : served.script ≡ script = cc in
     absurd (enrolments_apart contents script.devices served.known o
-        (subst (λ (s : Script). AreEnrolled contents s.devices served.known) same served.enrolled) failed)
+    (subst (λ (s : Script). AreEnrolled contents s.devices served.known) same served.enrolled) failed)
 owner_works contents file o served (passes script read (passes known enrolled replies)) = replies_end known script.calls o replies
 
 answered_is_work : (Q : Answer → Type 0) (o : Outcome) → ((a : Answer) → Q a → IsOfWork (as_outcome a).status) → IsAnswered Q o → IsOfWork o.status
@@ -246,7 +246,7 @@ calls_are_complete words contents files out err status told ran command asked he
     elim (held_files_are_answered words contents files out err status told ran command asked held loaded no_fault no_out no_err) [
       | inl six ↦ inl six
       | inr end ↦
-        let ends = taken_files_are_worked_on command (numbers_of words command) contents held end.outcome taken end.does in
-        shown_ends words contents command held out err status end
-            (ended_or_wanting command status (subst (EndsWork command) (sym end.shown.same_status) ends))
+          let ends = taken_files_are_worked_on command (numbers_of words command) contents held end.outcome taken end.does in
+          shown_ends words contents command held out err status end
+          (ended_or_wanting command status (subst (EndsWork command) (sym end.shown.same_status) ends))
     ]

@@ -10,7 +10,7 @@ pub const FRONT: &str = "call work#0 helper\nret helper#0 work#0\ncall work#1 he
 pub const REST: &str =
     "ret helper#0 work#1\nicall work#2 up\nret up#0 work#2\nbranch work#3 1 work.yes\njump work.yes#0 work.done\nend 2\n";
 
-pub const DOWN_REST: &str =
+const DOWN_REST: &str =
     "ret helper#0 work#1\nicall work#2 down\nret down#0 work#2\nbranch work#3 0 work.done\nend 2\n";
 
 const SEVEN: &str = "out 7\nended halted\n";

@@ -13,4 +13,4 @@ returns-in-Accepted g c =
     (accepted_lines c.args.owner.now c.args.answer.now arm.number arm.path c.shaped.result.now arm.is c.shaped.ensures) edges
 
 pub shaped-requires : goal.shaped-requires
-shaped-requires g c = c.requires c.in-Accepted.number c.in-Accepted.path (ap replies.Answer c.in-Accepted.is)
+shaped-requires g c = omega (arith, c.requires c.in-Accepted.number c.in-Accepted.path (ap replies.Answer c.in-Accepted.is))
