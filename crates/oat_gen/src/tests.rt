@@ -131,17 +131,10 @@ fn scales(alloc: Global) -> Result<Program, Fail> {
 }
 
 /// The loads and the stores off SP.
-fn off_stack(items: &[Item]) -> (u32, u32) {
-    let mut loads = 0;
-    let mut stores = 0;
-    for item in items {
-        match item {
-            Item::Inst(Inst::Ldr { rn: 31, .. }) => loads += 1,
-            Item::Inst(Inst::Str { rn: 31, .. }) => stores += 1,
-            _ => {}
-        }
-    }
-    (loads, stores)
+fn off_stack(items: &[Item]) -> (usize, usize) {
+    let loads = items.iter().filter(|item| matches!(item, Item::Inst(Inst::Ldr { rn: 31, .. })));
+    let stores = items.iter().filter(|item| matches!(item, Item::Inst(Inst::Str { rn: 31, .. })));
+    (loads.count(), stores.count())
 }
 
 #[test]
