@@ -163,8 +163,8 @@ drill_works (n ∷ m ∷ numbers) a none = absurd none
 image_apart : (file : File) (image : Image) (o : Outcome) → IsImageText file.text image → IsShaped image
     → First Image Outcome (IsImageText file.text) (IsAnswered (RefusesImage file)) (λ i. IsAnswered (RefusesShape file i)) o → ⊥
 image_apart file image o read shaped (fails answered) = (image_is_decisive file).apart image answered.answer read answered.given
-image_apart file image o read shaped (passes other given answered) =
-    let same : other ≡ image = (image_is_decisive file).one_value other image given read in
+image_apart file image o read shaped (passes found given answered) =
+    let same : found ≡ image = (image_is_decisive file).one_value found image given read in
     (shape_is_decisive file image).apart tt answered.answer shaped (subst (λ (i : Image). RefusesShape file i answered.answer) same answered.given)
 
 enrolment_apart : (contents : Contents) (device : ScriptDevice) (known : Known) (o : Outcome) → IsEnrolled contents device known
@@ -180,7 +180,7 @@ enrolments_apart : (contents : Contents) (devices : List ScriptDevice) (known : 
 enrolments_apart contents [] known o enrolled none = none
 enrolments_apart contents (d ∷ ds) [] o enrolled failed = enrolled
 enrolments_apart contents (d ∷ ds) (k ∷ ks) o enrolled (fails failed) = enrolment_apart contents d k o enrolled.0 failed
-enrolments_apart contents (d ∷ ds) (k ∷ ks) o enrolled (passes other given later) = enrolments_apart contents ds ks o enrolled.1 later
+enrolments_apart contents (d ∷ ds) (k ∷ ks) o enrolled (passes found given later) = enrolments_apart contents ds ks o enrolled.1 later
 
 replies_end : (known : List Known) (calls : List OwnerCall) (o : Outcome) → RepliesTo known calls o → (o.status ≡ 6) ⊎ IsOfWork o.status
 replies_end known calls o (to_all exchanges are all is) = inr (subst (λ (p : Outcome). IsOfWork p.status) (sym is) (inl refl))

@@ -1,8 +1,10 @@
 -- The room of `policy`: where its work stops and goes on, and that it has one answer.
-use Rattle.std.proofs.Common.{Bool, ◌≡◌, ◌≢◌, ◌≤◌, ◌∙◌, ℕ, List, [], ◌∷◌, length, sym, ap, arith}
+use Rattle.std.proofs.Common.{Bool, ◌≡◌, ◌≢◌, ◌<◌, ◌≤◌, ◌∙◌, ℕ, List, [], ◌∷◌, ◌++◌, length, length-append, sym, ap, arith}
 use Rattle.oat_map.specs.declared.edge.Edge.{Edge}
 use Rattle.oat_map.specs.declared.map.Map.{Map}
+use Rattle.oat_replay.specs.declared.replay.Replay.{Replay}
 use Rattle.oat_replay.specs.Replay.{IsWalked}
+use Rattle.oat_replay.specs.StandsBehind.{StandsBehind}
 use Rattle.oat_map.specs.Walk.{Step, passed, moved, path_of}
 use Rattle.oat_image.specs.declared.image.Image.{Image}
 use Rattle.oat_case.specs.declared.case.Case.{Case}
@@ -17,7 +19,9 @@ use Rattle.oat_lines.proofs.Steps.{is_fault}
 use Rattle.oat_policy.specs.declared.fault.PolicyFaultKind.{PolicyFaultKind}
 use Rattle.oat_policy.specs.declared.policy.PolicyRule.{PolicyRule}
 use Rattle.oat_policy.specs.FaultText.{policy_fault_word}
+use Rattle.oat_policy.specs.declared.watch.Watch.{Watch}
 use Rattle.oat_policy.specs.Reading.{policy_of}
+use Rattle.oat_policy.specs.Standing.{HasSeen}
 use Rattle.oat_first.specs.First.{First, fails, passes, IsOne, IsDecisive}
 use Rattle.oat_first.proofs.FirstLaws.{First-one}
 use Rattle.oat_tool.specs.declared.page.Stop.{Stop}
@@ -32,6 +36,7 @@ use Rattle.oat_tool.specs.Works.{StopsWith}
 use Rattle.oat_tool.proofs.Working.{StopsWith-more}
 use Rattle.oat_tool.proofs.Refusing.{ok_one, err_one, never, blob_is_decisive}
 use Rattle.oat_tool.proofs.Admitting.{Admits-rejected, Admits-admitted, Admits-one}
+use Rattle.oat_tool.proofs.Retracing.{path_pushed}
 use Rattle.oat_tool.proofs.Verifying.{one_report}
 
 -- ---- the policy's file gives one policy, or is refused in one way
@@ -60,6 +65,24 @@ pub walked_is_short : (flow : Map) (op : ℕ) (bits : List Bool) (targets : List
 walked_is_short flow op bits targets path walked =
     let short = path_is_short walked.steps in
     rw walked.path_is (omega (arith, short, walked.within))
+
+-- the steps that a replay made before a turn, whose edges a policy's watch has seen
+pub record WatchesSoFar (rules : List PolicyRule) (flow : Map) (op : ℕ) (bits : List Bool) (targets : List ℕ) (replay : Replay) (watch : Watch) (turn : ℕ) : Type 0 where
+  pub steps : List Step
+  pub behind : StandsBehind flow op bits targets replay steps
+  pub seen : HasSeen watch rules flow (path_of steps)
+  pub turn_is : turn ≡ length steps
+
+pub followed_is_short : (flow : Map) (op : ℕ) (bits : List Bool) (targets : List ℕ) (replay : Replay) (steps : List Step)
+    → StandsBehind flow op bits targets replay steps → length (path_of steps) ≤ 4194304
+followed_is_short flow op bits targets replay steps behind = let short = path_is_short steps in omega (arith, short, behind.follows.within)
+
+-- where one more edge makes no longer path than there may be, the watch takes it
+pub has_room : (watch : Watch) (rules : List PolicyRule) (flow : Map) (steps : List Step) (edge : Edge)
+    → HasSeen watch rules flow (path_of steps) → length (path_of (steps ++ moved edge ∷ [])) ≤ 4194304 → watch.given < 4194304
+has_room watch rules flow steps edge seen short =
+    let longer = ap (λ (path : List Edge). length path) (path_pushed steps edge) ∙ length-append (path_of steps) (edge ∷ []) in
+    omega (arith, short, longer, seen.given)
 
 -- ---- where the work stops, and where it goes on to the verdict
 

@@ -21,10 +21,10 @@ goes_on flow op bits targets path replay steps walked stands =
     let front = followers_are_fronts flow op bits targets path walked steps replay.place stands.bits_left stands.targets_left stands.follows in
     (path_of front.0, walked.path_is ∙ (ap path_of front.1 ∙ filter_map-append edge_of steps front.0))
 
-path_pushed : (steps : List Step) (edge : Edge) → path_of (steps ++ moved edge ∷ []) ≡ path_of steps ++ edge ∷ []
+pub path_pushed : (steps : List Step) (edge : Edge) → path_of (steps ++ moved edge ∷ []) ≡ path_of steps ++ edge ∷ []
 path_pushed steps edge = filter_map-append edge_of steps (moved edge ∷ [])
 
-path_passed : (steps : List Step) → path_of (steps ++ passed ∷ []) ≡ path_of steps
+pub path_passed : (steps : List Step) → path_of (steps ++ passed ∷ []) ≡ path_of steps
 path_passed steps = filter_map-append edge_of steps (passed ∷ []) ∙ append-nil (path_of steps)
 
 text_joined : (flow : Map) (first second : List Edge) → path_text flow (first ++ second) ≡ path_text flow first ++ path_text flow second

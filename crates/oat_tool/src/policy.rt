@@ -1,11 +1,13 @@
-ghost use Rattle.std.specs.Prelude.{◌≡◌, ◌≢◌, ◌<◌, ◌⊎◌, map, IfOk, IsSome, MatchResult};
+ghost use Rattle.std.specs.Prelude.{◌≡◌, ◌≢◌, ◌<◌, ◌⊎◌, List, map, IfOk, IsSome, MatchResult};
 ghost use Rattle.oat_world.specs.Outside.{Rose};
 ghost use Rattle.oat_lines.specs.declared.fault.Fault.TheVariants.{Memory};
 ghost use Rattle.oat_lines.specs.FaultText.{fault_text};
+ghost use Rattle.oat_map.specs.declared.edge.Edge.{Edge};
 ghost use Rattle.oat_map.specs.Rows.{IsOperation, start};
 ghost use Rattle.oat_verify.specs.declared.verdict.Verdict.{Verdict};
 ghost use Rattle.oat_verify.specs.Verdict.{subject_of};
 ghost use Rattle.oat_policy.specs.FaultText.{policy_fault_word};
+ghost use Rattle.oat_policy.specs.Verdict.{verdict_of};
 ghost use Rattle.oat_tool.specs.declared.command.Command.TheVariants as commands;
 ghost use Rattle.oat_tool.specs.Answer.{IsAnswered};
 ghost use Rattle.oat_tool.specs.BlobText.{AreDigits};
@@ -13,7 +15,7 @@ ghost use Rattle.oat_tool.specs.Call.{put_of};
 ghost use Rattle.oat_tool.specs.Outcome.{line};
 ghost use Rattle.oat_tool.specs.Commands.{policy_limit, limits_of};
 ghost use Rattle.oat_tool.specs.Pieces.{turns_of_some};
-ghost use Rattle.oat_tool.specs.Settles.{HasPath, OnDigits, PutsReport, ShowsOnDigits, TellsVerdict};
+ghost use Rattle.oat_tool.specs.Settles.{HasPath, IsPathOf, OnDigits, PutsReport, ShowsOnDigits, TellsVerdict};
 ghost use Rattle.oat_tool.specs.Shows.{Shows};
 ghost use Rattle.oat_tool.specs.Works.{IsRefusal, StopsWith};
 ghost use Rattle.oat_tool.specs.Policy.{IsPolicyText, RefusesPolicy, said_of, policy_text, said_text, ended_by, ConcludesWith, IsOpenedWith, Polices, SettlesWith};
@@ -25,12 +27,12 @@ use crate::inputs::digits_of;
 use crate::page::{Ended, Stop};
 use crate::pieces::Pieces;
 use crate::put::{close, put_pieces, say_starved, say_stop};
-use crate::report::put_report;
+use crate::report::{PATH_LIMIT, put_report};
 use crate::texts::refused;
 use oat_case::Session;
-use oat_feed::{FeedVerdict, Settled};
-use oat_policy::{Policy, PolicyFault, PolicyVerdict, read_policy, verdict_on};
-use oat_replay::{WalkFault, walk};
+use oat_feed::{FeedVerdict, Kept, Settled};
+use oat_policy::{Policy, PolicyFault, PolicyVerdict, Watch, read_policy};
+use oat_replay::{Replay, Turn};
 use oat_shape::Shaped;
 use oat_world::{Sink, SinkFault};
 use std::alloc::{AllocError, Global};
@@ -91,6 +93,35 @@ fn policy_in(alloc: Global, file: &File) -> Result<Policy, Stop>
     }
 }
 
+/// What a policy says of the path of the walk with these records, each edge as the replay finds it.
+fn said_of_walk(
+    alloc: Global,
+    policy: &Policy,
+    shaped: &Shaped,
+    op: u16,
+    kept: &Kept,
+) -> Result<PolicyVerdict, AllocError>
+    requires begun { IsSome (start shaped.now.map.rows op) }
+    requires walked { (path : List Edge) × IsPathOf shaped.now.map op kept.now path }
+    ensures { (path : List Edge) → IsPathOf shaped.now.map op kept.now path → IfOk result (λ said. said ≡ verdict_of shaped.now.map policy.now path) }
+{
+    let map = &shaped.image().map;
+    let mut replay = Replay::new(alloc, map, op)?;
+    let mut watch = Watch::new(alloc, policy, map)?;
+    for turn in 0..PATH_LIMIT + 1 {
+        match replay.turn(kept) {
+            Turn::Moved(edge) => watch.edge(&edge),
+            Turn::Passed => {}
+            Turn::Done(edge) => {
+                watch.edge(&edge);
+                return Ok(watch.finish());
+            }
+            Turn::Stuck(_) => unreachable!(),
+        }
+    }
+    unreachable!()
+}
+
 /// What a policy says of the path of an acceptance.
 fn said_of(
     alloc: Global,
@@ -103,14 +134,12 @@ fn said_of(
     requires path { HasPath shaped.now.map op settled.now }
     ensures { (verdict : Verdict) → TellsVerdict shaped.now.map op settled.now verdict → IfOk result (λ said. said ≡ said_of shaped.now.map policy.now verdict) }
 {
-    let FeedVerdict::Accept = settled.verdict else {
-        return Ok(None);
-    };
-    let map = &shaped.image().map;
-    match walk(alloc, map, op, &settled.kept) {
-        Ok(path) => Ok(Some(verdict_on(alloc, policy, map, path.as_slice())?)),
-        Err(WalkFault::Stuck { .. }) => unreachable!(),
-        Err(WalkFault::Memory) => Err(AllocError),
+    match settled.verdict {
+        FeedVerdict::Accept => {
+            let said = said_of_walk(alloc, policy, shaped, op, &settled.kept)?;
+            Ok(Some(said))
+        }
+        FeedVerdict::Refuse(_) => Ok(None),
     }
 }
 

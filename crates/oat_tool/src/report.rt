@@ -22,7 +22,7 @@ use oat_world::{Sink, SinkFault};
 use std::alloc::{AllocError, Global};
 
 /// The most turns of a replay that lead on.
-const PATH_LIMIT: u32 = 4_194_304;
+pub const PATH_LIMIT: u32 = 4_194_304;
 
 /// The line of a verdict.
 fn line_of(alloc: Global, number: Option<u32>, verdict: &Verdict) -> Result<Vec<u8>, AllocError>

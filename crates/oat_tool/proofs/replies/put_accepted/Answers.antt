@@ -1,4 +1,4 @@
-use Rattle.std.proofs.Common.{ℕ, List, ap, subst}
+use Rattle.std.proofs.Common.{ℕ, List, ap, arith, subst}
 use Rattle.oat_owner.specs.declared.call.OwnerReply.TheVariants as replies
 use Rattle.oat_tool.specs.Call.{put_of}
 use Rattle.oat_tool.specs.Puts.{PutsAll}
