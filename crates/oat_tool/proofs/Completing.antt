@@ -16,7 +16,6 @@ use Rattle.oat_measure.specs.declared.opening.Opening.{Opening}
 use Rattle.oat_journal.specs.Measured.{Run}
 use Rattle.oat_attestation.specs.declared.attested.Attested.{Attested}
 use Rattle.oat_first.specs.First.{First, fails, passes, IsDecisive}
-use Rattle.oat_first.proofs.FirstLaws.{First-through}
 use Rattle.oat_tool.specs.declared.command.Command.{Command}
 use Rattle.oat_tool.specs.declared.command.Command.TheVariants as commands
 use Rattle.oat_tool.specs.declared.page.Ended.{Ended}

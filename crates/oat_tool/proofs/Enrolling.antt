@@ -18,7 +18,7 @@ use Rattle.oat_tool.specs.Loads.{File, IsLoaded}
 use Rattle.oat_tool.specs.Refusals.{RefusesImage, RefusesShape}
 use Rattle.oat_tool.specs.Works.{StopsWith, HaltsWith, halt_of, IsReadFault, IsHaltOutcome}
 use Rattle.oat_tool.specs.Owner.{image_file, IsEnrolled, EnrolmentFails, AreEnrolled, EnrolmentsFail}
-use Rattle.oat_tool.proofs.Holding.{HaltsWith-more, LoadFails-more}
+use Rattle.oat_tool.proofs.Holding.{LoadFails-more}
 
 -- ---- stops that halt
 

@@ -1,6 +1,6 @@
 -- The room of `trace`: it has one answer, since the windows of a run are told in one way.
 use Rattle.std.proofs.Common.{◌≡◌, ◌+◌, ◌-◌, ◌<◌, ◌++◌, ◌∙◌, ℕ, suc, List, [], ◌∷◌, length, map, get_or, Option, Some, None, inl, inr, refl, sym, ap, subst, arith, length-append}
-use Rattle.std.specs.Prelude.{slice_get, ◌||◌, if◌then◌else◌, nat_lt, unwrap_or}
+use Rattle.std.specs.Prelude.{slice_get}
 use Rattle.std.specs.List.{flat_map}
 use Rattle.std.proofs.lemmas.Bool.{cases_lt}
 use Rattle.std.proofs.lemmas.List.{get_or-append-add}
@@ -34,7 +34,6 @@ use Rattle.oat_watch.specs.declared.watched.CheckedUse.{CheckedUse as ShownUse}
 use Rattle.oat_watch.specs.declared.watched.WatchedWindow.{WatchedWindow}
 use Rattle.oat_watch.specs.Shown.{use_of}
 use Rattle.oat_watch.specs.Watching.{HasItsVerdict, PartsFrom}
-use Rattle.oat_tool.specs.declared.page.Ended.TheVariants.{Done, Rejected, Unsealed}
 use Rattle.oat_tool.specs.Outcome.{line}
 use Rattle.oat_tool.specs.Answer.{Answer, shows}
 use Rattle.oat_tool.specs.Report.{path_text}

@@ -1,9 +1,9 @@
 -- What the statuses of `owner` say, what of its replies is put, and what its acceptances are good for.
-use Rattle.std.proofs.Common.{◌≡◌, ◌≢◌, ◌∙◌, ◌⊎◌, ℕ, List, [], ◌∷◌, ◌++◌, Option, Some, take, slice_get, inl, inr, refl, sym, ap, subst, arith}
+use Rattle.std.proofs.Common.{◌≡◌, ◌∙◌, ◌⊎◌, ℕ, List, [], ◌∷◌, Option, Some, take, inl, inr, sym, ap, subst, arith}
 use Rattle.std.specs.Prelude.{◌==◌}
 use Rattle.std.proofs.lemmas.Bool.{cases_Bool}
 use Rattle.std.proofs.lemmas.List.{append-nil}
-use Rattle.oat_world.specs.Outside.{Contents, Adds}
+use Rattle.oat_world.specs.Outside.{Contents}
 use Rattle.oat_first.specs.First.{fails, passes}
 use Rattle.oat_map.specs.declared.edge.Edge.{Edge}
 use Rattle.oat_verify.specs.Verdict.{subject_of}
@@ -23,8 +23,8 @@ use Rattle.oat_tool.specs.Texts.{starved}
 use Rattle.oat_tool.specs.Loads.{File, AreLoaded}
 use Rattle.oat_tool.specs.Commands.{IsLine, files_of}
 use Rattle.oat_tool.specs.Defined.{Ends, Defined, done, other}
-use Rattle.oat_tool.specs.Owner.{IsEnrolled, AreEnrolled, RepliesTo, to_all, to_some, replied_calls, Serves}
-use Rattle.oat_tool.specs.OwnerLaws.{IsReplied, accepting, IsOfRuns, ScriptIsServed, WantIsBehindReplies, RefusalComesFirst, ServedIsPut, RepliesArePut, NumbersAreAcceptedOnce, AcceptancesAreOfRuns}
+use Rattle.oat_tool.specs.Owner.{IsEnrolled, AreEnrolled, to_all, to_some, replied_calls, Serves}
+use Rattle.oat_tool.specs.OwnerLaws.{IsReplied, IsOfRuns, ScriptIsServed, WantIsBehindReplies, RefusalComesFirst, ServedIsPut, RepliesArePut, NumbersAreAcceptedOnce, AcceptancesAreOfRuns}
 use Rattle.oat_tool.specs.Puts.{PutsFront}
 use Rattle.oat_tool.proofs.Apart.{one_command}
 use Rattle.oat_tool.proofs.Following.{whole_is_put, front_is_put, nothing_put}

@@ -1,8 +1,8 @@
 -- How replies that are put one after another add up, and where they stop.
-use Rattle.std.proofs.Common.{◌≡◌, ◌∙◌, ◌<◌, ◌≤◌, ◌+◌, ℕ, List, [], ◌∷◌, ◌++◌, length, map, take, drop, get_or, Option, Some, Result, Ok, Err, refl, sym, ap, subst, append_assoc}
+use Rattle.std.proofs.Common.{◌≡◌, ◌∙◌, ◌<◌, ◌+◌, ℕ, List, [], ◌∷◌, ◌++◌, length, take, drop, get_or, Option, Some, Result, Ok, Err, refl, sym, ap, subst, append_assoc}
 use Rattle.std.proofs.lemmas.Grind.{flat_map-append}
 use Rattle.std.proofs.lemmas.List.{append-nil, drop_more, take_more, take-append-drop, map-append}
-use Rattle.oat_world.specs.Outside.{Adds, Rose}
+use Rattle.oat_world.specs.Outside.{Adds}
 use Rattle.oat_world.specs.declared.sink.SinkFault.{SinkFault}
 use Rattle.oat_world.specs.declared.sink.SinkFault.TheVariants as sink
 use Rattle.oat_map.specs.declared.edge.Edge.{Edge}

@@ -1,6 +1,6 @@
 -- The outcomes of `owner` are orderly: a count that rose gives a read fault and nothing else new, refusals are quiet, and a read fault
 -- is that of a device's image.
-use Rattle.std.proofs.Common.{◌≡◌, ◌∙◌, ◌<◌, ◌⊎◌, ℕ, suc, List, [], ◌∷◌, Ok, Contains, inl, inr, refl, sym, ap, subst, arith}
+use Rattle.std.proofs.Common.{◌≡◌, ◌∙◌, ◌<◌, ◌⊎◌, ℕ, suc, List, [], ◌∷◌, Contains, inl, inr, refl, sym, ap, subst, arith}
 use Rattle.oat_world.specs.Outside.{Contents}
 use Rattle.oat_first.specs.First.{fails, passes}
 use Rattle.oat_owner.specs.declared.device.Known.{Known}
@@ -10,7 +10,7 @@ use Rattle.oat_tool.specs.Outcome.{Outcome, says}
 use Rattle.oat_tool.specs.Texts.{read_fault}
 use Rattle.oat_tool.specs.Answer.{Answer, refuses, as_outcome, IsAnswered}
 use Rattle.oat_tool.specs.Loads.{Wanted, File, LoadFails, LoadsFail, absent, faulted, long}
-use Rattle.oat_tool.specs.Owner.{RefusesScript, image_file, EnrolmentFails, EnrolmentsFail, RepliesTo, to_all, to_some, Serves, NamesImage, NamesImageIn}
+use Rattle.oat_tool.specs.Owner.{RefusesScript, image_file, EnrolmentFails, EnrolmentsFail, RepliesTo, to_all, to_some, Serves, NamesImage}
 use Rattle.oat_tool.proofs.Enrolling.{EnrolmentFails-more}
 use Rattle.oat_tool.proofs.Orders.{TellsFault, IsFurtherFault, IsOrderly, no_fault}
 

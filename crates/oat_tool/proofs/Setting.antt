@@ -1,8 +1,7 @@
 -- What follows from the outcome that a call set out for.
-use Rattle.std.proofs.Common.{◌≡◌, ◌∙◌, ◌<◌, ◌⊎◌, ℕ, List, [], ◌∷◌, None, Contains, inl, inr, refl, sym, ap, subst, arith, suc}
+use Rattle.std.proofs.Common.{◌≡◌, ◌∙◌, ◌<◌, ◌⊎◌, ℕ, List, [], ◌∷◌, None, Contains, inl, inr, refl, ap, subst, arith, suc}
 use Rattle.oat_world.specs.Outside.{Contents}
 use Rattle.oat_first.specs.First.{fails, passes}
-use Rattle.oat_tool.specs.declared.command.Command.{Command}
 use Rattle.oat_tool.specs.Outcome.{Outcome}
 use Rattle.oat_tool.specs.Texts.{read_fault}
 use Rattle.oat_tool.specs.Loads.{Wanted, absent, faulted, long, LoadsFail}

@@ -1,17 +1,8 @@
 -- The room of `trace`: where its work stops and goes on, and what its statuses say.
-use Rattle.std.proofs.Common.{◌≡◌, ◌↔◌, ◌<◌, ◌≤◌, ◌+◌, ◌++◌, ◌∙◌, ℕ, Bool, true, false, length, take, List, [], ◌∷◌, Option, Some, None, get_or, ltb, append-nil, append_assoc, length-take-le, refl, sym, ap, subst, arith}
-use Rattle.std.specs.Prelude.{IfSome, IsTrue, if◌then◌else◌, nat_le, unwrap_or}
-use Rattle.std.proofs.lemmas.Bool.{and_parts, leb-true, ltb-true, ltb-false}
+use Rattle.std.proofs.Common.{◌≡◌, ◌<◌, ◌+◌, ◌++◌, ◌∙◌, ℕ, length, take, List, [], ◌∷◌, Option, get_or, append-nil, append_assoc, length-take-le, refl, sym, ap, subst, arith}
 use Rattle.std.proofs.lemmas.List.{take_more}
 use Rattle.oat_attest.specs.Headline.{IsSetting}
 use Rattle.oat_case.specs.Laws.{WritesCanBeMade}
-use Rattle.oat_case.specs.Limits.{calls_fit}
-use Rattle.oat_device.proofs.Counting.{windows_are_counted}
-use Rattle.oat_device.specs.DeviceRun.{CountsItsWindows, IsSealed}
-use Rattle.oat_journal.specs.Measured.{opening_of}
-use Rattle.oat_measure.specs.Shelving.{sealed_bodies}
-use Rattle.oat_tool.specs.Device.{run_of}
-use Rattle.oat_tool.proofs.Running.{first_window}
 use Rattle.oat_world.specs.Outside.{Contents}
 use Rattle.oat_image.specs.declared.image.Image.{Image}
 use Rattle.oat_map.specs.declared.map.Map.{Map}
@@ -19,10 +10,9 @@ use Rattle.oat_map.specs.Rows.{BeginsAt}
 use Rattle.oat_case.specs.declared.case.Case.{Case}
 use Rattle.oat_watch.specs.declared.watched.WatchedWindow.{WatchedWindow}
 use Rattle.oat_tool.specs.declared.page.Stop.{Stop}
-use Rattle.oat_tool.specs.declared.page.Ended.TheVariants.{Done, Rejected, Unsealed}
 use Rattle.oat_tool.specs.declared.command.Command.TheVariants as commands
 use Rattle.oat_tool.specs.Outcome.{Outcome}
-use Rattle.oat_tool.specs.Answer.{Answer, as_outcome, status_of}
+use Rattle.oat_tool.specs.Answer.{Answer, as_outcome}
 use Rattle.oat_tool.specs.Loads.{File, AreLoaded}
 use Rattle.oat_tool.specs.Commands.{files_of}
 use Rattle.oat_tool.specs.Admits.{Rejects, AreAdmitted}

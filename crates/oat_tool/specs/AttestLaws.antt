@@ -1,6 +1,6 @@
 -- What the statuses of `attest` say of the defined outcome: what was attested, that honest runs are accepted, and that none of their windows is wanting
 -- (docs/PROMISES.md).
-use Rattle.std.specs.Prelude.{◌≡◌, ◌≤◌, ◌⊎◌, ◌↔◌, ℕ, true, false, List, [], ◌∷◌}
+use Rattle.std.specs.Prelude.{◌≡◌, ◌≤◌, ◌⊎◌, ◌↔◌, ℕ, true, false, List, []}
 use Rattle.oat_world.specs.Outside.{Contents, Rose}
 use Rattle.oat_ir.specs.declared.program.Program.{Program}
 use Rattle.oat_case.specs.declared.case.Case.{Case}

@@ -1,5 +1,5 @@
 -- `build PROG`: the first refusal of the program, or the text of an image of it, or how many words its code needs where these are too many (docs/FORMATS.md). Which image it is stays open.
-use Rattle.std.specs.Prelude.{◌≡◌, ◌<◌, ◌≤◌, ℕ, List, [], ◌∷◌, ◌++◌, codes}
+use Rattle.std.specs.Prelude.{◌≡◌, ◌<◌, ◌≤◌, List, [], ◌∷◌, ◌++◌, codes}
 use Rattle.std.specs.Fmt.{decimal}
 use Rattle.oat_asm.specs.Items.{code_limit}
 use Rattle.oat_image.specs.declared.image.Image.{Image}

@@ -33,6 +33,9 @@ const DRILLS: [(&str, u8, &str, &str); 5] = [
 
 fn made(alloc: Global, number: u32) -> Result<Checked, Fail> {
     let text = make_program(alloc, number)?;
+    if text.len() > 1_048_576 {
+        return Err(Fail::from("too long"));
+    }
     let program = read_program(alloc, text.as_slice())?;
     if !program.well_formed() {
         return Err(Fail::from("no program"));

@@ -1,12 +1,8 @@
-use Rattle.std.proofs.Common.{◌≡◌, ◌∙◌, List, ap, refl, sym, subst, map, take, arith}
+use Rattle.std.proofs.Common.{◌∙◌, arith}
 use Rattle.std.proofs.lemmas.Result.{err_from_is_err_and}
-use Rattle.std.proofs.lemmas.List.{take_all}
 use Rattle.oat_world.specs.Outside.{Rose}
-use Rattle.oat_owner.specs.declared.device.Known.{Known}
-use Rattle.oat_owner.specs.Ledger.{ids_of}
-use Rattle.oat_script.specs.declared.script.ScriptDevice.{ScriptDevice}
 use Rattle.oat_tool.specs.Outcome.{Outcome}
-use Rattle.oat_tool.specs.Owner.{AreEnrolled, EnrolmentFails, EnrolmentsFail}
+use Rattle.oat_tool.specs.Owner.{EnrolmentFails, EnrolmentsFail}
 use Rattle.oat_tool.proofs.Enrolling.{AreEnrolled-next, EnrolmentFails-more, EnrolmentsFail-next, ids_next}
 use Rattle.oat_tool.proofs.Holding.{HaltsWith-more}
 use Rattle.oat_tool.proofs.Orders.{Rose-later}

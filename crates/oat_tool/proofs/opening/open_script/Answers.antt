@@ -1,7 +1,5 @@
-use Rattle.std.proofs.Common.{◌≡◌, ◌∙◌, Some, None, [], refl, sym, ap}
 use Rattle.std.proofs.lemmas.Result.{err_from_is_err_and}
 use Rattle.oat_first.specs.First.{fails, passes}
-use Rattle.oat_owner.specs.Ledger.{repeated_behind}
 use Rattle.oat_tool.specs.Outcome.{Outcome}
 use Rattle.oat_world.specs.Outside.{Rose}
 use Rattle.oat_tool.specs.Owner.{EnrolmentsFail, RefusesScript, ServesScript}

@@ -1,4 +1,3 @@
-use Rattle.std.proofs.Common.{subst}
 use Rattle.oat_tool.proofs.Replying.{shows_replies}
 use Rattle.oat_tool.proofs.owner.reply_to.Goals as goal
 

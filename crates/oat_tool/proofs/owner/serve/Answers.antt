@@ -1,8 +1,8 @@
-use Rattle.std.proofs.Common.{List, sym, subst}
+use Rattle.std.proofs.Common.{List, subst}
 use Rattle.oat_first.specs.First.{passes}
 use Rattle.oat_owner.specs.declared.call.OwnerCall.{OwnerCall}
 use Rattle.oat_tool.specs.Loads.{File}
-use Rattle.oat_tool.specs.Owner.{RepliesTo, Serves, ServesScript}
+use Rattle.oat_tool.specs.Owner.{RepliesTo, ServesScript}
 use Rattle.oat_tool.proofs.Enrolling.{halts_so}
 use Rattle.oat_tool.proofs.Lists.{one_of}
 use Rattle.oat_tool.proofs.Showing.{Shows-more}

@@ -1,5 +1,4 @@
-use Rattle.std.proofs.Common.{◌≡◌, ◌∙◌, ◌+◌, ◌++◌, ◌∷◌, [], ℕ, List, ap, refl, sym, subst, length-append}
-use Rattle.oat_map.specs.declared.edge.Edge.{Edge}
+use Rattle.std.proofs.Common.{◌≡◌, ◌∙◌, ◌+◌, ◌++◌, ◌∷◌, [], ap, refl, sym, subst, length-append}
 use Rattle.oat_map.specs.Walk.{moved, passed, path_of}
 use Rattle.oat_policy.specs.Standing.{HasSeen}
 use Rattle.oat_policy.specs.Verdict.{verdict_of}
@@ -66,7 +65,7 @@ returns-in-Done c = λ path walked.
     let done = c.in-Done.ensures _ _ so_far.steps so_far.behind in
     let whole = path_of so_far.steps ++ edge ∷ [] in
     let same : path ≡ whole =
-        one_path flow c.args.op _ _ path (path_of (so_far.steps ++ moved edge ∷ [])) walked done.2 ∙ path_pushed so_far.steps edge in
+    one_path flow c.args.op _ _ path (path_of (so_far.steps ++ moved edge ∷ [])) walked done.2 ∙ path_pushed so_far.steps edge in
     c.finish.ensures rules flow whole (c.edge-in-Done.ensures rules flow (path_of so_far.steps) so_far.seen) ∙ ap (verdict_of flow rules) (sym same)
 
 pub unreachable-requires : goal.unreachable-requires

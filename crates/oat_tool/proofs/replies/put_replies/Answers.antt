@@ -1,8 +1,7 @@
-use Rattle.std.proofs.Common.{◌∙◌, ◌∷◌, [], ◌+◌, List, ap, refl, sym, drop}
+use Rattle.std.proofs.Common.{◌∙◌, ◌∷◌, [], ◌+◌, ap, refl, sym, drop}
 use Rattle.std.proofs.lemmas.Result.{err_from_is_err_and}
 use Rattle.std.proofs.lemmas.List.{drop_all, drop_more}
 use Rattle.oat_owner.specs.declared.call.OwnerCall.{OwnerCall}
-use Rattle.oat_tool.specs.Serving.{IsOfIssued}
 use Rattle.oat_tool.proofs.Putting.{Adds-nothing}
 use Rattle.oat_tool.proofs.Replying.{all_replied, of_issued, replies_go_on, reply_is_cut, reply_is_wanting}
 use Rattle.oat_tool.proofs.replies.put_replies.Goals as goal
