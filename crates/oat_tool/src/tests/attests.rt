@@ -16,8 +16,17 @@ use std::test::Fail;
 const CHECKS: &str =
     "critical limit 10\noperation 1 check\nlocal v i64\nblock b0\nload v limit\nret v\nend\nmain\nlocal s i64\nblock b0\ncall s check\nout s\ncall s check\nout s\nhalt\nend\n";
 
-/// The cases of sessions with several windows: what follows the bound on steps.
-const SESSIONS: [(&str, &str); 5] = [
+/// An operation that calls no one and has five locals: it takes a critical value, and elements of a critical array and of a plain one.
+const LEAF: &str =
+    "critical limit 10\ncriticals table 4\narray plain 4\noperation 1 work n:i64\nlocal i i64\nlocal a i64\nlocal b i64\nlocal c i64\nblock b0\nconst i 2\nconst a 7\nstorex table i a\nstorex plain i n\nload b limit\nloadx c table i\nadd b b c\nloadx c plain i\nadd b b c\nout b\nret b\nend\nmain\nlocal n i64\nlocal s i64\nblock b0\nconst n 25\ncall s work n\nout s\nhalt\nend\n";
+
+/// Cases of several windows, or with a write into the frame of the operation that calls no one, behind its return address: what follows the
+/// bound on steps.
+const SESSIONS: [(&str, &str); 6] = [
+    (
+        "FRAME",
+        "write 40 7fffffb8 ffffffffffffffffffffffffffffffffffffffffffffffffffffffffffffffffffffffffffffffff\n",
+    ),
     ("K2", "calls 2\n"),
     ("K3", "calls 3\n"),
     ("EARLY", "calls 2\nwrite 0 40000000 2000000000000000\n"),
@@ -29,9 +38,9 @@ const SESSIONS: [(&str, &str); 5] = [
 ];
 
 /// Sessions of several windows: an operation with nothing in it; another value in the critical cell from the start on, from
-/// between the two windows on, and in the first window alone. The program, the case, the status, the run lines, and what
-/// follows the line of each window's blob.
-const ATTESTED: [(&str, &str, u8, &str, &[&str]); 7] = [
+/// between the two windows on, and in the first window alone. Then an operation whose locals stand in registers: nobody writes, and a write
+/// into its frame. The program, the case, the status, the run lines, and what follows the line of each window's blob.
+const ATTESTED: [(&str, &str, u8, &str, &[&str]); 9] = [
     (
         "I2",
         "K2",
@@ -81,12 +90,27 @@ const ATTESTED: [(&str, &str, u8, &str, &[&str]); 7] = [
         "out 10\nout 10\nended halted\n",
         &["accept\nend 1\n"],
     ),
+    (
+        "LEAF",
+        "KA",
+        0,
+        "out 42\nout 42\nended halted\n",
+        &["accept\nend 1\n"],
+    ),
+    (
+        "LEAF",
+        "FRAME",
+        0,
+        "out 42\nout 42\nended halted\n",
+        &["accept\nend 1\n"],
+    ),
 ];
 
 /// The files of programs, and of sessions with several windows.
 pub fn session_files(alloc: Global) -> Result<Vec<MemoryFile>, AllocError> {
     let mut files = program_files(alloc)?;
     files.push(file(alloc, "CHECKS", CHECKS.as_bytes())?)?;
+    files.push(file(alloc, "LEAF", LEAF.as_bytes())?)?;
     let calls = ("call s idle\n", "call s idle\ncall s idle\n");
     files.push(changed_file(alloc, "I2", IDLE, calls)?)?;
     for (name, lines) in SESSIONS {
