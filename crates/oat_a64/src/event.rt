@@ -1,5 +1,5 @@
 /// Why an instruction could not be made. Each carries the address concerned.
-#[derive(Clone, Copy, Debug, PartialEq, Eq)]
+#[derive(Clone, Copy)]
 pub enum FaultKind {
     /// A load or store outside the data regions, or not at a multiple of 8.
     Access(u64),
@@ -10,7 +10,7 @@ pub enum FaultKind {
 }
 
 /// What one instruction leaves to its caller.
-#[derive(Clone, Copy, Debug, PartialEq, Eq)]
+#[derive(Clone, Copy)]
 pub enum Event {
     Next,
     /// A monitor call by its number.

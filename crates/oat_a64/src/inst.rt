@@ -3,7 +3,7 @@
 /// Registers are numbers up to 31. `hw` is the quarter of a wide move, `cond` a
 /// condition number, and `imm` the field's own number (loads and stores count
 /// it in eights). An offset counts words from the branch itself.
-#[derive(Clone, Copy, Debug, PartialEq, Eq)]
+#[derive(Clone, Copy)]
 pub enum Inst {
     AddImm { rd: u8, rn: u8, imm: u16 },
     SubImm { rd: u8, rn: u8, imm: u16 },

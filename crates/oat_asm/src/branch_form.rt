@@ -4,7 +4,7 @@ ghost use Rattle.oat_asm.specs.Layout.{branch};
 use oat_a64::Inst;
 
 /// A branch without its offset: `Cond` has its condition, `Cbz` and `Cbnz` have their register.
-#[derive(Clone, Copy, Debug, PartialEq, Eq)]
+#[derive(Clone, Copy)]
 pub enum BranchForm {
     B,
     Bl,

@@ -8,7 +8,7 @@ use oat_a64::Inst;
 use oat_list::Listed;
 
 /// A piece of code whose address isn't known yet. Labels are numbers of the caller's choice.
-#[derive(Clone, Copy, Debug, PartialEq, Eq)]
+#[derive(Clone, Copy)]
 pub enum Item {
     Inst(Inst),
     /// Stands for the address of what follows it, and has no word.

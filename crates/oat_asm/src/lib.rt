@@ -19,6 +19,3 @@ pub use item::{Item, Items};
 pub use mark::Mark;
 pub use note::Note;
 pub use words::puts;
-
-#[cfg(test)]
-mod tests;

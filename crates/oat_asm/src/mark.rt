@@ -1,7 +1,7 @@
 /// A row of the map that is still to be written. Places are labels, and
 /// `index` is the cell's word among the global words; of an array, the first
 /// cell's.
-#[derive(Clone, Copy, Debug, PartialEq, Eq)]
+#[derive(Clone, Copy)]
 pub enum Mark {
     Jump { to: u32 },
     Branch { taken: u32, other: u32 },

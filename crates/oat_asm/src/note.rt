@@ -1,6 +1,6 @@
 /// A row of the map whose group follows. Places are labels, and `index` is the
 /// cell's word among the global words; of an array, the first cell's.
-#[derive(Clone, Copy, Debug, PartialEq, Eq)]
+#[derive(Clone, Copy)]
 pub enum Note {
     Jump { to: u32 },
     Branch { taken: u32, other: u32 },

@@ -8,6 +8,3 @@ mod looking;
 
 pub use attested::Attested;
 pub use attesting::attest;
-
-#[cfg(test)]
-mod tests;

@@ -4,7 +4,7 @@ ghost use Rattle.oat_bits.specs.declared.fault.BitsFault.TheVariants.{Memory};
 use std::alloc::AllocError;
 
 /// Why bytes aren't the packed form of a number of bits.
-#[derive(Clone, Copy, Debug, PartialEq, Eq)]
+#[derive(Clone, Copy)]
 pub enum BitsFault {
     /// More or fewer bytes than the bits take.
     Length,

@@ -9,6 +9,3 @@ mod packed_bits;
 pub use fault::BitsFault;
 pub use field::Field;
 pub use packed_bits::{PackedBits, is_filled};
-
-#[cfg(test)]
-mod tests;

@@ -9,7 +9,7 @@ use std::alloc::{AllocError, Global};
 use std::marker::Model;
 
 /// A list of bits that has its packed form, the highest bit of a byte first.
-#[derive(Debug, Drop)]
+#[derive(Drop)]
 pub struct PackedBits {
     bytes: Vec<u8>,
     count: usize,

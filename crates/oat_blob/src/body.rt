@@ -1,5 +1,5 @@
 /// The first checked use that didn't find the cell's last defined value.
-#[derive(Clone, Copy, Debug, PartialEq, Eq)]
+#[derive(Clone, Copy)]
 pub struct Violation {
     pub cell: u32,
     pub expected: u64,
@@ -7,7 +7,7 @@ pub struct Violation {
 }
 
 /// A blob's body but for its bits and targets.
-#[derive(Clone, Copy, Debug, PartialEq, Eq)]
+#[derive(Clone, Copy)]
 pub struct BodyHead {
     pub op: u16,
     pub nonce: [u8; 16],

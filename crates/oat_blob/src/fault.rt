@@ -1,5 +1,5 @@
 /// Bytes that are no blob.
-#[derive(Clone, Copy, Debug, PartialEq, Eq)]
+#[derive(Clone, Copy)]
 pub struct FormFault {
     /// The place of the first byte that no blob with the bytes before it can have, or the length
     /// where bytes are wanting.

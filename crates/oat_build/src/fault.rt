@@ -4,7 +4,7 @@ use oat_instr::InstrFault;
 use std::alloc::AllocError;
 
 /// Why a program has no image.
-#[derive(Clone, Copy, Debug, PartialEq, Eq)]
+#[derive(Clone, Copy)]
 pub enum BuildFault {
     /// Its code needs so many words, which is above the limit of 131,072.
     CodeTooLarge(u64),

@@ -14,6 +14,3 @@ mod symbols;
 
 pub use compiler::build;
 pub use fault::BuildFault;
-
-#[cfg(test)]
-mod tests;

@@ -12,7 +12,7 @@ pub type Bytes = Listed<u8>;
 pub type Key = Listed<u8>;
 
 /// What verifier and device agree on before a run.
-#[derive(Debug, Drop)]
+#[derive(Drop)]
 pub struct Session {
     pub key: Key,
     pub nonce: [u8; 16],
@@ -24,7 +24,7 @@ pub struct Session {
 }
 
 /// A write into data memory from outside the program.
-#[derive(Debug, Drop)]
+#[derive(Drop)]
 pub struct Write {
     /// The number, from 0, of the instruction just before which it is made.
     pub before: u64,
@@ -33,7 +33,7 @@ pub struct Write {
 }
 
 /// All that a run depends on besides its program.
-#[derive(Debug, Drop)]
+#[derive(Drop)]
 pub struct Case {
     pub session: Session,
     /// The most instructions that the run may make.

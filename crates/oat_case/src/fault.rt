@@ -3,7 +3,7 @@ ghost use Rattle.std.specs.Prelude.{◌≡◌};
 use oat_lines::{Fault, LineFault};
 
 /// What can be wrong with a line of a case text.
-#[derive(Clone, Copy, Debug, PartialEq, Eq)]
+#[derive(Clone, Copy)]
 pub enum CaseFaultKind {
     /// A wrong word, a wrong number of words, or malformed digits.
     Token,

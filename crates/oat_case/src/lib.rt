@@ -12,6 +12,3 @@ mod reading;
 pub use case::{Bytes, Case, Key, Session, Write};
 pub use fault::{CaseFault, CaseFaultKind};
 pub use reading::read_case;
-
-#[cfg(test)]
-mod tests;

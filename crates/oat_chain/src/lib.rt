@@ -87,6 +87,3 @@ impl Chain {
         self.value
     }
 }
-
-#[cfg(test)]
-mod tests;

@@ -2,7 +2,7 @@ ghost use Rattle.std.specs.Prelude.{◌≡◌};
 ghost use Rattle.oat_chain.specs.Clash.{bytes_of};
 
 /// A chained message: the begin record of a window, or the chain so far with the address of one more return.
-#[derive(Clone, Copy, Debug)]
+#[derive(Clone, Copy)]
 pub enum Message {
     Begin([u8; 50]),
     Link([u8; 40]),
@@ -21,7 +21,7 @@ impl Message {
 }
 
 /// Two different messages, of a run's returns and of a replay's, at the first place from the ends where these differ.
-#[derive(Clone, Copy, Debug)]
+#[derive(Clone, Copy)]
 pub struct Clash {
     pub first: Message,
     pub second: Message,

@@ -10,7 +10,7 @@ use std::marker::Model;
 /// A program that keeps all checking rules.
 ///
 /// Contracts see it as the program.
-#[derive(Debug, Drop)]
+#[derive(Drop)]
 pub struct Checked {
     program: Program,
 }

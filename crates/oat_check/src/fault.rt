@@ -1,7 +1,7 @@
 use oat_ir::Program;
 
 /// The kinds of checking rules.
-#[derive(Clone, Copy, Debug, PartialEq, Eq)]
+#[derive(Clone, Copy)]
 pub enum CheckKind {
     /// No function is the main one.
     NoMain,
@@ -27,7 +27,7 @@ pub enum CheckKind {
 
 /// The first checking rule that a program breaks, and where. Functions, blocks and places count
 /// from 0, and so does the number 0 of a function or block that a rule doesn't speak of.
-#[derive(Clone, Copy, Debug, PartialEq, Eq)]
+#[derive(Clone, Copy)]
 pub enum CheckFault {
     At {
         kind: CheckKind,
@@ -41,7 +41,7 @@ pub enum CheckFault {
 }
 
 /// A program that breaks a checking rule.
-#[derive(Debug, Drop)]
+#[derive(Drop)]
 pub struct CheckRefusal {
     /// The program, as it was handed in.
     pub program: Program,

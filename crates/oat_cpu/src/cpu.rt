@@ -4,7 +4,7 @@ use oat_a64::{CODE_BASE, Event, FaultKind, decode, word_at};
 use oat_mem::Memory;
 
 /// The state of the processor: X0 to X30, SP, PC and the condition flags.
-#[derive(Clone, Copy, Debug, PartialEq, Eq)]
+#[derive(Clone, Copy)]
 pub struct Cpu {
     pub x: [u64; 31],
     pub sp: u64,

@@ -6,10 +6,7 @@ mod act;
 mod control;
 mod cpu;
 mod registers;
-mod sums;
-#[cfg(test)]
-mod tests;
-mod value;
+mod sums;mod value;
 
 pub use cpu::Cpu;
 pub use oat_a64::{Event, FaultKind};

@@ -8,7 +8,7 @@ use oat_a64::{Inst, decode};
 use oat_measure::MonitorCall;
 
 /// An instruction of a run that it didn't end: its word, its address and that of the next one, and what X9, X10 and X30 held before it.
-#[derive(Clone, Copy, Debug, PartialEq, Eq)]
+#[derive(Clone, Copy)]
 pub struct Entry {
     pub word: u32,
     pub pc: u64,

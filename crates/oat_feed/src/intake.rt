@@ -17,7 +17,7 @@ const OTHER_BYTES: usize = 152;
 const ROOM: usize = OTHER_BYTES + CHUNK;
 
 /// What may still come.
-#[derive(Clone, Copy, Debug, PartialEq, Eq)]
+#[derive(Clone, Copy)]
 pub enum State {
     /// The bytes that came begin a blob.
     Open,
@@ -28,7 +28,7 @@ pub enum State {
 }
 
 /// The longest front of the bytes that came which begins a blob.
-#[derive(Debug, Drop)]
+#[derive(Drop)]
 pub struct Intake {
     pub front: Vec<u8>,
     pub state: State,

@@ -4,7 +4,7 @@ use oat_blob::Records;
 use std::marker::Model;
 
 /// The records of a blob, kept as its bytes have them.
-#[derive(Debug, Drop)]
+#[derive(Drop)]
 pub struct Kept {
     bytes: Vec<u8>,
     places: RecordPlaces,

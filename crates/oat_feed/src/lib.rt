@@ -12,6 +12,3 @@ mod verdict;
 pub use feed::Feed;
 pub use kept::Kept;
 pub use verdict::{FeedVerdict, Settled};
-
-#[cfg(test)]
-mod tests;

@@ -9,7 +9,7 @@ ghost use Rattle.oat_feed.specs.Counts.{IsCountAt};
 use crate::fields::array_at;
 
 /// Where the records stand in bytes that begin a blob: a part whose count hasn't come is empty.
-#[derive(Clone, Copy, Debug, PartialEq, Eq)]
+#[derive(Clone, Copy)]
 pub struct RecordPlaces {
     pub bits_at: usize,
     pub bit_count: u32,

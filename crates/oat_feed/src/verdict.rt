@@ -2,14 +2,14 @@ use crate::kept::Kept;
 use oat_verify::Cause;
 
 /// What the owner says of a blob, whose path is found again in its records.
-#[derive(Clone, Copy, Debug, PartialEq, Eq)]
+#[derive(Clone, Copy)]
 pub enum FeedVerdict {
     Accept,
     Refuse(Cause),
 }
 
 /// A verdict with what it was given on.
-#[derive(Debug, Drop)]
+#[derive(Drop)]
 pub struct Settled {
     pub verdict: FeedVerdict,
     /// The blob's records; none where the bytes are no blob.

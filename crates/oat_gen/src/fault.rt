@@ -1,7 +1,7 @@
 use std::alloc::AllocError;
 
 /// Why a program has no items.
-#[derive(Clone, Copy, Debug, PartialEq, Eq)]
+#[derive(Clone, Copy)]
 pub enum GenFault {
     Memory,
 }

@@ -10,7 +10,7 @@ use oat_ir::{GlobalItem, Program};
 use std::alloc::{AllocError, Global};
 
 /// Where a global lies: its first word among the global words, and how many elements it has.
-#[derive(Clone, Copy, Debug, PartialEq, Eq)]
+#[derive(Clone, Copy)]
 pub enum GlobalPlace {
     Ordinary { word: u32, len: u32 },
     /// Its elements are cells; `cell` is the number of the first.

@@ -18,6 +18,3 @@ mod moves;
 pub use fault::GenFault;
 pub use generation::generate;
 pub use globals::GlobalPlace;
-
-#[cfg(test)]
-mod tests;

@@ -84,6 +84,3 @@ impl Mac {
         outer.finalize()
     }
 }
-
-#[cfg(test)]
-mod tests;

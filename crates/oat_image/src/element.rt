@@ -18,7 +18,7 @@ use oat_map::Row;
 const MOST_ELEMENTS: u16 = 4096;
 
 /// A row that uses or defines an element of a critical array.
-#[derive(Clone, Copy, Debug, PartialEq, Eq)]
+#[derive(Clone, Copy)]
 pub(crate) enum ElementKind {
     UseAt,
     DefAt,

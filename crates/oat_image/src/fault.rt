@@ -1,7 +1,7 @@
 use oat_lines::{Fault, LineFault};
 
 /// What can be wrong with a line of an image text.
-#[derive(Clone, Copy, Debug, PartialEq, Eq)]
+#[derive(Clone, Copy)]
 pub enum ImageFaultKind {
     /// A wrong word, number of words or spacing, a name that is none, a line or
     /// LF that is wanting, or a line too many.

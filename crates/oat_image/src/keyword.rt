@@ -6,7 +6,7 @@ use crate::element::ElementKind;
 use crate::fault::ImageFaultKind;
 
 /// A row where the flow may turn.
-#[derive(Clone, Copy, Debug, PartialEq, Eq)]
+#[derive(Clone, Copy)]
 pub(crate) enum EdgeKind {
     Jump,
     Branch,
@@ -16,7 +16,7 @@ pub(crate) enum EdgeKind {
 }
 
 /// A row that the flow passes, or where it is measured from or to.
-#[derive(Clone, Copy, Debug, PartialEq, Eq)]
+#[derive(Clone, Copy)]
 pub(crate) enum PointKind {
     Begin,
     End,
@@ -26,7 +26,7 @@ pub(crate) enum PointKind {
 }
 
 /// What kind of row a line's keyword begins.
-#[derive(Clone, Copy, Debug, PartialEq, Eq)]
+#[derive(Clone, Copy)]
 pub(crate) enum RowKind {
     Edge(EdgeKind),
     Point(PointKind),

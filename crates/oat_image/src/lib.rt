@@ -21,6 +21,3 @@ pub use fault::{ImageFault, ImageFaultKind};
 pub use image::{Image, InitWord};
 pub use printing::{image_digest, print_image};
 pub use reading::read_image;
-
-#[cfg(test)]
-mod tests;

@@ -1,7 +1,7 @@
 use std::alloc::AllocError;
 
 /// Why items can't be instrumented.
-#[derive(Clone, Copy, Debug, PartialEq, Eq)]
+#[derive(Clone, Copy)]
 pub enum InstrFault {
     Memory,
 }

@@ -10,6 +10,3 @@ mod instrumentation;
 
 pub use fault::InstrFault;
 pub use instrumentation::instrument;
-
-#[cfg(test)]
-mod tests;

@@ -5,7 +5,7 @@ use std::marker::Model;
 /// The arguments of a call: at most four indices of locals, in their order.
 ///
 /// Contracts see them as a list.
-#[derive(Debug, Drop)]
+#[derive(Drop)]
 pub struct Args {
     locals: [u32; 4],
     len: u8,

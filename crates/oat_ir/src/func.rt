@@ -3,7 +3,7 @@ use oat_list::Listed;
 use oat_map::Name;
 
 /// A function. Its parameters are the first of its locals, and its first block is entered first.
-#[derive(Debug, Drop)]
+#[derive(Drop)]
 pub struct Func {
     pub name: Name,
     pub role: Role,
@@ -14,7 +14,7 @@ pub struct Func {
 }
 
 /// What a function is there for.
-#[derive(Clone, Copy, Debug, PartialEq, Eq)]
+#[derive(Clone, Copy)]
 pub enum Role {
     Plain,
     /// An operation, which can be attested, and its number.
@@ -24,14 +24,14 @@ pub enum Role {
 }
 
 /// A variable of a function, 0 or null until it is set.
-#[derive(Debug, Drop)]
+#[derive(Drop)]
 pub struct Local {
     pub name: Name,
     pub ty: Ty,
 }
 
 /// What a local contains.
-#[derive(Clone, Copy, Debug, PartialEq, Eq)]
+#[derive(Clone, Copy)]
 pub enum Ty {
     I64,
     /// A reference of a function with so many parameters.
@@ -39,7 +39,7 @@ pub enum Ty {
 }
 
 /// Instructions that run one after the other, and where it goes from there.
-#[derive(Debug, Drop)]
+#[derive(Drop)]
 pub struct BlockIr {
     pub label: Name,
     pub instrs: Listed<Instr>,

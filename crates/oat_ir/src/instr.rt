@@ -1,7 +1,7 @@
 use crate::args::Args;
 
 /// An instruction. Where nothing else is said, an operand is the index of a local of the function.
-#[derive(Debug, Drop)]
+#[derive(Drop)]
 pub enum Instr {
     /// x is the number.
     Const { x: u32, value: i64 },
@@ -30,7 +30,7 @@ pub enum Instr {
 }
 
 /// What is done with two numbers of 64 bits.
-#[derive(Clone, Copy, Debug, PartialEq, Eq)]
+#[derive(Clone, Copy)]
 pub enum BinOp {
     /// Sum, difference and product, modulo 2^64.
     Add,
@@ -61,7 +61,7 @@ pub enum BinOp {
 }
 
 /// The end of a block. A target is the index of a block of the function.
-#[derive(Clone, Copy, Debug, PartialEq, Eq)]
+#[derive(Clone, Copy)]
 pub enum Term {
     Jump { to: u32 },
     /// To the first block where the local x isn't 0, else to the second.

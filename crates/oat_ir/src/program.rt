@@ -8,7 +8,7 @@ use oat_map::Name;
 /// A program of the source language.
 ///
 /// Globals, functions, locals of a function, and blocks of a function are named by their indices, from 0.
-#[derive(Debug, Drop)]
+#[derive(Drop)]
 pub struct Program {
     pub globals: Listed<GlobalItem>,
     pub funcs: Listed<Func>,
@@ -18,7 +18,7 @@ pub struct Program {
 ///
 /// The cells are numbered from 0 in the order of the globals: a critical scalar takes one number, and a
 /// critical array one for each of its elements.
-#[derive(Debug, Drop)]
+#[derive(Drop)]
 pub enum GlobalItem {
     /// A number and what it is at the start. A critical one is a cell.
     Scalar {

@@ -3,7 +3,7 @@
 use oat_map::TrapKind;
 
 /// How a run of a program ends.
-#[derive(Clone, Copy, Debug, PartialEq, Eq)]
+#[derive(Clone, Copy)]
 pub enum SourceEnd {
     Halted,
     Trap(TrapKind),
@@ -12,7 +12,7 @@ pub enum SourceEnd {
 }
 
 /// A place of a program.
-#[derive(Clone, Copy, Debug, PartialEq, Eq)]
+#[derive(Clone, Copy)]
 pub struct SourceSite {
     /// The index of the function.
     pub func: u32,
@@ -26,7 +26,7 @@ pub struct SourceSite {
 ///
 /// A jump or a branch leads to a block with number 0, a call or an indirect call to block 0 of a
 /// function with number 0, and a return to the site of the call.
-#[derive(Clone, Copy, Debug, PartialEq, Eq)]
+#[derive(Clone, Copy)]
 pub enum SourceEdge {
     Jump {
         from: SourceSite,
@@ -57,7 +57,7 @@ pub enum SourceEdge {
 }
 
 /// A load of a critical scalar, or of an element of a critical array.
-#[derive(Clone, Copy, Debug, PartialEq, Eq)]
+#[derive(Clone, Copy)]
 pub struct CriticalLoad {
     /// The number of the cell.
     pub cell: u32,

@@ -3,7 +3,7 @@ use oat_map::TrapKind;
 use oat_measure::StopKind;
 
 /// How a device run ended.
-#[derive(Clone, Copy, Debug, PartialEq, Eq)]
+#[derive(Clone, Copy)]
 pub enum DeviceEnd {
     Halted,
     Trap(TrapKind),

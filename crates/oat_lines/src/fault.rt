@@ -15,7 +15,7 @@ pub trait LineFault: Copy {
 }
 
 /// Why a text isn't of its form.
-#[derive(Clone, Copy, Debug, PartialEq, Eq)]
+#[derive(Clone, Copy)]
 pub enum Fault<K> {
     /// The number of its first bad line, from 1, and what is wrong there.
     At(u32, K),

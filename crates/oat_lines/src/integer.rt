@@ -5,7 +5,7 @@ ghost use Rattle.oat_lines.specs.Integer.{within_i64, read_as_integer};
 use crate::number::read_numeral;
 
 /// Why a word is no integer of 64 bits.
-#[derive(Clone, Copy, Debug, PartialEq, Eq)]
+#[derive(Clone, Copy)]
 pub enum IntegerFault {
     /// It isn't digits, or digits behind a minus.
     Misspelled,

@@ -18,6 +18,3 @@ pub use integer::{IntegerFault, read_integer};
 pub use line::first_line;
 pub use number::{read_decimal, read_hexadecimal, read_numeral, value};
 pub use word::{first_word, sole_word, three_words};
-
-#[cfg(test)]
-mod tests;

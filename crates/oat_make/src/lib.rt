@@ -8,6 +8,3 @@ mod program;
 
 pub use case::make_case;
 pub use program::make_program;
-
-#[cfg(test)]
-mod tests;

@@ -1,7 +1,7 @@
 use oat_list::Listed;
 
 /// One transfer of control. `from` is the address of the row's group.
-#[derive(Clone, Copy, Debug, PartialEq, Eq)]
+#[derive(Clone, Copy, PartialEq, Eq)]
 pub enum Edge {
     Jump { from: u64, to: u64 },
     Branch { from: u64, bit: bool, to: u64 },

@@ -15,6 +15,3 @@ pub use map::{Block, Function, Map};
 pub use name::Name;
 pub use row::Row;
 pub use trap::TrapKind;
-
-#[cfg(test)]
-mod tests;

@@ -6,7 +6,7 @@ use crate::name::Name;
 use crate::row::Row;
 use oat_list::Listed;
 
-#[derive(Debug, Drop)]
+#[derive(Drop)]
 pub struct Function {
     pub entry: u64,
     pub name: Name,
@@ -15,14 +15,14 @@ pub struct Function {
     pub referenced: bool,
 }
 
-#[derive(Debug, Drop)]
+#[derive(Drop)]
 pub struct Block {
     pub start: u64,
     pub label: Name,
 }
 
 /// The control-flow map. In a well-formed image each list rises by address.
-#[derive(Debug, Drop)]
+#[derive(Drop)]
 pub struct Map {
     pub functions: Listed<Function>,
     pub blocks: Listed<Block>,

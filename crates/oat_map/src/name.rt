@@ -6,7 +6,7 @@ use std::marker::Model;
 /// A text of 1 to 32 ASCII letters, digits and underscores that doesn't begin with a digit.
 ///
 /// Contracts see it as the list of its bytes.
-#[derive(Debug, Drop)]
+#[derive(Drop)]
 pub struct Name {
     bytes: [u8; 32],
     len: u8,

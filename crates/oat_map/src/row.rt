@@ -4,7 +4,7 @@ ghost use Rattle.oat_map.specs.Rows.{address_of, word_count, after, begins};
 /// A row of the map. `at` is the address of the first instruction of its group.
 ///
 /// `UseAt` and `DefAt` use and define an element of a critical array, whose `len` cells begin with `cell`.
-#[derive(Clone, Copy, Debug, PartialEq, Eq)]
+#[derive(Clone, Copy)]
 pub enum Row {
     Jump { at: u64, to: u64 },
     Branch { at: u64, taken: u64, other: u64 },

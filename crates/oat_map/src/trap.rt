@@ -1,5 +1,5 @@
 /// Why a program trapped.
-#[derive(Clone, Copy, Debug, PartialEq, Eq)]
+#[derive(Clone, Copy)]
 pub enum TrapKind {
     DivZero,
     Index,

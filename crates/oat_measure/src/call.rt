@@ -1,5 +1,5 @@
 /// A monitor call from 1 to 7 with the values that it takes.
-#[derive(Clone, Copy, Debug, PartialEq, Eq)]
+#[derive(Clone, Copy)]
 pub enum MonitorCall {
     /// An operation begins, by the call at this address.
     Begin { op: u64, at: u64 },

@@ -15,6 +15,3 @@ pub use opening::Opening;
 pub use shelf::Shelf;
 pub use states::{Begun, Ended, Measuring, Sealed, Unmeasured};
 pub use stop::StopKind;
-
-#[cfg(test)]
-mod tests;

@@ -2,7 +2,7 @@ ghost use Rattle.std.specs.Prelude.{◌≡◌, IsTrue};
 ghost use Rattle.oat_measure.specs.Shelving.{is_due, next_opening};
 
 /// What the windows of a session are opened for, and the number of the present one.
-#[derive(Clone, Copy, Debug, PartialEq, Eq)]
+#[derive(Clone, Copy)]
 pub struct Opening {
     pub nonce: [u8; 16],
     pub op: u16,

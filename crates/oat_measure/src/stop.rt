@@ -1,5 +1,5 @@
 /// Why the monitor stops a run.
-#[derive(Clone, Copy, Debug, PartialEq, Eq)]
+#[derive(Clone, Copy)]
 pub enum StopKind {
     /// An operation began inside the window.
     Nested,

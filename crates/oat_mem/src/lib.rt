@@ -4,8 +4,5 @@
 pub mod laws;
 mod memory;
 mod region;
-#[cfg(test)]
-mod tests;
-
 pub use memory::Memory;
 pub use region::{GLOBAL_BASE, fits};

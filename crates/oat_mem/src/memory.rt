@@ -7,7 +7,7 @@ use std::alloc::{AllocError, Global};
 use std::marker::Model;
 
 /// The bytes of the global data and of the stack.
-#[derive(Debug, Drop)]
+#[derive(Drop)]
 pub struct Memory {
     globals: Vec<u8>,
     stack: Vec<u8>,

@@ -2,7 +2,7 @@ use crate::owner::{Answer, IssueFault, Issued};
 use oat_case::Bytes;
 
 /// What an owner is called to do.
-#[derive(Debug, Drop)]
+#[derive(Drop)]
 pub enum OwnerCall {
     /// To ask a device for an operation, under a nonce.
     Issue {
@@ -15,7 +15,7 @@ pub enum OwnerCall {
 }
 
 /// What an owner replies to a call.
-#[derive(Debug, Drop)]
+#[derive(Drop)]
 pub enum OwnerReply {
     Issue(Result<Issued, IssueFault>),
     Answer(Answer),

@@ -6,7 +6,7 @@ use std::alloc::{AllocError, Global};
 use std::marker::Model;
 
 /// What a device was asked, and whether an answer was accepted.
-#[derive(Debug, Drop)]
+#[derive(Drop)]
 pub struct Challenge {
     pub device: u32,
     pub op: u16,

@@ -10,7 +10,7 @@ use std::alloc::{AllocError, AllocFailed, Global};
 use std::marker::Model;
 
 /// A device that an owner knows: its key, and the image that it runs.
-#[derive(Debug, Drop)]
+#[derive(Drop)]
 pub struct Known {
     pub id: u32,
     pub key: Key,
@@ -18,7 +18,7 @@ pub struct Known {
 }
 
 /// Why devices are no owner's.
-#[derive(Clone, Copy, Debug, PartialEq, Eq)]
+#[derive(Clone, Copy)]
 pub enum OwnerFault {
     /// The first id that repeats an earlier one.
     Twice(u32),
@@ -93,7 +93,7 @@ impl Devices {
 }
 
 /// Devices that are handed back, and why.
-#[derive(Debug, Drop)]
+#[derive(Drop)]
 pub struct OwnerRefusal {
     pub known: Vec<Known>,
     pub fault: OwnerFault,

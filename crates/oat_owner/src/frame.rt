@@ -15,7 +15,7 @@ const CHALLENGE_FRONT: [u8; 5] = [0x4F, 0x41, 0x54, 0x43, 1];
 const ANSWER_FRONT: [u8; 5] = [0x4F, 0x41, 0x54, 0x41, 1];
 
 /// What an answer brings, over the bytes of its frame.
-#[derive(Debug, Drop)]
+#[derive(Drop)]
 pub struct AnswerRef<'a> {
     pub device: u32,
     pub nonce: [u8; 16],
@@ -24,7 +24,7 @@ pub struct AnswerRef<'a> {
 }
 
 /// Bytes that are no answer frame.
-#[derive(Clone, Copy, Debug, PartialEq, Eq)]
+#[derive(Clone, Copy)]
 pub struct FrameFault {
     /// The place of the first byte that no answer frame with the bytes before it can have, or the
     /// length where bytes are wanting.

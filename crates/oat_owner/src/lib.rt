@@ -13,6 +13,3 @@ pub use challenge::Challenge;
 pub use device::{Known, OwnerFault, OwnerRefusal};
 pub use frame::{AnswerRef, FrameFault, answer_frame, challenge_frame, read_answer};
 pub use owner::{Answer, AnswerCause, IssueFault, Issued, Owner};
-
-#[cfg(test)]
-mod tests;

@@ -19,7 +19,7 @@ use std::alloc::{AllocError, Global};
 use std::marker::Model;
 
 /// A challenge that was issued.
-#[derive(Debug, Drop)]
+#[derive(Drop)]
 pub struct Issued {
     /// How many were issued before.
     pub number: u32,
@@ -28,7 +28,7 @@ pub struct Issued {
 }
 
 /// Why a challenge isn't issued: the first of these that stands.
-#[derive(Clone, Copy, Debug, PartialEq, Eq)]
+#[derive(Clone, Copy)]
 pub enum IssueFault {
     /// No known device has the id.
     UnknownDevice,
@@ -53,7 +53,7 @@ impl From<AllocError> for IssueFault {
 }
 
 /// What is said of an answer.
-#[derive(Debug, Drop)]
+#[derive(Drop)]
 pub enum Answer {
     /// The operation that the challenge with this number asked for took this path.
     Accepted { number: u32, path: Path },
@@ -61,7 +61,7 @@ pub enum Answer {
 }
 
 /// Why an answer is refused: the first of these that stands.
-#[derive(Clone, Copy, Debug, PartialEq, Eq)]
+#[derive(Clone, Copy)]
 pub enum AnswerCause {
     /// No answer frame begins with the bytes before the one at this offset and that byte, or bytes are wanting there.
     Frame(usize),

@@ -19,6 +19,3 @@ pub use policy::{PathRule, Pattern, Policy, PolicyRule};
 pub use reading::read_policy;
 pub use verdict::{PolicyVerdict, verdict_on};
 pub use watch::Watch;
-
-#[cfg(test)]
-mod tests;

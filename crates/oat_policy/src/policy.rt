@@ -4,7 +4,7 @@ use oat_list::Listed;
 pub type Pattern = Listed<Listed<u8>>;
 
 /// What a policy asks of a path.
-#[derive(Debug, Drop)]
+#[derive(Drop)]
 pub enum PathRule {
     /// No edge matches.
     Never(Pattern),
@@ -17,7 +17,7 @@ pub enum PathRule {
 }
 
 /// A rule, and the number of its line from 1.
-#[derive(Debug, Drop)]
+#[derive(Drop)]
 pub struct PolicyRule {
     pub line: u32,
     pub rule: PathRule,

@@ -11,7 +11,7 @@ ghost use Rattle.oat_policy.specs.Standing.{counts, forbids_behind, is_met, met_
 use crate::policy::PathRule;
 
 /// What is kept of one rule.
-#[derive(Clone, Copy, Debug)]
+#[derive(Clone, Copy)]
 pub struct Standing {
     /// How many edges so far count: that match, or of an order the patterns that were matched in turn.
     pub count: usize,

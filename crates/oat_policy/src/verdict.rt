@@ -7,7 +7,7 @@ use oat_map::{Edge, Map};
 use std::alloc::{AllocError, Global};
 
 /// What a policy says of a path.
-#[derive(Clone, Copy, Debug, PartialEq, Eq)]
+#[derive(Clone, Copy)]
 pub enum PolicyVerdict {
     /// Each rule holds.
     Holds,

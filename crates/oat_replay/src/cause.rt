@@ -1,5 +1,5 @@
 /// Why a replay gets stuck.
-#[derive(Clone, Copy, Debug, PartialEq, Eq)]
+#[derive(Clone, Copy)]
 pub enum ReplayCause {
     /// A branch, but all bits are used.
     BitsEnd,
@@ -26,7 +26,7 @@ pub enum ReplayCause {
 }
 
 /// Why a walk has no path.
-#[derive(Clone, Copy, Debug, PartialEq, Eq)]
+#[derive(Clone, Copy)]
 pub enum WalkFault {
     /// `turn` is the turn that got stuck, counted from 1.
     Stuck { cause: ReplayCause, turn: u32 },

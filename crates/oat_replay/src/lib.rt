@@ -13,6 +13,3 @@ pub use path::walk;
 pub use replay::Replay;
 pub use search::find_row;
 pub use turn::Turn;
-
-#[cfg(test)]
-mod tests;

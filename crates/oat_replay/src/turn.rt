@@ -4,7 +4,7 @@ use crate::cause::ReplayCause;
 use oat_map::Edge;
 
 /// What one turn of a replay does.
-#[derive(Clone, Copy, Debug, PartialEq, Eq)]
+#[derive(Clone, Copy)]
 pub enum Turn {
     /// Took an edge.
     Moved(Edge),

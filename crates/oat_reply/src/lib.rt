@@ -11,9 +11,6 @@ use oat_report::verdict_line;
 use oat_verify::{Cause, Verdict};
 use std::alloc::{AllocError, Global};
 
-#[cfg(test)]
-mod tests;
-
 /// A text and a number behind it.
 fn numbered(alloc: Global, text: &[u8], number: usize) -> Result<Vec<u8>, AllocError>
     ensures { IfOk result (λ line. line.items ≡ text.now ++ decimal number) }

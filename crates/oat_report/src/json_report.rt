@@ -15,7 +15,7 @@ use serde_json::{Map, Value, put};
 use std::alloc::{AllocError, Global};
 
 /// What is told of one window of an attested run.
-#[derive(Debug, Drop)]
+#[derive(Drop)]
 pub struct Report {
     /// How the run ended: the text behind `ended `.
     pub end: Listed<u8>,

@@ -7,7 +7,7 @@ use std::marker::Model;
 use std::str;
 
 /// The name of a file in a script: printable ASCII characters.
-#[derive(Debug, Drop)]
+#[derive(Drop)]
 pub struct FileName {
     text: String,
 }

@@ -13,6 +13,3 @@ pub use fault::{ScriptFault, ScriptFaultKind};
 pub use file::FileName;
 pub use reading::read_script;
 pub use script::{Script, ScriptDevice};
-
-#[cfg(test)]
-mod tests;

@@ -4,7 +4,7 @@ use oat_list::Listed;
 use oat_owner::OwnerCall;
 
 /// A device of a script.
-#[derive(Debug, Drop)]
+#[derive(Drop)]
 pub struct ScriptDevice {
     pub id: u32,
     /// The file that has its image.
@@ -13,7 +13,7 @@ pub struct ScriptDevice {
 }
 
 /// The devices of an owner, and the calls that are put to it, in their order.
-#[derive(Debug, Drop)]
+#[derive(Drop)]
 pub struct Script {
     pub devices: Listed<ScriptDevice>,
     pub calls: Listed<OwnerCall>,

@@ -8,7 +8,7 @@ pub(crate) struct Broken {
 }
 
 /// Why an image is refused.
-#[derive(Clone, Copy, Debug, PartialEq, Eq)]
+#[derive(Clone, Copy)]
 pub enum ShapeFault {
     /// The first shape rule that fails, from 1 for S1 to 8 for S8, and the lowest address at which it does.
     Rule { number: u8, at: u64 },
@@ -16,7 +16,7 @@ pub enum ShapeFault {
 }
 
 /// An image that is handed back, and why.
-#[derive(Debug, Drop)]
+#[derive(Drop)]
 pub struct ShapeRefusal {
     pub image: Image,
     pub fault: ShapeFault,

@@ -12,7 +12,7 @@ use std::alloc::Global;
 use std::marker::Model;
 
 /// An image that has the shape, with the digest of its text.
-#[derive(Debug, Drop)]
+#[derive(Drop)]
 pub struct Shaped {
     image: Image,
     digest: [u8; 32],

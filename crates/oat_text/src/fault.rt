@@ -1,7 +1,7 @@
 use oat_lines::{Fault, LineFault};
 
 /// What can be wrong with a line of a program text.
-#[derive(Clone, Copy, Debug, PartialEq, Eq)]
+#[derive(Clone, Copy)]
 pub enum TextFaultKind {
     /// A byte that isn't ASCII and printable, or a malformed name, parameter or type.
     Token,

@@ -20,6 +20,3 @@ mod word;
 pub use fault::{TextFault, TextFaultKind};
 pub use printing::print_program;
 pub use reading::read_program;
-
-#[cfg(test)]
-mod tests;

@@ -11,7 +11,7 @@ use oat_shape::Shaped;
 use std::alloc::Global;
 
 /// An image that has the shape, and a case for one of its operations.
-#[derive(Debug, Drop)]
+#[derive(Drop)]
 pub struct Admitted {
     pub shaped: Shaped,
     pub case: Case,

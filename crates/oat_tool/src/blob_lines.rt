@@ -11,7 +11,7 @@ use std::alloc::{AllocError, Global};
 const BLOCK: usize = 32;
 
 /// The lines of blobs, whose digits are made a block at a time.
-#[derive(Debug, Drop)]
+#[derive(Drop)]
 pub struct BlobLines {
     blobs: Vec<Bytes>,
     /// How many lines were made.

@@ -17,7 +17,7 @@ const POLICY_LIMIT: usize = 65_536;
 const SCRIPT_LIMIT: usize = 67_108_864;
 
 /// A command of the program.
-#[derive(Clone, Copy, Debug, PartialEq, Eq)]
+#[derive(Clone, Copy)]
 pub enum Command {
     /// Runs a program on the inputs of a case.
     Run,

@@ -12,7 +12,7 @@ use std::alloc::{AllocError, Global};
 use std::marker::Model;
 
 /// A file of a command: the word that names it, the most bytes that it may have, and its text.
-#[derive(Debug, Drop)]
+#[derive(Drop)]
 pub struct File {
     name: String,
     limit: usize,

@@ -1,7 +1,7 @@
 use std::alloc::{AllocError, AllocFailed};
 
 /// How work that was done ended.
-#[derive(Clone, Copy, Debug, PartialEq, Eq)]
+#[derive(Clone, Copy)]
 pub enum Ended {
     /// The verdict accepts, or the work is done.
     Done,
@@ -27,7 +27,7 @@ impl Ended {
 }
 
 /// What a command sets out to put: a text in pieces on the first output, and one on the second.
-#[derive(Debug, Drop)]
+#[derive(Drop)]
 pub struct Page<P> {
     pub ended: Ended,
     pub pieces: P,
@@ -35,7 +35,7 @@ pub struct Page<P> {
 }
 
 /// Why the work of a command stops before its end.
-#[derive(Debug, Drop)]
+#[derive(Drop)]
 pub enum Stop {
     /// An input is refused by this line.
     Refused(Vec<u8>),
@@ -44,7 +44,7 @@ pub enum Stop {
 }
 
 /// Why loads stop.
-#[derive(Debug, Drop)]
+#[derive(Drop)]
 pub enum Halt {
     /// A load failed, as this line says.
     ReadFault(Vec<u8>),

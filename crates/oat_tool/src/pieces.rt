@@ -31,7 +31,7 @@ impl<P: Pieces + Drop> Pieces for Option<P> {
 }
 
 /// One text and then another.
-#[derive(Debug, Drop)]
+#[derive(Drop)]
 pub struct Then<P, Q> {
     pub first: P,
     pub second: Q,
@@ -55,7 +55,7 @@ impl<P: Pieces + Drop, Q: Pieces + Drop> Pieces for Then<P, Q> {
 }
 
 /// A text as one piece.
-#[derive(Debug, Drop)]
+#[derive(Drop)]
 pub struct Whole {
     text: Option<Vec<u8>>,
 }

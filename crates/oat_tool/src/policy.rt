@@ -38,7 +38,7 @@ use oat_world::{Sink, SinkFault};
 use std::alloc::{AllocError, Global};
 
 /// The line of what a policy says, if it says something.
-#[derive(Debug, Drop)]
+#[derive(Drop)]
 pub struct PolicyLine {
     said: Option<PolicyVerdict>,
 }

@@ -81,7 +81,7 @@ fn end_line(alloc: Global, end: DeviceEnd) -> Result<Vec<u8>, AllocError>
 }
 
 /// The lines of a run: one for each output, and then that of its end, each made as it is put.
-#[derive(Debug, Drop)]
+#[derive(Drop)]
 pub struct RunLines {
     outputs: Vec<i64>,
     at: usize,

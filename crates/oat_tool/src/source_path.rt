@@ -8,7 +8,7 @@ use oat_report::source_line;
 use std::alloc::{AllocError, Global};
 
 /// The lines of a path of a program, each made as it is put.
-#[derive(Debug, Drop)]
+#[derive(Drop)]
 pub struct SourcePath {
     checked: Checked,
     path: Vec<SourceEdge>,

@@ -4,7 +4,7 @@ use oat_map::Path;
 use oat_verify::Verdict;
 
 /// A use of a critical cell: what it found, and what the cell was last defined as.
-#[derive(Clone, Copy, Debug, PartialEq, Eq)]
+#[derive(Clone, Copy)]
 pub struct CheckedUse {
     pub cell: u32,
     pub found: u64,
@@ -12,7 +12,7 @@ pub struct CheckedUse {
 }
 
 /// What a run did in a window that sealed, beside the verdict on its blob.
-#[derive(Debug, Drop)]
+#[derive(Drop)]
 pub struct WatchedWindow {
     /// The executed path.
     pub path: Path,
@@ -25,7 +25,7 @@ pub struct WatchedWindow {
 }
 
 /// A run, with its windows that sealed in their order.
-#[derive(Debug, Drop)]
+#[derive(Drop)]
 pub struct Watched {
     pub end: DeviceEnd,
     pub outputs: Vec<i64>,

@@ -4,7 +4,7 @@ ghost use Rattle.oat_world.specs.FailingCalls.{IsDue, calls_after};
 use std::marker::Model;
 
 /// The numbers of the calls that fail, and the number of the next call.
-#[derive(Debug, Drop)]
+#[derive(Drop)]
 pub struct FailingCalls {
     failing: Vec<u64>,
     next: Option<u64>,

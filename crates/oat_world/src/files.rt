@@ -4,7 +4,7 @@ ghost use Rattle.oat_world.specs.Outside.{Contents, LoadsTold, LoadsUntold};
 use std::alloc::Global;
 
 /// Why a file was not loaded.
-#[derive(Clone, Copy, Debug, PartialEq, Eq)]
+#[derive(Clone, Copy)]
 pub enum LoadFault {
     /// It isn't there, or a read failed.
     Failed,

@@ -10,7 +10,7 @@ use std::alloc::Global;
 use std::marker::Model;
 
 /// A file in memory.
-#[derive(Debug, Drop)]
+#[derive(Drop)]
 pub struct MemoryFile {
     pub name: String,
     pub bytes: Vec<u8>,
@@ -28,7 +28,7 @@ impl Model for MemoryFile {
 /// Files in memory, of which chosen loads fail.
 ///
 /// Its count of bytes taken rises by those that a load gives.
-#[derive(Debug, Drop)]
+#[derive(Drop)]
 pub struct MemoryFiles {
     files: Vec<MemoryFile>,
     loads: FailingCalls,

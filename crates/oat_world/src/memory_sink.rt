@@ -8,7 +8,7 @@ use crate::sink::{Sink, SinkFault};
 use std::marker::Model;
 
 /// A sink in memory, of which chosen puts fail.
-#[derive(Debug, Drop)]
+#[derive(Drop)]
 pub struct MemorySink {
     bytes: Vec<u8>,
     most: usize,

@@ -2,7 +2,7 @@ ghost use Rattle.std.specs.Prelude.{◌≤◌, ℕ, Option, List};
 ghost use Rattle.oat_world.specs.Outside.{Puts};
 
 /// Why nothing was put.
-#[derive(Clone, Copy, Debug, PartialEq, Eq)]
+#[derive(Clone, Copy)]
 pub enum SinkFault {
     /// The sink can take nothing.
     Failed,

@@ -193,12 +193,13 @@ fn runs_of_programs_are_attested(rt: HostRuntime) -> Result<(), Fail> {
 }
 
 /// The verdict of a feed that takes a blob byte by byte.
-fn fed(alloc: Global, image: &[u8], case: &[u8], blob: &[u8]) -> Result<FeedVerdict, Fail> {
+fn is_accepted(alloc: Global, image: &[u8], case: &[u8], blob: &[u8]) -> Result<bool, Fail> {
     if image.len() > 16_777_216 || case.len() > 4_194_304 {
         return Err(Fail::from("too long"));
     }
-    let shaped = check_shape(alloc, read_image(alloc, image)?)?;
-    let case = read_case(alloc, case)?;
+    let image = read_image(alloc, image).ok().ok_or("no image")?;
+    let shaped = check_shape(alloc, image).ok().ok_or("no shape")?;
+    let case = read_case(alloc, case).ok().ok_or("no case")?;
     let Some(_) = shaped.begin_at(case.session.op) else {
         return Err(Fail::from("no operation"));
     };
@@ -206,7 +207,7 @@ fn fed(alloc: Global, image: &[u8], case: &[u8], blob: &[u8]) -> Result<FeedVerd
     for byte in blob.chunks(1) {
         feed.piece(byte)?;
     }
-    Ok(feed.finish(alloc)?)
+    Ok(matches!(feed.finish(alloc)?, FeedVerdict::Accept))
 }
 
 #[test]
@@ -220,7 +221,6 @@ fn an_attested_blob_is_accepted_byte_by_byte(rt: HostRuntime) -> Result<(), Fail
     let blob = hex::decode(alloc, digits.unwrap_or(&[]))?;
     assert_eq!(rt; blob.len(), 130);
     let case = CASE.replacen(alloc, "operation 1", "operation 7", 1)?;
-    let verdict = fed(alloc, image.as_slice(), case.as_bytes(), blob.as_slice())?;
-    assert_eq!(rt; verdict, FeedVerdict::Accept);
+    assert!(rt; is_accepted(alloc, image.as_slice(), case.as_bytes(), blob.as_slice())?);
     Ok(())
 }

@@ -36,7 +36,9 @@ fn made(alloc: Global, number: u32) -> Result<Checked, Fail> {
     if text.len() > 1_048_576 {
         return Err(Fail::from("too long"));
     }
-    let program = read_program(alloc, text.as_slice())?;
+    let program = read_program(alloc, text.as_slice())
+        .ok()
+        .ok_or("no program")?;
     if !program.well_formed() {
         return Err(Fail::from("no program"));
     }
@@ -53,7 +55,7 @@ fn attested_report(alloc: Global, number: u32) -> Result<String, Fail> {
     if !checked.has_operation(case.session.op) {
         return Err(Fail::from("no operation"));
     }
-    let attested = attest(alloc, &checked, &case)?;
+    let attested = attest(alloc, &checked, &case).ok().ok_or("no image")?;
     let Some(Verdict::Accept(path)) = attested.verdicts.as_slice().first() else {
         return Err(Fail::from("no acceptance"));
     };

@@ -1,5 +1,5 @@
-use crate::{BranchForm, Item, LabelAt, Note, NoteAt, assemble};
 use oat_a64::Inst;
+use oat_asm::{BranchForm, Item, Note, assemble};
 use oat_list::Listed;
 use std::test::Fail;
 
@@ -49,7 +49,7 @@ fn a_loop_is_laid_out(rt: HostRuntime) -> Result<(), Fail> {
         Item::Label(3),
     ];
     let items = Listed::from_vec(Vec::from_slice(rt.alloc(), &listed)?);
-    let assembled = assemble(rt.alloc(), &items, 0x10000)?;
+    let assembled = assemble(rt.alloc(), &items, 0x10000).ok().ok_or("no room")?;
     let code = [
         0xD280_00A9,
         0xB400_0069,
@@ -62,26 +62,19 @@ fn a_loop_is_laid_out(rt: HostRuntime) -> Result<(), Fail> {
         0xB500_005F,
         0xD503_201F,
     ];
-    assert_eq!(rt; assembled.code.as_slice(), code.as_slice());
-    let labels = [
-        LabelAt {
-            label: 1,
-            at: 0x10004,
-        },
-        LabelAt {
-            label: 2,
-            at: 0x10010,
-        },
-        LabelAt {
-            label: 3,
-            at: 0x10028,
-        },
-    ];
-    assert_eq!(rt; assembled.labels.as_slice(), labels.as_slice());
-    let notes = [NoteAt {
-        note: Note::Check,
-        at: 0x10004,
-    }];
-    assert_eq!(rt; assembled.notes.as_slice(), notes.as_slice());
+    assert!(rt; assembled.code.as_slice() == code.as_slice());
+    let labels = assembled.labels.as_slice();
+    assert!(rt; labels.len() == 3);
+    for (label, wanted) in labels
+        .iter()
+        .zip([(1, 0x10004), (2, 0x10010), (3, 0x10028)])
+    {
+        assert!(rt; (label.label, label.at) == wanted);
+    }
+    let notes = assembled.notes.as_slice();
+    assert!(rt; notes.len() == 1);
+    for note in notes {
+        assert!(rt; matches!(note.note, Note::Check) && note.at == 0x10004);
+    }
     Ok(())
 }

@@ -1,11 +1,8 @@
-use crate::{BuildFault, build};
-use oat_a64::Event;
+use oat_build::{BuildFault, build};
 use oat_check::{Checked, check};
-use oat_cpu::Cpu;
-use oat_ir::{BinOp, BlockIr, Func, Instr, Local, Program, Role, Term, Ty};
+use oat_ir::{BlockIr, Func, Instr, Local, Program, Role, Term, Ty};
 use oat_list::Listed;
 use oat_map::Name;
-use oat_mem::Memory;
 use std::alloc::Global;
 use std::test::Fail;
 
@@ -36,54 +33,7 @@ fn main_of(alloc: Global, instrs: Vec<Instr>) -> Result<Checked, Fail> {
     if !program.well_formed() {
         return Err(Fail::from("no program"));
     }
-    match check(program) {
-        Ok(checked) => Ok(checked),
-        Err(_) => Err(Fail::from("a rule is broken")),
-    }
-}
-
-fn divide() -> Instr {
-    Instr::Binary {
-        op: BinOp::Div,
-        x: 2,
-        y: 0,
-        z: 1,
-    }
-}
-
-#[test]
-fn the_least_number_is_divided_by_minus_one_and_by_zero(rt: HostRuntime) -> Result<(), Fail> {
-    let lines = [
-        Instr::Const {
-            x: 0,
-            value: i64::MIN,
-        },
-        Instr::Const { x: 1, value: -1 },
-        divide(),
-        Instr::Output { x: 2 },
-        Instr::Const { x: 1, value: 0 },
-        divide(),
-    ];
-    let program = main_of(rt.alloc(), Vec::from_array(rt.alloc(), lines)?)?;
-    let Ok(shaped) = build(rt.alloc(), &program) else {
-        return Err(Fail::from("no image"));
-    };
-    let code = shaped.image().code.as_slice();
-    let mut memory = Memory::zeroed(rt.alloc())?;
-    let mut cpu = Cpu::start();
-    let mut event = Event::Next;
-    let mut put = 0;
-    for _ in 0..64 {
-        event = cpu.step(code, &mut memory);
-        if event == Event::Svc(9) {
-            put = cpu.x[0];
-        } else if event != Event::Next {
-            break;
-        }
-    }
-    assert_eq!(rt; put, 1 << 63);
-    assert!(rt; event == Event::Brk(1));
-    Ok(())
+    Ok(check(program).ok().ok_or("a rule is broken")?)
 }
 
 #[test]
