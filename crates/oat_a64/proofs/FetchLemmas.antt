@@ -1,13 +1,10 @@
 -- The instruction of a word is the one whose word it is.
 use Rattle.std.proofs.Common.{◌≡◌, ℕ, zero, suc, ◌*◌, ◌^◌, refl, sym, ap, ◌∙◌, Bool, true, false, List, [], ◌∷◌, Option, Some, inl, inr, cond, eqb-true, eq-eqb}
-use Rattle.std.specs.Prelude.{pos, negsuc, ◌&&◌, ◌⊎◌, nat_eq, slice_get}
-use Rattle.std.specs.List.{find, list_all}
+use Rattle.std.specs.{Prelude.pos, Prelude.negsuc, Prelude.◌&&◌, Prelude.◌⊎◌, Prelude.nat_eq, Prelude.slice_get, List.find, List.list_all}
 use Rattle.std.proofs.lemmas.Bool.{ltb-true, lt-ltb}
-use Rattle.oat_a64.specs.declared.inst.Inst.{Inst}
-use Rattle.oat_a64.specs.Table.{Part, unsigned, signed, condition, IsPartInRange, ArePartsInRange, form_of, word_of, Word}
-use Rattle.oat_a64.specs.Fetch.{candidates, is_part_in_range, is_word, inst_of}
-use Rattle.oat_a64.proofs.Candidates.{place, is_candidate}
-use Rattle.oat_a64.proofs.Same.{same}
+use Rattle.oat_a64.specs.{declared.inst.Inst.Inst, Table.Part, Table.unsigned, Table.signed, Table.condition, Table.IsPartInRange, Table.ArePartsInRange, Table.form_of, Table.word_of, Table.Word}
+use Rattle.oat_a64.specs.{Fetch.candidates, Fetch.is_part_in_range, Fetch.is_word, Fetch.inst_of}
+use Rattle.oat_a64.proofs.{Candidates.place, Candidates.is_candidate, Same.same}
 
 both : (a b : Bool) → (a && b) ≡ true → (a ≡ true) × (b ≡ true)
 both true b h = (refl, h)

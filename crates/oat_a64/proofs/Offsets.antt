@@ -1,12 +1,9 @@
 -- The fields of an instruction are those that its word has in their places, so no word is that of two.
 use Rattle.std.proofs.Common.{◌≡◌, ℕ, ◌+◌, ◌-◌, ◌*◌, ◌%◌, ◌^◌, ◌<◌, ◌≤◌, sym, ap, ◌∙◌, arith, lit<}
 use Rattle.std.specs.Prelude.{ℤ, pos, negsuc, true, false, nat_lt}
-use Rattle.std.proofs.lemmas.Bool.{lt-ltb, le-ltb}
-use Rattle.std.proofs.lemmas.Nat.{pow-add, one_shl}
 use Rattle.std.proofs.Math.Nat.{pow-le-pow_right}
-use Rattle.std.proofs.lemmas.Bool.Decides.{nat_tests}
-use Rattle.oat_a64.specs.Table.{FitsSigned, twos_complement, is_condition}
-use Rattle.oat_a64.specs.Fetch.{from_twos_complement}
+use Rattle.std.proofs.lemmas.{Bool.lt-ltb, Bool.le-ltb, Nat.pow-add, Nat.one_shl, Bool.Decides.nat_tests}
+use Rattle.oat_a64.specs.{Table.FitsSigned, Table.twos_complement, Table.is_condition, Fetch.from_twos_complement}
 
 pub below : (width : ℕ) (z : ℤ) → FitsSigned width z → twos_complement width z < 2 ^ width
 below width (pos n) h = omega arith

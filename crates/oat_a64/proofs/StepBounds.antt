@@ -1,15 +1,21 @@
 -- A step keeps registers within 64 bits and memory within bytes.
 use Rattle.std.proofs.Common.{ℕ, ◌+◌, ◌%◌, ◌^◌, ◌<◌, Bool, true, false, not, ◌&&◌, cond, leb, ltb, eqb, Option, Some, None, ℤ, pos, negsuc, arith, lit<}
-use Rattle.std.proofs.lemmas.Bool.{cond_both}
-use Rattle.std.proofs.lemmas.Nat.{and_le_l, or_lt, xor_lt}
+use Rattle.std.proofs.lemmas.{Bool.cond_both, Nat.and_le_l, Nat.or_lt, Nat.xor_lt}
+use Rattle.oat_bits.specs.Words.{wrap, difference}
 use Rattle.oat_bits.proofs.WordLemmas.{results_are_words}
 use Rattle.oat_mem.specs.DataMemory.{word_in, can_access}
 use Rattle.oat_mem.proofs.Words.{words_are_bounded, memory_stays_bytes}
-use Rattle.oat_a64.specs.declared.inst.Inst.{Inst}
-use Rattle.oat_a64.specs.declared.inst.Inst.TheVariants.{AddImm, SubImm, SubsImm, AddReg, SubReg, SubsReg, AndReg, OrrReg, EorReg, Madd, Msub, Udiv, Sdiv, Lslv, Lsrv, Asrv, Movz, Movk, Csinc, Ldr, Str, LdrReg, StrReg, B, Bl, BCond, Cbz, Cbnz, Blr, Ret, Svc, Brk, Nop}
-use Rattle.oat_a64.specs.Fetch.{inst_of}
-use Rattle.oat_bits.specs.Words.{wrap, difference}
-use Rattle.oat_a64.specs.Step.{Machine, Effect, IsBounded, StepKeepsBounds, reg, reg_or_sp, set, with_reg, with_reg_or_sp, branch_target, next_pc, goes_on, jumps, jumps_if, links, subtracts, loads, stores, act, acts, decodes, step, word_at, holds}
+use Rattle.oat_a64.specs.{declared.inst.Inst.Inst, declared.inst.Inst.TheVariants.AddImm, declared.inst.Inst.TheVariants.SubImm, declared.inst.Inst.TheVariants.SubsImm}
+use Rattle.oat_a64.specs.{declared.inst.Inst.TheVariants.AddReg, declared.inst.Inst.TheVariants.SubReg, declared.inst.Inst.TheVariants.SubsReg, declared.inst.Inst.TheVariants.AndReg}
+use Rattle.oat_a64.specs.{declared.inst.Inst.TheVariants.OrrReg, declared.inst.Inst.TheVariants.EorReg, declared.inst.Inst.TheVariants.Madd, declared.inst.Inst.TheVariants.Msub}
+use Rattle.oat_a64.specs.{declared.inst.Inst.TheVariants.Udiv, declared.inst.Inst.TheVariants.Sdiv, declared.inst.Inst.TheVariants.Lslv, declared.inst.Inst.TheVariants.Lsrv}
+use Rattle.oat_a64.specs.{declared.inst.Inst.TheVariants.Asrv, declared.inst.Inst.TheVariants.Movz, declared.inst.Inst.TheVariants.Movk, declared.inst.Inst.TheVariants.Csinc}
+use Rattle.oat_a64.specs.{declared.inst.Inst.TheVariants.Ldr, declared.inst.Inst.TheVariants.Str, declared.inst.Inst.TheVariants.LdrReg, declared.inst.Inst.TheVariants.StrReg}
+use Rattle.oat_a64.specs.{declared.inst.Inst.TheVariants.B, declared.inst.Inst.TheVariants.Bl, declared.inst.Inst.TheVariants.BCond, declared.inst.Inst.TheVariants.Cbz}
+use Rattle.oat_a64.specs.{declared.inst.Inst.TheVariants.Cbnz, declared.inst.Inst.TheVariants.Blr, declared.inst.Inst.TheVariants.Ret, declared.inst.Inst.TheVariants.Svc}
+use Rattle.oat_a64.specs.{declared.inst.Inst.TheVariants.Brk, declared.inst.Inst.TheVariants.Nop, Fetch.inst_of, Step.Machine, Step.Effect, Step.IsBounded, Step.StepKeepsBounds, Step.reg}
+use Rattle.oat_a64.specs.{Step.reg_or_sp, Step.set, Step.with_reg, Step.with_reg_or_sp, Step.branch_target, Step.next_pc, Step.goes_on, Step.jumps, Step.jumps_if, Step.links, Step.subtracts}
+use Rattle.oat_a64.specs.{Step.loads, Step.stores, Step.act, Step.acts, Step.decodes, Step.step, Step.word_at, Step.holds}
 
 branch_target-lt : (pc : ℕ) (z : ℤ) → branch_target pc z < 2 ^ 64
 branch_target-lt pc (pos n) = omega arith

@@ -1,9 +1,7 @@
 -- A step, by what stands at PC.
 use Rattle.std.proofs.Common.{◌≡◌, ℕ, Option, Some, None, refl, ap}
 use Rattle.std.specs.Option.{option_and_then}
-use Rattle.oat_a64.specs.declared.inst.Inst.{Inst}
-use Rattle.oat_a64.specs.Fetch.{inst_of}
-use Rattle.oat_a64.specs.Step.{Machine, StepActs, StepRests, word_at, act, acts, decodes, step}
+use Rattle.oat_a64.specs.{declared.inst.Inst.Inst, Fetch.inst_of, Step.Machine, Step.StepActs, Step.StepRests, Step.word_at, Step.act, Step.acts, Step.decodes, Step.step}
 
 decodes_acts : (word : Option ℕ) (m : Machine) (i : Inst) → option_and_then inst_of word ≡ Some i → decodes word m ≡ act i m
 decodes_acts None m i h = absurd (cc)

@@ -1,10 +1,17 @@
 -- The instruction of a word: the one of the A64 base instructions of the device, if any, that the word encodes by the instruction table (Arm A64 manual).
-use Rattle.std.specs.Prelude.{ℕ, suc, ◌-◌, ◌*◌, ◌^◌, ◌&&◌, nat_eq, nat_lt, Bool, if◌then◌else◌, Option, List, [], ◌∷◌, find, ℤ, pos, negsuc}
-use Rattle.std.specs.List.{list_all}
+use Rattle.std.specs.{Prelude.ℕ, Prelude.suc, Prelude.◌-◌, Prelude.◌*◌, Prelude.◌^◌, Prelude.◌&&◌, Prelude.nat_eq, Prelude.nat_lt, Prelude.Bool, Prelude.if◌then◌else◌, Prelude.Option, Prelude.List}
+use Rattle.std.specs.{Prelude.[], Prelude.◌∷◌, Prelude.find, Prelude.ℤ, Prelude.pos, Prelude.negsuc, List.list_all}
 use Rattle.oat_bits.specs.Field.{field}
-use Rattle.oat_a64.specs.declared.inst.Inst.{Inst}
-use Rattle.oat_a64.specs.declared.inst.Inst.TheVariants.{AddImm, SubImm, SubsImm, AddReg, SubReg, SubsReg, AndReg, OrrReg, EorReg, Madd, Msub, Udiv, Sdiv, Lslv, Lsrv, Asrv, Movz, Movk, Csinc, Ldr, Str, LdrReg, StrReg, B, Bl, BCond, Cbz, Cbnz, Blr, Ret, Svc, Brk, Nop}
-use Rattle.oat_a64.specs.Table.{Part, unsigned, signed, condition, is_condition, form_of, word_of}
+use Rattle.oat_a64.specs.{declared.inst.Inst.Inst, declared.inst.Inst.TheVariants.AddImm, declared.inst.Inst.TheVariants.SubImm, declared.inst.Inst.TheVariants.SubsImm}
+use Rattle.oat_a64.specs.{declared.inst.Inst.TheVariants.AddReg, declared.inst.Inst.TheVariants.SubReg, declared.inst.Inst.TheVariants.SubsReg, declared.inst.Inst.TheVariants.AndReg}
+use Rattle.oat_a64.specs.{declared.inst.Inst.TheVariants.OrrReg, declared.inst.Inst.TheVariants.EorReg, declared.inst.Inst.TheVariants.Madd, declared.inst.Inst.TheVariants.Msub}
+use Rattle.oat_a64.specs.{declared.inst.Inst.TheVariants.Udiv, declared.inst.Inst.TheVariants.Sdiv, declared.inst.Inst.TheVariants.Lslv, declared.inst.Inst.TheVariants.Lsrv}
+use Rattle.oat_a64.specs.{declared.inst.Inst.TheVariants.Asrv, declared.inst.Inst.TheVariants.Movz, declared.inst.Inst.TheVariants.Movk, declared.inst.Inst.TheVariants.Csinc}
+use Rattle.oat_a64.specs.{declared.inst.Inst.TheVariants.Ldr, declared.inst.Inst.TheVariants.Str, declared.inst.Inst.TheVariants.LdrReg, declared.inst.Inst.TheVariants.StrReg}
+use Rattle.oat_a64.specs.{declared.inst.Inst.TheVariants.B, declared.inst.Inst.TheVariants.Bl, declared.inst.Inst.TheVariants.BCond, declared.inst.Inst.TheVariants.Cbz}
+use Rattle.oat_a64.specs.{declared.inst.Inst.TheVariants.Cbnz, declared.inst.Inst.TheVariants.Blr, declared.inst.Inst.TheVariants.Ret, declared.inst.Inst.TheVariants.Svc}
+use Rattle.oat_a64.specs.{declared.inst.Inst.TheVariants.Brk, declared.inst.Inst.TheVariants.Nop, Table.Part, Table.unsigned, Table.signed, Table.condition, Table.is_condition, Table.form_of}
+use Rattle.oat_a64.specs.{Table.word_of}
 
 -- the number that stands as n in two's complement
 abbrev pub from_twos_complement : ℕ → ℕ → ℤ

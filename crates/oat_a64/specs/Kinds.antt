@@ -1,7 +1,7 @@
 -- Kinds of instructions: those that transfer control, and the monitor calls that are measured.
 use Rattle.std.specs.Prelude.{Bool, true, false, ◌&&◌, nat_le}
-use Rattle.oat_a64.specs.declared.inst.Inst.{Inst}
-use Rattle.oat_a64.specs.declared.inst.Inst.TheVariants.{B, Bl, BCond, Cbz, Cbnz, Blr, Ret, Svc}
+use Rattle.oat_a64.specs.{declared.inst.Inst.Inst, declared.inst.Inst.TheVariants.B, declared.inst.Inst.TheVariants.Bl, declared.inst.Inst.TheVariants.BCond, declared.inst.Inst.TheVariants.Cbz}
+use Rattle.oat_a64.specs.{declared.inst.Inst.TheVariants.Cbnz, declared.inst.Inst.TheVariants.Blr, declared.inst.Inst.TheVariants.Ret, declared.inst.Inst.TheVariants.Svc}
 
 -- an instruction by which control may leave the next address
 abbrev pub is_transfer : Inst → Bool

@@ -1,8 +1,6 @@
 -- What holds of the instruction table as a whole (docs/PROMISES.md).
 use Rattle.std.specs.Prelude.{◌≡◌, ℕ, ◌↔◌, Some}
-use Rattle.oat_a64.specs.declared.inst.Inst.{Inst}
-use Rattle.oat_a64.specs.Table.{Word}
-use Rattle.oat_a64.specs.Fetch.{inst_of}
+use Rattle.oat_a64.specs.{declared.inst.Inst.Inst, Table.Word, Fetch.inst_of}
 
 -- no word is that of two instructions
 abbrev pub NoWordIsOfTwo : Type 0

@@ -1,16 +1,21 @@
 -- The machine step: how an instruction is fetched and what it does, one row for each form of the device's A64 instructions, by the operation of its section in the Arm A64 manual, "A64 base instructions".
-use Rattle.std.specs.Prelude.{◌≡◌, ℕ, suc, ◌+◌, ◌-◌, ◌*◌, ◌/◌, ◌%◌, ◌^◌, ◌<◌, Bool, false, not, ◌&&◌, ◌||◌, nat_eq, nat_lt, nat_le, if◌then◌else◌, Option, Some, None, List, slice_get, option_and_then, ℤ, pos, negsuc, ◌-ℤ◌, bit_and, bit_or, bit_xor}
-use Rattle.std.specs.Bool.{beq}
+use Rattle.std.specs.{Prelude.◌≡◌, Prelude.ℕ, Prelude.suc, Prelude.◌+◌, Prelude.◌-◌, Prelude.◌*◌, Prelude.◌/◌, Prelude.◌%◌, Prelude.◌^◌, Prelude.◌<◌, Prelude.Bool, Prelude.false, Prelude.not}
+use Rattle.std.specs.{Prelude.◌&&◌, Prelude.◌||◌, Prelude.nat_eq, Prelude.nat_lt, Prelude.nat_le, Prelude.if◌then◌else◌, Prelude.Option, Prelude.Some, Prelude.None, Prelude.List, Prelude.slice_get}
+use Rattle.std.specs.{Prelude.option_and_then, Prelude.ℤ, Prelude.pos, Prelude.negsuc, Prelude.◌-ℤ◌, Prelude.bit_and, Prelude.bit_or, Prelude.bit_xor, Bool.beq}
 use Rattle.oat_bits.specs.Field.{with_field}
-pub use Rattle.oat_bits.specs.Words.{wrap, difference, signed, unsigned, unsigned_quotient, signed_quotient, shifted_left, shifted_right, shifted_right_signed}
 use Rattle.oat_mem.specs.DataMemory.{can_access, word_in, with_word, IsBytes}
-use Rattle.oat_a64.specs.declared.event.Event.{Event}
+use Rattle.oat_a64.specs.{declared.event.Event.Event, declared.event.FaultKind.FaultKind, declared.event.FaultKind.TheVariants.Access, declared.event.FaultKind.TheVariants.Fetch}
+use Rattle.oat_a64.specs.{declared.event.FaultKind.TheVariants.Undefined, declared.inst.Inst.Inst, declared.inst.Inst.TheVariants.AddImm, declared.inst.Inst.TheVariants.SubImm}
+use Rattle.oat_a64.specs.{declared.inst.Inst.TheVariants.SubsImm, declared.inst.Inst.TheVariants.AddReg, declared.inst.Inst.TheVariants.SubReg, declared.inst.Inst.TheVariants.SubsReg}
+use Rattle.oat_a64.specs.{declared.inst.Inst.TheVariants.AndReg, declared.inst.Inst.TheVariants.OrrReg, declared.inst.Inst.TheVariants.EorReg, declared.inst.Inst.TheVariants.Madd}
+use Rattle.oat_a64.specs.{declared.inst.Inst.TheVariants.Msub, declared.inst.Inst.TheVariants.Udiv, declared.inst.Inst.TheVariants.Sdiv, declared.inst.Inst.TheVariants.Lslv}
+use Rattle.oat_a64.specs.{declared.inst.Inst.TheVariants.Lsrv, declared.inst.Inst.TheVariants.Asrv, declared.inst.Inst.TheVariants.Movz, declared.inst.Inst.TheVariants.Movk}
+use Rattle.oat_a64.specs.{declared.inst.Inst.TheVariants.Csinc, declared.inst.Inst.TheVariants.Ldr, declared.inst.Inst.TheVariants.Str, declared.inst.Inst.TheVariants.LdrReg}
+use Rattle.oat_a64.specs.{declared.inst.Inst.TheVariants.StrReg, declared.inst.Inst.TheVariants.B, declared.inst.Inst.TheVariants.Bl, declared.inst.Inst.TheVariants.BCond}
+use Rattle.oat_a64.specs.{declared.inst.Inst.TheVariants.Cbz, declared.inst.Inst.TheVariants.Cbnz, declared.inst.Inst.TheVariants.Blr, declared.inst.Inst.TheVariants.Ret}
+use Rattle.oat_a64.specs.{declared.inst.Inst.TheVariants.Svc, declared.inst.Inst.TheVariants.Brk, declared.inst.Inst.TheVariants.Nop, Fetch.fits_signed, Fetch.inst_of}
 use Rattle.oat_a64.specs.declared.event.Event.TheVariants as event
-use Rattle.oat_a64.specs.declared.event.FaultKind.{FaultKind}
-use Rattle.oat_a64.specs.declared.event.FaultKind.TheVariants.{Access, Fetch, Undefined}
-use Rattle.oat_a64.specs.declared.inst.Inst.{Inst}
-use Rattle.oat_a64.specs.declared.inst.Inst.TheVariants.{AddImm, SubImm, SubsImm, AddReg, SubReg, SubsReg, AndReg, OrrReg, EorReg, Madd, Msub, Udiv, Sdiv, Lslv, Lsrv, Asrv, Movz, Movk, Csinc, Ldr, Str, LdrReg, StrReg, B, Bl, BCond, Cbz, Cbnz, Blr, Ret, Svc, Brk, Nop}
-use Rattle.oat_a64.specs.Fetch.{fits_signed, inst_of}
+pub use Rattle.oat_bits.specs.Words.{wrap, difference, signed, unsigned, unsigned_quotient, signed_quotient, shifted_left, shifted_right, shifted_right_signed}
 
 -- X0 to X30 by number, the stack pointer, the program counter, and the condition flags
 pub record Regs : Type 0 where

@@ -1,22 +1,18 @@
 -- What holds of each item of an expansion: one table says what each mark's group has, and all else follows.
 use Rattle.std.proofs.Common.{◌≡◌, ℕ, ◌/◌, ◌%◌, ◌^◌, ◌<◌, ◌≤◌, Bool, false, List, [], ◌∷◌, ◌++◌, refl, ap, ◌∙◌, inl, inr, cond, arith}
-use Rattle.std.specs.Prelude.{Contains, ⊤, pos, map}
-use Rattle.std.specs.List.{count_by, AllByRecursion}
-use Rattle.std.proofs.lemmas.List.Elements.{Contains-append_cases, Contains-append_right, Contains-append_left, All-contains, All-from_recursion}
-use Rattle.std.proofs.lemmas.List.Sums.{sum_by-append}
-use Rattle.oat_mem.specs.DataMemory.{global_address}
-use Rattle.oat_a64.specs.declared.inst.Inst.TheVariants.{AddReg, SubsReg, Movz, Movk, LdrReg, StrReg, BCond, Svc, Brk}
-use Rattle.oat_a64.specs.Table.{IsInRange}
-use Rattle.oat_asm.specs.declared.mark.Mark.{Mark}
-use Rattle.oat_asm.specs.declared.mark.Mark.TheVariants.{Jump, Branch, Call, ICall, Ret, Begin, End, UseCell, DefCell, UseAt, DefAt}
-use Rattle.oat_asm.specs.declared.item.Item.{Item}
-use Rattle.oat_asm.specs.declared.item.Item.TheVariants as item
-use Rattle.oat_asm.specs.Items.{is_label, StandsOnce, IsBranch, UsedLabelsStandOnce, InstructionsAreInRange, BranchesAreInRange, AddressesHaveRegisters}
-use Rattle.oat_asm.specs.Layout.{puts}
-use Rattle.oat_asm.specs.Expansion.{note_of, element_test, group, expanded, expansion}
-use Rattle.oat_asm.specs.NoteRows.{GroupsHaveTheWordsOfTheirRows}
-use Rattle.oat_asm.specs.ExpansionLaws.{IsMark, MarksAreInRange, LeadsTo, MarkedLabelsStandOnce, ExpansionLeavesNoMark, ExpansionKeepsLabels, ExpansionUsesLabelsThatStandOnce, ExpansionStaysInRange}
+use Rattle.std.specs.{Prelude.Contains, Prelude.⊤, Prelude.pos, Prelude.map, List.count_by, List.AllByRecursion}
+use Rattle.std.proofs.lemmas.{List.Elements.Contains-append_cases, List.Elements.Contains-append_right, List.Elements.Contains-append_left, List.Elements.All-contains}
+use Rattle.std.proofs.lemmas.{List.Elements.All-from_recursion, List.Sums.sum_by-append}
+use Rattle.oat_shape.specs.{global_address, AddReg, SubsReg, Movz, Movk, LdrReg, StrReg, BCond, Svc, Brk, IsInRange}
+use Rattle.oat_asm.specs.{declared.mark.Mark.Mark, declared.mark.Mark.TheVariants.Jump, declared.mark.Mark.TheVariants.Branch, declared.mark.Mark.TheVariants.Call}
+use Rattle.oat_asm.specs.{declared.mark.Mark.TheVariants.ICall, declared.mark.Mark.TheVariants.Ret, declared.mark.Mark.TheVariants.Begin, declared.mark.Mark.TheVariants.End}
+use Rattle.oat_asm.specs.{declared.mark.Mark.TheVariants.UseCell, declared.mark.Mark.TheVariants.DefCell, declared.mark.Mark.TheVariants.UseAt, declared.mark.Mark.TheVariants.DefAt}
+use Rattle.oat_asm.specs.{declared.item.Item.Item, Items.is_label, Items.StandsOnce, Items.IsBranch, Items.UsedLabelsStandOnce, Items.InstructionsAreInRange, Items.BranchesAreInRange}
+use Rattle.oat_asm.specs.{Items.AddressesHaveRegisters, Layout.puts, Expansion.note_of, Expansion.element_test, Expansion.group, Expansion.expanded, Expansion.expansion}
+use Rattle.oat_asm.specs.{NoteRows.GroupsHaveTheWordsOfTheirRows, ExpansionLaws.IsMark, ExpansionLaws.MarksAreInRange, ExpansionLaws.LeadsTo, ExpansionLaws.MarkedLabelsStandOnce}
+use Rattle.oat_asm.specs.{ExpansionLaws.ExpansionLeavesNoMark, ExpansionLaws.ExpansionKeepsLabels, ExpansionLaws.ExpansionUsesLabelsThatStandOnce, ExpansionLaws.ExpansionStaysInRange}
 use Rattle.oat_asm.proofs.Seen.{count_cons}
+use Rattle.oat_asm.specs.declared.item.Item.TheVariants as item
 
 first_of : {A : Type 0} (x : A) (xs : List A) → Contains (x ∷ xs) x
 first_of x xs = Contains-append_left (x ∷ []) xs x (0, omega arith, refl)

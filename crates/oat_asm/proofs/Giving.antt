@@ -1,7 +1,6 @@
 -- What things give that stand one behind the other, for all things and sizes.
 use Rattle.std.proofs.Common.{◌≡◌, ℕ, zero, suc, ◌+◌, ◌≤◌, List, [], ◌∷◌, ◌++◌, length, refl, sym, ap, ◌∙◌, subst, Some, arith, inl, inr, append_assoc, length-append}
-use Rattle.std.specs.Prelude.{slice_get, Contains}
-use Rattle.std.specs.List.{flat_map}
+use Rattle.std.specs.{Prelude.slice_get, Prelude.Contains, List.flat_map}
 use Rattle.std.proofs.lemmas.List.Elements.{Contains-append_left, Contains-append_right, Contains-append_cases}
 use Rattle.oat_asm.specs.Giving.{words_in, words_before, gives_from}
 

@@ -1,15 +1,12 @@
 -- The words of an item, by the places that a map has for the labels.
 use Rattle.std.proofs.Common.{◌≡◌, ℕ, ◌≤◌, List, [], ◌∷◌, refl, ap, map, arith}
-use Rattle.std.specs.Prelude.{Contains}
-use Rattle.std.specs.BTreeMap.{BTreeMap}
-use Rattle.std.specs.List.{position_or_len}
-use Rattle.oat_a64.specs.Table.{word_of}
-use Rattle.oat_asm.specs.declared.item.Item.{Item}
-use Rattle.oat_asm.specs.declared.item.Item.TheVariants as item
-use Rattle.oat_asm.specs.Items.{item_words, words_needed, label_place, address, code_limit, is_label, StandsOnce, UsedLabelsStandOnce, InstructionsAreInRange, BranchesAreInRange, AddressesHaveRegisters}
-use Rattle.oat_asm.specs.Layout.{branch, distance, puts, words_of_item}
-use Rattle.oat_asm.specs.Steps.{known_place, HasPlaces, HasWords}
+use Rattle.std.specs.{Prelude.Contains, BTreeMap.BTreeMap, List.position_or_len}
+use Rattle.oat_shape.specs.{word_of}
+use Rattle.oat_asm.specs.{declared.item.Item.Item, Items.item_words, Items.words_needed, Items.label_place, Items.address, Items.code_limit, Items.is_label, Items.StandsOnce}
+use Rattle.oat_asm.specs.{Items.UsedLabelsStandOnce, Items.InstructionsAreInRange, Items.BranchesAreInRange, Items.AddressesHaveRegisters, Layout.branch, Layout.distance, Layout.puts}
+use Rattle.oat_asm.specs.{Layout.words_of_item, Steps.known_place, Steps.HasPlaces, Steps.HasWords}
 use Rattle.oat_asm.proofs.Giving.{before_within}
+use Rattle.oat_asm.specs.declared.item.Item.TheVariants as item
 
 within : (items : List Item) (places : BTreeMap ℕ ℕ) (label : ℕ) → words_needed items ≤ code_limit → HasPlaces items places → StandsOnce items label → known_place places label ≤ code_limit
 within items places label small has once =

@@ -1,29 +1,16 @@
 -- What stands at the address of an item, and what is listed.
 use Rattle.std.proofs.Common.{◌≡◌, ℕ, zero, suc, ◌+◌, ◌-◌, ◌/◌, ◌%◌, ◌^◌, ◌≤◌, List, [], ◌∷◌, ◌++◌, length, refl, sym, ap, ◌∙◌, subst, Bool, true, false, cond, Some, eq-eqb, arith, inl, inr}
-use Rattle.std.specs.Prelude.{slice_get, nat_eq, nat_le, nat_lt, Contains}
-use Rattle.std.specs.List.{count_by, position_or_len}
-use Rattle.std.specs.Option.{option_and_then}
-use Rattle.std.proofs.lemmas.Bool.{ltb-true, ltb-false, le-leb}
-use Rattle.std.proofs.lemmas.List.Elements.{Contains-push, Contains-push_cases}
-use Rattle.oat_a64.specs.declared.inst.Inst.{Inst}
-use Rattle.oat_a64.specs.declared.inst.Inst.TheVariants.{Movz, Movk}
-use Rattle.oat_a64.specs.Table.{IsInRange, word_of}
-use Rattle.oat_a64.specs.Fetch.{inst_of}
-use Rattle.oat_a64.specs.Laws.{FetchesByTheTable}
-use Rattle.oat_a64.specs.Step.{code_base, instruction_at, branch_target}
-use Rattle.oat_shape.specs.Groups.{Stands, Branches}
-use Rattle.oat_asm.specs.declared.branch_form.BranchForm.{BranchForm}
-use Rattle.oat_asm.specs.declared.item.Item.{Item}
+use Rattle.std.specs.{Prelude.slice_get, Prelude.nat_eq, Prelude.nat_le, Prelude.nat_lt, Prelude.Contains, List.count_by, List.position_or_len, Option.option_and_then}
+use Rattle.std.proofs.lemmas.{Bool.ltb-true, Bool.ltb-false, Bool.le-leb, List.Elements.Contains-push, List.Elements.Contains-push_cases}
+use Rattle.oat_shape.specs.{Inst, Movz, Movk, IsInRange, word_of, inst_of, FetchesByTheTable, code_base, instruction_at, branch_target, Groups.Stands, Groups.Branches}
+use Rattle.oat_asm.specs.{declared.branch_form.BranchForm.BranchForm, declared.item.Item.Item, declared.note.Note.Note, declared.assembled.LabelAt.LabelAt, declared.assembled.NoteAt.NoteAt}
+use Rattle.oat_asm.specs.{Items.item_words, Items.words_needed, Items.place, Items.label_place, Items.address, Items.code_limit, Items.is_label, Items.StandsOnce, Items.IsBranch, Layout.branch}
+use Rattle.oat_asm.specs.{Layout.distance, Layout.words_of_item, Layout.labels_of_item, Layout.notes_of_item, Layout.items_give, Laws.code_of, Laws.item_address, Laws.ItemsFollowOneAnother}
+use Rattle.oat_asm.specs.{Laws.PlacesRise, Laws.LayoutsAreOfTwo, Laws.LabelsHaveThePlacesOfTheirItems, Laws.LabelsStandBehindOthers, Laws.WordsStandAtTheirPlaces, Laws.BranchesReachPlaces}
+use Rattle.oat_asm.specs.{Laws.InstructionsStandAtTheirAddresses, Laws.BranchesLeadToTheirLabels, Laws.AddressesArePut, Laws.LabelsAreListed, Laws.NotesAreListed, Laws.NotesAreInOrder}
+use Rattle.oat_asm.proofs.{Giving.before_next, Giving.before_grows, Giving.before_within, Giving.gives-append, Giving.GivenBy, Giving.given_by, Giving.gives_at, Giving.reads_at, Ranges.ahead}
+use Rattle.oat_asm.proofs.{Ranges.behind, Ranges.branch_in_range, Seen.count_cons, Seen.place_of_cons}
 use Rattle.oat_asm.specs.declared.item.Item.TheVariants as item
-use Rattle.oat_asm.specs.declared.note.Note.{Note}
-use Rattle.oat_asm.specs.declared.assembled.LabelAt.{LabelAt}
-use Rattle.oat_asm.specs.declared.assembled.NoteAt.{NoteAt}
-use Rattle.oat_asm.specs.Items.{item_words, words_needed, place, label_place, address, code_limit, is_label, StandsOnce, IsBranch}
-use Rattle.oat_asm.specs.Layout.{branch, distance, words_of_item, labels_of_item, notes_of_item, items_give}
-use Rattle.oat_asm.specs.Laws.{code_of, item_address, ItemsFollowOneAnother, PlacesRise, LayoutsAreOfTwo, LabelsHaveThePlacesOfTheirItems, LabelsStandBehindOthers, WordsStandAtTheirPlaces, BranchesReachPlaces, InstructionsStandAtTheirAddresses, BranchesLeadToTheirLabels, AddressesArePut, LabelsAreListed, NotesAreListed, NotesAreInOrder}
-use Rattle.oat_asm.proofs.Giving.{before_next, before_grows, before_within, gives-append, GivenBy, given_by, gives_at, reads_at}
-use Rattle.oat_asm.proofs.Ranges.{ahead, behind, branch_in_range}
-use Rattle.oat_asm.proofs.Seen.{count_cons, place_of_cons}
 
 -- ---- places
 

@@ -1,10 +1,8 @@
 -- Loops over items that carry the place: one item further, and bounds.
 use Rattle.std.proofs.Common.{◌≡◌, ℕ, ◌+◌, ◌*◌, ◌<◌, ◌≤◌, List, [], ◌∷◌, ◌++◌, length, get_or, drop, sym, ap, ◌∙◌, arith, append_assoc}
 use Rattle.std.proofs.lemmas.List.{at_drop_more}
-use Rattle.oat_asm.specs.declared.item.Item.{Item}
+use Rattle.oat_asm.specs.{declared.item.Item.Item, Items.item_words, Items.words_needed, Layout.items_give}
 use Rattle.oat_asm.specs.declared.item.Item.TheVariants as item
-use Rattle.oat_asm.specs.Items.{item_words, words_needed}
-use Rattle.oat_asm.specs.Layout.{items_give}
 
 at_most_two : (i : Item) → item_words i ≤ 2
 at_most_two (item.Inst x) = omega arith

@@ -1,7 +1,7 @@
 -- Ranges, item by item.
 use Rattle.std.proofs.lemmas.List.Elements.{All-contains, All-from_recursion}
-use Rattle.oat_asm.specs.declared.item.Item.TheVariants as item
 use Rattle.oat_asm.specs.Ranges.{IsItemInRange, RangesGoByItem}
+use Rattle.oat_asm.specs.declared.item.Item.TheVariants as item
 
 pub ranges_go_by_item : RangesGoByItem
 ranges_go_by_item items each =

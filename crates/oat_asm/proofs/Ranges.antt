@@ -1,13 +1,11 @@
 -- The branches between places of code fit their fields.
 use Rattle.std.proofs.Common.{◌≡◌, ℕ, suc, ◌-◌, ◌<◌, ◌≤◌, ◌^◌, Bool, true, false, refl, arith}
 use Rattle.std.specs.Prelude.{pos, negsuc, nat_lt}
-use Rattle.std.proofs.lemmas.Bool.{ltb-true, ltb-false}
-use Rattle.std.proofs.lemmas.Int.{ints}
-use Rattle.oat_a64.specs.Table.{FitsSigned, IsInRange}
-use Rattle.oat_asm.specs.declared.branch_form.BranchForm.{BranchForm}
-use Rattle.oat_asm.specs.declared.branch_form.BranchForm.TheVariants.{B, Bl, Cond, Cbz, Cbnz}
-use Rattle.oat_asm.specs.Items.{IsBranch, code_limit}
-use Rattle.oat_asm.specs.Layout.{branch, distance}
+use Rattle.std.proofs.lemmas.{Bool.ltb-true, Bool.ltb-false, Int.ints}
+use Rattle.oat_shape.specs.{FitsSigned, IsInRange}
+use Rattle.oat_asm.specs.{declared.branch_form.BranchForm.BranchForm, declared.branch_form.BranchForm.TheVariants.B, declared.branch_form.BranchForm.TheVariants.Bl}
+use Rattle.oat_asm.specs.{declared.branch_form.BranchForm.TheVariants.Cond, declared.branch_form.BranchForm.TheVariants.Cbz, declared.branch_form.BranchForm.TheVariants.Cbnz, Items.IsBranch}
+use Rattle.oat_asm.specs.{Items.code_limit, Layout.branch, Layout.distance}
 
 pub ahead : (from to : ℕ) → from ≤ to → distance from to ≡ pos (to - from)
 ahead from to h = omega (arith, ints)

@@ -1,11 +1,8 @@
 -- Where a label was seen last: a loop over the items finds the place of each label that stands once.
 use Rattle.std.proofs.Common.{◌≡◌, ℕ, suc, ◌+◌, ◌≤◌, List, [], ◌∷◌, length, drop, refl, sym, ap, ◌∙◌, Bool, true, false, cond, Option, Some, None, arith}
-use Rattle.std.specs.Prelude.{unwrap_or}
-use Rattle.std.specs.List.{count_by, position_or_len}
-use Rattle.std.proofs.lemmas.List.{drop_all}
-use Rattle.std.proofs.lemmas.List.Sums.{sum_by-cons}
-use Rattle.oat_asm.specs.declared.item.Item.{Item}
-use Rattle.oat_asm.specs.Items.{item_words, place, label_place, is_label, StandsOnce}
+use Rattle.std.specs.{Prelude.unwrap_or, List.count_by, List.position_or_len}
+use Rattle.std.proofs.lemmas.{List.drop_all, List.Sums.sum_by-cons}
+use Rattle.oat_asm.specs.{declared.item.Item.Item, Items.item_words, Items.place, Items.label_place, Items.is_label, Items.StandsOnce}
 
 -- the place of the last item with the label, of those from here on; else what was known
 abbrev pub seen : ℕ → List Item → ℕ → Option ℕ → Option ℕ

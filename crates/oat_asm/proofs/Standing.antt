@@ -1,13 +1,12 @@
 -- The group of a mark is the group of its row.
 use Rattle.std.proofs.Common.{◌≡◌, ℕ, ◌+◌, List, [], ◌∷◌, map, refl, sym, subst, arith}
 use Rattle.std.specs.Prelude.{ℤ, ⊤}
-use Rattle.oat_a64.specs.declared.inst.Inst.{Inst}
-use Rattle.oat_image.specs.declared.image.Image.{Image}
-use Rattle.oat_asm.specs.declared.item.Item.{Item}
+use Rattle.oat_shape.specs.{Inst, Image, Groups.Stands, Groups.Branches, Groups.IsUseGroup, Groups.IsDefineGroup, Groups.IsUseAtGroup, Groups.IsDefineAtGroup}
+use Rattle.oat_asm.specs.{declared.item.Item.Item, declared.mark.Mark.TheVariants.Jump, declared.mark.Mark.TheVariants.Branch, declared.mark.Mark.TheVariants.Call}
+use Rattle.oat_asm.specs.{declared.mark.Mark.TheVariants.ICall, declared.mark.Mark.TheVariants.Ret, declared.mark.Mark.TheVariants.Begin, declared.mark.Mark.TheVariants.End}
+use Rattle.oat_asm.specs.{declared.mark.Mark.TheVariants.UseCell, declared.mark.Mark.TheVariants.DefCell, declared.mark.Mark.TheVariants.UseAt, declared.mark.Mark.TheVariants.DefAt}
+use Rattle.oat_asm.specs.{Standing.ItemsStand, Standing.GroupsAreThoseOfRows}
 use Rattle.oat_asm.specs.declared.item.Item.TheVariants as item
-use Rattle.oat_asm.specs.declared.mark.Mark.TheVariants.{Jump, Branch, Call, ICall, Ret, Begin, End, UseCell, DefCell, UseAt, DefAt}
-use Rattle.oat_shape.specs.Groups.{Stands, Branches, IsUseGroup, IsDefineGroup, IsUseAtGroup, IsDefineAtGroup}
-use Rattle.oat_asm.specs.Standing.{ItemsStand, GroupsAreThoseOfRows}
 
 third : (p : ℕ) → p + 4 + 4 ≡ p + 8
 third p = omega arith

@@ -1,26 +1,15 @@
 -- The items of a layout stand in the image that has its words.
 use Rattle.std.proofs.Common.{◌≡◌, ℕ, suc, ◌+◌, ◌*◌, ◌/◌, ◌%◌, ◌^◌, List, [], ◌∷◌, ◌++◌, refl, sym, ap, subst, ◌∙◌, Some, arith, inl, inr}
-use Rattle.std.specs.Prelude.{slice_get, Contains}
-use Rattle.std.specs.List.{position_or_len}
-use Rattle.std.proofs.lemmas.List.Elements.{Contains-push_cases}
-use Rattle.std.proofs.lemmas.Option.{slice_get_within, get_or_from_slice_get}
-use Rattle.oat_a64.specs.declared.inst.Inst.{Inst}
-use Rattle.oat_a64.specs.declared.inst.Inst.TheVariants.{Movz, Movk}
-use Rattle.oat_a64.specs.Table.{IsInRange, word_of}
-use Rattle.oat_a64.specs.Laws.{FetchesByTheTable}
-use Rattle.oat_a64.specs.Step.{code_base}
-use Rattle.oat_image.specs.declared.image.Image.{Image}
-use Rattle.oat_shape.specs.Groups.{Stands, Branches}
-use Rattle.oat_asm.specs.declared.item.Item.{Item}
+use Rattle.std.specs.{Prelude.slice_get, Prelude.Contains, List.position_or_len}
+use Rattle.std.proofs.lemmas.{List.Elements.Contains-push_cases, Option.slice_get_within, Option.get_or_from_slice_get}
+use Rattle.oat_shape.specs.{Inst, Movz, Movk, IsInRange, word_of, FetchesByTheTable, code_base, Image, Groups.Stands, Groups.Branches}
+use Rattle.oat_asm.specs.{declared.item.Item.Item, Items.item_words, Items.words_needed, Items.place, Items.label_place, Items.is_label, Layout.branch, Layout.distance, Layout.words_of_item}
+use Rattle.oat_asm.specs.{Laws.code_of, Laws.item_address, Standing.ItemsStand, StandingLaws.CanBeAssembled, StandingLaws.LabelsStandOnce, StandingLaws.label_address, StandingLaws.RowsAreOver}
+use Rattle.oat_asm.specs.{StandingLaws.LaidItemsStand, StandingLaws.WordsOfTwo, StandingLaws.ItemsStandInTwo, StandingLaws.IsEncoded, StandingLaws.LaidWordsEncode}
+use Rattle.oat_asm.proofs.{Giving.before_within, Giving.before_next, Giving.GivenBy, Giving.given_by, Giving.gives-length, Ranges.branch_in_range, LayoutLaws.words_are_counted}
+use Rattle.oat_asm.proofs.{LayoutLaws.instructions_stand, LayoutLaws.branch_stands, LayoutLaws.low_in_range, LayoutLaws.high_in_range, LayoutLaws.address_stands, LayoutLaws.label_placed}
+use Rattle.oat_asm.proofs.{LayoutLaws.notes_listed}
 use Rattle.oat_asm.specs.declared.item.Item.TheVariants as item
-use Rattle.oat_asm.specs.Items.{item_words, words_needed, place, label_place, is_label}
-use Rattle.oat_asm.specs.Layout.{branch, distance, words_of_item}
-use Rattle.oat_asm.specs.Laws.{code_of, item_address}
-use Rattle.oat_asm.specs.Standing.{ItemsStand}
-use Rattle.oat_asm.specs.StandingLaws.{CanBeAssembled, LabelsStandOnce, label_address, RowsAreOver, LaidItemsStand, WordsOfTwo, ItemsStandInTwo, IsEncoded, LaidWordsEncode}
-use Rattle.oat_asm.proofs.Giving.{before_within, before_next, GivenBy, given_by, gives-length}
-use Rattle.oat_asm.proofs.Ranges.{branch_in_range}
-use Rattle.oat_asm.proofs.LayoutLaws.{words_are_counted, instructions_stand, branch_stands, low_in_range, high_in_range, address_stands, label_placed, notes_listed}
 
 get_in : (items : List Item) (k : ℕ) (x : Item) → slice_get items k ≡ Some x → Contains items x
 get_in items k x at = (k, slice_get_within items k x at, get_or_from_slice_get items k x x at)

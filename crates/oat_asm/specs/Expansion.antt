@@ -1,16 +1,12 @@
 -- The expansion of items: each mark becomes the note of its row and the row's group (docs/FORMATS.md, the groups; the instructions are those of the Arm A64 manual).
-use Rattle.std.specs.Prelude.{ℕ, pos, List, [], ◌∷◌, ◌++◌, map}
-use Rattle.std.specs.List.{flat_map}
-use Rattle.oat_mem.specs.DataMemory.{global_address}
+use Rattle.std.specs.{Prelude.ℕ, Prelude.pos, Prelude.List, Prelude.[], Prelude.◌∷◌, Prelude.◌++◌, Prelude.map, List.flat_map}
+use Rattle.oat_shape.specs.{global_address}
+use Rattle.oat_asm.specs.{declared.branch_form.BranchForm.TheVariants.B, declared.branch_form.BranchForm.TheVariants.Bl, declared.branch_form.BranchForm.TheVariants.Cbnz, declared.mark.Mark.Mark}
+use Rattle.oat_asm.specs.{declared.note.Note.Note, declared.item.Item.Item, Layout.puts}
 use Rattle.oat_a64.specs.declared.inst.Inst.TheVariants as inst
-use Rattle.oat_asm.specs.declared.branch_form.BranchForm.TheVariants.{B, Bl, Cbnz}
-use Rattle.oat_asm.specs.declared.mark.Mark.{Mark}
 use Rattle.oat_asm.specs.declared.mark.Mark.TheVariants as mark
-use Rattle.oat_asm.specs.declared.note.Note.{Note}
 use Rattle.oat_asm.specs.declared.note.Note.TheVariants as note
-use Rattle.oat_asm.specs.declared.item.Item.{Item}
 use Rattle.oat_asm.specs.declared.item.Item.TheVariants as item
-use Rattle.oat_asm.specs.Layout.{puts}
 
 abbrev pub note_of : Mark → Note
 note_of (mark.Jump to) = note.Jump to

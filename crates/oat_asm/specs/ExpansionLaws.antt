@@ -1,12 +1,10 @@
 -- What holds of each expansion (docs/PROMISES.md): what the assembler asks of the items holds of the expanded ones.
-use Rattle.std.specs.Prelude.{◌≡◌, ℕ, ◌^◌, ◌<◌, List, Contains, ⊤, ◌⊎◌}
-use Rattle.std.specs.List.{count_by}
-use Rattle.oat_asm.specs.declared.mark.Mark.{Mark}
-use Rattle.oat_asm.specs.declared.mark.Mark.TheVariants.{Jump, Branch, Call, Begin, End, UseCell, DefCell, UseAt, DefAt}
-use Rattle.oat_asm.specs.declared.item.Item.{Item}
+use Rattle.std.specs.{Prelude.◌≡◌, Prelude.ℕ, Prelude.◌^◌, Prelude.◌<◌, Prelude.List, Prelude.Contains, Prelude.⊤, Prelude.◌⊎◌, List.count_by}
+use Rattle.oat_asm.specs.{declared.mark.Mark.Mark, declared.mark.Mark.TheVariants.Jump, declared.mark.Mark.TheVariants.Branch, declared.mark.Mark.TheVariants.Call}
+use Rattle.oat_asm.specs.{declared.mark.Mark.TheVariants.Begin, declared.mark.Mark.TheVariants.End, declared.mark.Mark.TheVariants.UseCell, declared.mark.Mark.TheVariants.DefCell}
+use Rattle.oat_asm.specs.{declared.mark.Mark.TheVariants.UseAt, declared.mark.Mark.TheVariants.DefAt, declared.item.Item.Item, Items.is_label, Items.StandsOnce, Items.UsedLabelsStandOnce}
+use Rattle.oat_asm.specs.{Items.NoMarkIsLeft, Items.InstructionsAreInRange, Items.BranchesAreInRange, Items.AddressesHaveRegisters, Expansion.expansion}
 use Rattle.oat_asm.specs.declared.item.Item.TheVariants as item
-use Rattle.oat_asm.specs.Items.{is_label, StandsOnce, UsedLabelsStandOnce, NoMarkIsLeft, InstructionsAreInRange, BranchesAreInRange, AddressesHaveRegisters}
-use Rattle.oat_asm.specs.Expansion.{expansion}
 
 -- ids, cells and lengths have 16 bits, and a cell's word is one of the first 65,536
 abbrev pub IsMark : Mark → Type 0

@@ -1,14 +1,11 @@
 -- Items of code, where they stand, and what has to hold of them before they become words (docs/FORMATS.md).
-use Rattle.std.specs.Prelude.{◌≡◌, ℕ, ◌+◌, ◌*◌, ◌≤◌, ◌<◌, ◌^◌, Bool, IsTrue, false, nat_eq, List, Contains, ⊤}
-use Rattle.std.specs.List.{count_by, position_or_len}
-use Rattle.oat_a64.specs.declared.inst.Inst.{Inst}
-use Rattle.oat_a64.specs.Table.{is_condition, IsInRange}
-use Rattle.oat_asm.specs.declared.branch_form.BranchForm.{BranchForm}
-use Rattle.oat_asm.specs.declared.branch_form.BranchForm.TheVariants.{B, Bl, Cond, Cbz, Cbnz}
-use Rattle.oat_asm.specs.declared.mark.Mark.{Mark}
-use Rattle.oat_asm.specs.declared.item.Item.{Item}
+use Rattle.std.specs.{Prelude.◌≡◌, Prelude.ℕ, Prelude.◌+◌, Prelude.◌*◌, Prelude.◌≤◌, Prelude.◌<◌, Prelude.◌^◌, Prelude.Bool, Prelude.IsTrue, Prelude.false, Prelude.nat_eq, Prelude.List}
+use Rattle.std.specs.{Prelude.Contains, Prelude.⊤, List.count_by, List.position_or_len}
+use Rattle.oat_shape.specs.{Inst, is_condition, IsInRange}
+use Rattle.oat_asm.specs.{declared.branch_form.BranchForm.BranchForm, declared.branch_form.BranchForm.TheVariants.B, declared.branch_form.BranchForm.TheVariants.Bl}
+use Rattle.oat_asm.specs.{declared.branch_form.BranchForm.TheVariants.Cond, declared.branch_form.BranchForm.TheVariants.Cbz, declared.branch_form.BranchForm.TheVariants.Cbnz, declared.mark.Mark.Mark}
+use Rattle.oat_asm.specs.{declared.item.Item.Item, Giving.words_in, Giving.words_before}
 use Rattle.oat_asm.specs.declared.item.Item.TheVariants as item
-use Rattle.oat_asm.specs.Giving.{words_in, words_before}
 
 -- an AddressOf has two words, and labels, marks and notes have none
 abbrev pub item_words : Item → ℕ

@@ -1,17 +1,11 @@
 -- What holds of each layout (docs/PROMISES.md), of which the compiler's proofs make use.
-use Rattle.std.specs.Prelude.{◌≡◌, ℕ, ◌+◌, ◌/◌, ◌%◌, ◌^◌, ◌≤◌, ◌↔◌, ℤ, List, ◌++◌, Some, slice_get, Contains}
-use Rattle.std.specs.List.{count_by}
-use Rattle.oat_a64.specs.declared.inst.Inst.{Inst}
-use Rattle.oat_a64.specs.declared.inst.Inst.TheVariants.{Movz, Movk}
-use Rattle.oat_a64.specs.Table.{IsInRange}
-use Rattle.oat_a64.specs.Step.{code_base, word_at, instruction_at, branch_target}
-use Rattle.oat_asm.specs.declared.branch_form.BranchForm.{BranchForm}
-use Rattle.oat_asm.specs.declared.note.Note.{Note}
-use Rattle.oat_asm.specs.declared.item.Item.{Item}
+use Rattle.std.specs.{Prelude.◌≡◌, Prelude.ℕ, Prelude.◌+◌, Prelude.◌/◌, Prelude.◌%◌, Prelude.◌^◌, Prelude.◌≤◌, Prelude.◌↔◌, Prelude.ℤ, Prelude.List, Prelude.◌++◌, Prelude.Some, Prelude.slice_get}
+use Rattle.std.specs.{Prelude.Contains, List.count_by}
+use Rattle.oat_shape.specs.{Inst, Movz, Movk, IsInRange, code_base, word_at, instruction_at, branch_target}
+use Rattle.oat_asm.specs.{declared.branch_form.BranchForm.BranchForm, declared.note.Note.Note, declared.item.Item.Item, declared.assembled.NoteAt.NoteAt, Items.item_words, Items.words_needed}
+use Rattle.oat_asm.specs.{Items.place, Items.is_label, Items.label_place, Items.address, Items.code_limit, Items.StandsOnce, Items.IsBranch, Layout.branch, Layout.distance, Layout.words_of_item}
+use Rattle.oat_asm.specs.{Layout.labels_of_item, Layout.notes_of_item, Layout.items_give, Layout.layout}
 use Rattle.oat_asm.specs.declared.item.Item.TheVariants as item
-use Rattle.oat_asm.specs.declared.assembled.NoteAt.{NoteAt}
-use Rattle.oat_asm.specs.Items.{item_words, words_needed, place, is_label, label_place, address, code_limit, StandsOnce, IsBranch}
-use Rattle.oat_asm.specs.Layout.{branch, distance, words_of_item, labels_of_item, notes_of_item, items_give, layout}
 
 abbrev pub code_of : List Item → List ℕ
 code_of items = (layout items code_base).code

@@ -1,17 +1,12 @@
 -- The layout of items: the words, labels and notes that they become, each at its address (docs/FORMATS.md; the encodings are those of the Arm A64 manual).
 use Rattle.std.specs.Prelude.{ℕ, ◌/◌, ◌%◌, ◌^◌, ℤ, pos, ◌-ℤ◌, List, [], ◌∷◌, map}
-use Rattle.oat_a64.specs.declared.inst.Inst.{Inst}
+use Rattle.oat_shape.specs.{Inst, word_of}
+use Rattle.oat_asm.specs.{declared.branch_form.BranchForm.BranchForm, declared.branch_form.BranchForm.TheVariants.B, declared.branch_form.BranchForm.TheVariants.Bl}
+use Rattle.oat_asm.specs.{declared.branch_form.BranchForm.TheVariants.Cond, declared.branch_form.BranchForm.TheVariants.Cbz, declared.branch_form.BranchForm.TheVariants.Cbnz, declared.item.Item.Item}
+use Rattle.oat_asm.specs.{declared.assembled.LabelAt.LabelAt, declared.assembled.NoteAt.NoteAt, declared.assembled.Assembled.Assembled, Giving.gives_from, Items.item_words, Items.label_place}
+use Rattle.oat_asm.specs.{Items.address}
 use Rattle.oat_a64.specs.declared.inst.Inst.TheVariants as inst
-use Rattle.oat_a64.specs.Table.{word_of}
-use Rattle.oat_asm.specs.declared.branch_form.BranchForm.{BranchForm}
-use Rattle.oat_asm.specs.declared.branch_form.BranchForm.TheVariants.{B, Bl, Cond, Cbz, Cbnz}
-use Rattle.oat_asm.specs.declared.item.Item.{Item}
 use Rattle.oat_asm.specs.declared.item.Item.TheVariants as item
-use Rattle.oat_asm.specs.declared.assembled.LabelAt.{LabelAt}
-use Rattle.oat_asm.specs.declared.assembled.NoteAt.{NoteAt}
-use Rattle.oat_asm.specs.declared.assembled.Assembled.{Assembled}
-use Rattle.oat_asm.specs.Giving.{gives_from}
-use Rattle.oat_asm.specs.Items.{item_words, label_place, address}
 
 -- the branch of a form over so many words
 abbrev pub branch : BranchForm → ℤ → Inst

@@ -1,13 +1,10 @@
 -- The row of the map that a note stands for, and how many words its group has (docs/FORMATS.md, rows and their groups).
 use Rattle.std.specs.Prelude.{◌≡◌, ℕ}
-use Rattle.oat_map.specs.declared.row.Row.{Row}
-use Rattle.oat_map.specs.declared.row.Row.TheVariants as row
-use Rattle.oat_map.specs.Rows as rows
-use Rattle.oat_asm.specs.declared.mark.Mark.{Mark}
-use Rattle.oat_asm.specs.declared.note.Note.{Note}
+use Rattle.oat_shape.specs.{Row}
+use Rattle.oat_asm.specs.{declared.mark.Mark.Mark, declared.note.Note.Note, Items.words_needed, Expansion.note_of, Expansion.group}
+use Rattle.oat_shape.specs.row as row
+use Rattle.oat_shape.specs.rows as rows
 use Rattle.oat_asm.specs.declared.note.Note.TheVariants as note
-use Rattle.oat_asm.specs.Items.{words_needed}
-use Rattle.oat_asm.specs.Expansion.{note_of, group}
 
 -- the row at an address, by the address of each label
 abbrev pub row_of : (ℕ → ℕ) → ℕ → Note → Row

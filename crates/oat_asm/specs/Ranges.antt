@@ -1,11 +1,9 @@
 -- What has to be in range, item by item.
-use Rattle.std.specs.Prelude.{◌≤◌, List, ⊤}
-use Rattle.std.specs.List.{AllByRecursion}
-use Rattle.oat_a64.specs.Table.{IsInRange}
-use Rattle.oat_asm.specs.declared.item.Item.{Item}
+use Rattle.std.specs.{Prelude.◌≤◌, Prelude.List, Prelude.⊤, List.AllByRecursion}
+use Rattle.oat_shape.specs.{IsInRange}
+use Rattle.oat_asm.specs.{declared.item.Item.Item, Items.IsBranch, Items.InstructionsAreInRange, Items.BranchesAreInRange, Items.AddressesHaveRegisters, ExpansionLaws.IsMark}
+use Rattle.oat_asm.specs.{ExpansionLaws.MarksAreInRange}
 use Rattle.oat_asm.specs.declared.item.Item.TheVariants as item
-use Rattle.oat_asm.specs.Items.{IsBranch, InstructionsAreInRange, BranchesAreInRange, AddressesHaveRegisters}
-use Rattle.oat_asm.specs.ExpansionLaws.{IsMark, MarksAreInRange}
 
 abbrev pub IsItemInRange : Item → Type 0
 IsItemInRange (item.Inst inst) = IsInRange inst

@@ -1,18 +1,9 @@
 -- Items in an image: where they stand, and that the group of a mark is the group of its row. So the expansion and the shape rules have one table of groups.
 use Rattle.std.specs.Prelude.{◌≡◌, ◌+◌, ◌/◌, ◌%◌, ◌^◌, ◌≤◌, ◌<◌, ◌↔◌, ℕ, List, [], ◌∷◌, Some, slice_get, ⊤}
-use Rattle.oat_a64.specs.declared.inst.Inst.TheVariants.{Movz, Movk}
-use Rattle.oat_map.specs.declared.row.Row.{Row}
-use Rattle.oat_map.specs.Rows.{address_of, row_over}
-use Rattle.oat_image.specs.declared.image.Image.{Image}
-use Rattle.oat_shape.specs.Groups.{Stands, Branches, AreElements, IsGroup}
-use Rattle.oat_shape.specs.Shape.{group_end}
-use Rattle.oat_asm.specs.declared.mark.Mark.{Mark}
-use Rattle.oat_asm.specs.declared.mark.Mark.TheVariants.{UseCell, DefCell, UseAt, DefAt}
-use Rattle.oat_asm.specs.declared.item.Item.{Item}
+use Rattle.oat_shape.specs.{Movz, Movk, Row, address_of, row_over, Image, Groups.Stands, Groups.Branches, Groups.AreElements, Groups.IsGroup, Shape.group_end}
+use Rattle.oat_asm.specs.{declared.mark.Mark.Mark, declared.mark.Mark.TheVariants.UseCell, declared.mark.Mark.TheVariants.DefCell, declared.mark.Mark.TheVariants.UseAt}
+use Rattle.oat_asm.specs.{declared.mark.Mark.TheVariants.DefAt, declared.item.Item.Item, Layout.branch, Expansion.note_of, Expansion.group, NoteRows.row_of}
 use Rattle.oat_asm.specs.declared.item.Item.TheVariants as item
-use Rattle.oat_asm.specs.Layout.{branch}
-use Rattle.oat_asm.specs.Expansion.{note_of, group}
-use Rattle.oat_asm.specs.NoteRows.{row_of}
 
 -- a row is the one over each address of its group
 abbrev pub IsOver : List Row → Row → Type 0

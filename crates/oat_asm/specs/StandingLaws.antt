@@ -1,17 +1,10 @@
 -- Items that are laid out stand in the image that has their words, and their words are instructions' (docs/PROMISES.md).
 use Rattle.std.specs.Prelude.{◌≡◌, ◌+◌, ◌*◌, ◌≤◌, ℕ, List, ◌++◌, length, Contains}
-use Rattle.oat_a64.specs.declared.inst.Inst.{Inst}
-use Rattle.oat_a64.specs.Table.{IsInRange, word_of}
-use Rattle.oat_a64.specs.Step.{code_base}
-use Rattle.oat_image.specs.declared.image.Image.{Image}
-use Rattle.oat_asm.specs.declared.note.Note.{Note}
-use Rattle.oat_asm.specs.declared.item.Item.{Item}
+use Rattle.oat_shape.specs.{Inst, IsInRange, word_of, code_base, Image}
+use Rattle.oat_asm.specs.{declared.note.Note.Note, declared.item.Item.Item, Items.words_needed, Items.label_place, Items.address, Items.code_limit, Items.StandsOnce, Items.UsedLabelsStandOnce}
+use Rattle.oat_asm.specs.{Items.NoMarkIsLeft, Items.InstructionsAreInRange, Items.BranchesAreInRange, Items.AddressesHaveRegisters, Layout.layout, NoteRows.row_of, Laws.code_of, Standing.IsOver}
+use Rattle.oat_asm.specs.{Standing.ItemsStand}
 use Rattle.oat_asm.specs.declared.item.Item.TheVariants as item
-use Rattle.oat_asm.specs.Items.{words_needed, label_place, address, code_limit, StandsOnce, UsedLabelsStandOnce, NoMarkIsLeft, InstructionsAreInRange, BranchesAreInRange, AddressesHaveRegisters}
-use Rattle.oat_asm.specs.Layout.{layout}
-use Rattle.oat_asm.specs.NoteRows.{row_of}
-use Rattle.oat_asm.specs.Laws.{code_of}
-use Rattle.oat_asm.specs.Standing.{IsOver, ItemsStand}
 
 -- what the assembler asks of the items
 pub record CanBeAssembled (items : List Item) : Type 0 where

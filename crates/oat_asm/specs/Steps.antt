@@ -1,11 +1,8 @@
 -- What one step of the assembler needs: the places of the labels that a map holds, and an item whose words are at hand.
-use Rattle.std.specs.Prelude.{◌≡◌, ℕ, ◌≤◌, Some, if◌then◌else◌, unwrap_or, List, ⊤}
-use Rattle.std.specs.Ordering.{nat_cmp}
-use Rattle.std.specs.BTreeMap.{BTreeMap, get}
-use Rattle.oat_a64.specs.Table.{IsInRange}
-use Rattle.oat_asm.specs.declared.item.Item.{Item}
+use Rattle.std.specs.{Prelude.◌≡◌, Prelude.ℕ, Prelude.◌≤◌, Prelude.Some, Prelude.if◌then◌else◌, Prelude.unwrap_or, Prelude.List, Prelude.⊤, Ordering.nat_cmp, BTreeMap.BTreeMap, BTreeMap.get}
+use Rattle.oat_shape.specs.{IsInRange}
+use Rattle.oat_asm.specs.{declared.item.Item.Item, Items.StandsOnce, Items.IsBranch, Items.is_label, Items.label_place, Items.code_limit}
 use Rattle.oat_asm.specs.declared.item.Item.TheVariants as item
-use Rattle.oat_asm.specs.Items.{StandsOnce, IsBranch, is_label, label_place, code_limit}
 
 -- the place that the map has for a label
 abbrev pub known_place : BTreeMap ℕ ℕ → ℕ → ℕ

@@ -1,5 +1,5 @@
 ghost use Rattle.std.specs.Prelude.{◌≡◌, ℕ, ◌<◌, ◌≤◌, ◌↔◌, Err, IfOk, OnOk};
-ghost use Rattle.oat_a64.specs.Step.{code_base};
+ghost use Rattle.oat_shape.specs.{code_base};
 ghost use Rattle.oat_asm.specs.declared.assembled.AsmFault.TheVariants.{CodeTooLarge};
 ghost use Rattle.oat_asm.specs.Items.{
   words_needed,

@@ -18,4 +18,5 @@ pub use branch_form::BranchForm;
 pub use item::{Item, Items};
 pub use mark::Mark;
 pub use note::Note;
+pub use oat_a64::Inst;
 pub use words::puts;

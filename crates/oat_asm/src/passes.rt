@@ -1,7 +1,7 @@
 //! The passes over the items that need no label's place.
 
 ghost use Rattle.std.specs.Prelude.{◌≡◌, ◌++◌, ◌^◌, ◌<◌, ◌≤◌, IfOk, OnOk};
-ghost use Rattle.oat_a64.specs.Step.{code_base};
+ghost use Rattle.oat_shape.specs.{code_base};
 ghost use Rattle.oat_asm.specs.Items.{address, words_needed, code_limit};
 ghost use Rattle.oat_asm.specs.Layout.{labels_of_item, notes_of_item, items_give};
 

@@ -1,8 +1,7 @@
 //! The words of items.
 
 ghost use Rattle.std.specs.Prelude.{◌≡◌, [], ◌∷◌, ◌++◌, ◌^◌, ◌<◌, ◌≤◌, map, IfOk, OnOk};
-ghost use Rattle.oat_a64.specs.Table.{word_of};
-ghost use Rattle.oat_a64.specs.Step.{code_base};
+ghost use Rattle.oat_shape.specs.{word_of, code_base};
 ghost use Rattle.oat_asm.specs.Items.{
   words_needed,
   label_place,

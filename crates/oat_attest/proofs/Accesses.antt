@@ -1,20 +1,14 @@
 -- Loads and stores of words of global data: what they leave, and the uses that were read by them.
-use Rattle.std.proofs.Common.{◌≡◌, ℕ, zero, suc, ◌+◌, ◌*◌, ◌/◌, ◌%◌, ◌^◌, ◌<◌, ◌≤◌, ◌⊎◌, Bool, true, cond, List, [], ◌∷◌, ◌++◌, length, Contains, Some, None, refl, sym, ap, ap₂, subst, ◌∙◌, inl, inr, arith}
+use Rattle.std.proofs.Common.{◌≡◌, ℕ, zero, suc, ◌+◌, ◌*◌, ◌/◌, ◌%◌, ◌^◌, ◌<◌, ◌≤◌, ◌⊎◌, Bool, true, cond, List, [], ◌∷◌, ◌++◌, length, Contains, Some, None, refl, sym, ap, ap₂, subst, ◌∙◌, inl, inr}
+use Rattle.std.proofs.Common.{arith}
 use Rattle.std.specs.List.{slice_get}
 use Rattle.std.proofs.lemmas.Bool.{eq-eqb, le-leb, and_from, or_left}
-use Rattle.oat_a64.specs.declared.inst.Inst.TheVariants.{Movz, Movk}
-use Rattle.oat_a64.specs.Step.{Regs, Effect, next_pc, with_reg, with_bits, shifted_left, loads as loads_from, stores as stores_to}
-use Rattle.oat_mem.specs.DataMemory.{can_access, fits, word_in, global_base, global_size, global_address}
-use Rattle.oat_map.specs.declared.row.Row.{Row}
-use Rattle.oat_image.specs.declared.image.Image.{Image}
-use Rattle.oat_measure.specs.declared.call.MonitorCall.TheVariants as svc
-use Rattle.oat_shape.specs.Groups.{Stands}
-use Rattle.oat_journal.specs.Run.{Entry, pc_of}
-use Rattle.oat_journal.specs.Window.{made_call}
-use Rattle.oat_attest.specs.Headline.{NamesCell, IsUseOf, IsLoadOf, ReadByLoad, AllReadByLoad}
-use Rattle.oat_attest.specs.Lockstep.{AreQuiet}
-use Rattle.oat_attest.proofs.Stretches.{Runs, machine, moved_to, read_behind}
-use Rattle.oat_attest.proofs.Crossings.{Led, lead, next_at}
+use Rattle.oat_journal.specs.{Movz, Movk, Regs, Effect, next_pc, with_reg, with_bits, shifted_left, can_access, fits, word_in, global_base, global_size, global_address, Row, Image, Run.Entry}
+use Rattle.oat_journal.specs.{Run.pc_of, Window.made_call}
+use Rattle.oat_verify.specs.{loads as loads_from, stores as stores_to, Stands}
+use Rattle.oat_attest.specs.{Headline.NamesCell, Headline.IsUseOf, Headline.IsLoadOf, Headline.ReadByLoad, Headline.AllReadByLoad, Lockstep.AreQuiet}
+use Rattle.oat_attest.proofs.{Stretches.Runs, Stretches.machine, Stretches.moved_to, Stretches.read_behind, Crossings.Led, Crossings.lead, Crossings.next_at}
+use Rattle.oat_journal.specs.svc as svc
 
 -- ---- addresses of words
 

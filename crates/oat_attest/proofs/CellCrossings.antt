@@ -2,26 +2,16 @@
 use Rattle.std.proofs.Common.{◌≡◌, ℕ, ◌+◌, ◌*◌, ◌^◌, ◌<◌, ◌≤◌, List, [], ◌∷◌, ◌++◌, map, Contains, Option, Some, None, refl, sym, ap, ap₂, subst, ◌∙◌, arith}
 use Rattle.std.specs.List.{slice_get}
 use Rattle.std.proofs.lemmas.Bool.{eq-eqb}
-use Rattle.oat_a64.specs.declared.inst.Inst.{Inst}
-use Rattle.oat_a64.specs.declared.inst.Inst.TheVariants.{Movz, Ldr, Str, Svc}
-use Rattle.oat_a64.specs.Step.{Regs, with_reg, shifted_left, wrap}
-use Rattle.oat_mem.specs.DataMemory.{word_in, global_address}
+use Rattle.oat_journal.specs.{Inst, Movz, Ldr, Str, Svc, Regs, with_reg, shifted_left, wrap, word_in, global_address, Image, monitor_call, MonitorCall, Run.Entry, Window.made_call}
+use Rattle.oat_journal.specs.{Window.executed_path}
+use Rattle.oat_verify.specs.{Stands, IsLaid}
+use Rattle.oat_attest.specs.{Headline.AllReadByLoad, Lockstep.Placed, Lockstep.placed_of, Lockstep.plain, Lockstep.calling}
+use Rattle.oat_attest.proofs.{Lists.contains_get, Stretches.Runs, Stretches.last, Stretches.more, Stretches.moved_to, Stretches.entry_by, Stretches.inst_is, Stretches.none_read, Stretches.read_cons}
+use Rattle.oat_attest.proofs.{Stretches.Crossed, Stretches.arrives, Stretches.crossed_cons, Crossings.lead, Crossings.next_at, Crossings.silent, Accesses.shifted_zero, Accesses.with_address}
+use Rattle.oat_attest.proofs.{Accesses.moves_address, Accesses.loaded, Accesses.stored, Accesses.loads_use}
 use Rattle.oat_map.specs.declared.edge.Edge.TheVariants as edges
 use Rattle.oat_map.specs.declared.row.Row.TheVariants as rows
-use Rattle.oat_image.specs.declared.image.Image.{Image}
-use Rattle.oat_measure.specs.Monitor.{monitor_call}
-use Rattle.oat_measure.specs.declared.call.MonitorCall.{MonitorCall}
-use Rattle.oat_measure.specs.declared.call.MonitorCall.TheVariants as svc
-use Rattle.oat_shape.specs.Groups.{Stands}
-use Rattle.oat_journal.specs.Run.{Entry}
-use Rattle.oat_journal.specs.Window.{made_call, executed_path}
-use Rattle.oat_attest.specs.Headline.{AllReadByLoad}
-use Rattle.oat_attest.specs.Lockstep.{Placed, placed_of, plain, calling}
-use Rattle.oat_attest.proofs.Lists.{contains_get}
-use Rattle.oat_shape.specs.Laid.{IsLaid}
-use Rattle.oat_attest.proofs.Stretches.{Runs, last, more, moved_to, entry_by, inst_is, none_read, read_cons, Crossed, arrives, crossed_cons}
-use Rattle.oat_attest.proofs.Crossings.{lead, next_at, silent}
-use Rattle.oat_attest.proofs.Accesses.{shifted_zero, with_address, moves_address, loaded, stored, loads_use}
+use Rattle.oat_journal.specs.svc as svc
 
 -- ---- uses
 

@@ -1,36 +1,20 @@
 -- Unequal returns clash: both lists have 64 bits, and the blob's hash is the chain of each.
-use Rattle.std.proofs.Common.{◌≡◌, ℕ, suc, ◌+◌, ◌*◌, ◌%◌, ◌^◌, ◌<◌, inl, inr, Bool, true, false, cond, eqb, List, [], ◌∷◌, ◌++◌, length, slice_get, All, Option, Some, None, option_and_then, refl, sym, ap, subst, ◌∙◌, arith, append-nil}
+use Rattle.std.proofs.Common.{◌≡◌, ℕ, suc, ◌+◌, ◌*◌, ◌%◌, ◌^◌, ◌<◌, inl, inr, Bool, true, false, cond, eqb, List, [], ◌∷◌, ◌++◌, length, slice_get, All, Option, Some, None, option_and_then, refl, sym}
+use Rattle.std.proofs.Common.{ap, subst, ◌∙◌, arith, append-nil}
 use Rattle.std.specs.List.{cons_option}
 use Rattle.std.proofs.lemmas.List.Elements.{All-cons, filter_map-append}
 use Rattle.sha2.specs.Sha256.{sha256}
-use Rattle.oat_a64.specs.declared.inst.Inst.{Inst}
-use Rattle.oat_a64.specs.declared.inst.Inst.TheVariants.{Svc}
-use Rattle.oat_a64.specs.Step.{Regs}
-use Rattle.oat_blob.specs.Body.{Body}
+use Rattle.oat_chain.proofs.{Lengths.length-window_head, Lengths.length-digest, Messages.clash_exists}
 use Rattle.oat_blob.proofs.OneLayout.{one_body}
-use Rattle.oat_case.specs.declared.case.Session.{Session}
-use Rattle.oat_chain.specs.Chain.{chain}
-use Rattle.oat_chain.proofs.Lengths.{length-window_head, length-digest}
-use Rattle.oat_chain.proofs.Messages.{clash_exists}
-use Rattle.oat_image.specs.declared.image.Image.{Image}
-use Rattle.oat_image.specs.Grammar.{image_text}
-use Rattle.oat_map.specs.declared.edge.Edge.{Edge}
-use Rattle.oat_map.specs.declared.edge.Edge.TheVariants as edges
-use Rattle.oat_map.specs.declared.map.Map.{Map}
-use Rattle.oat_map.specs.declared.row.Row.{Row}
-use Rattle.oat_map.specs.declared.row.Row.TheVariants as rows
-use Rattle.oat_map.specs.Walk.{Step, passed, moved, edge_of, path_of, return_of, returns_of, return_site_of, Returns, RowGoes, Leads, Walk}
-use Rattle.oat_measure.specs.Monitor.{monitor_call}
-use Rattle.oat_measure.specs.declared.call.MonitorCall.{MonitorCall}
-use Rattle.oat_measure.specs.declared.call.MonitorCall.TheVariants as svc
-use Rattle.oat_journal.specs.Run.{Entry}
-use Rattle.oat_journal.specs.Journal.{IsEntryBounded}
-use Rattle.oat_journal.specs.Window.{made_call, returned, returns_of_run}
-use Rattle.oat_journal.specs.Measured.{dev, window_of, opening_of}
-use Rattle.oat_measure.specs.Shelving.{serial_of}
+use Rattle.oat_journal.specs.{Inst, Svc, Regs, Body, Session, chain, Image, image_text, Edge, Map, Row, Step, passed, moved, edge_of, path_of, return_of, returns_of, return_site_of, Returns, RowGoes}
+use Rattle.oat_journal.specs.{Leads, Walk, monitor_call, MonitorCall, Run.Entry, Journal.IsEntryBounded, Window.made_call, Window.returned, Window.returns_of_run, Measured.dev, Measured.window_of}
+use Rattle.oat_journal.specs.{Measured.opening_of, serial_of}
 use Rattle.oat_journal.proofs.RunLaws.{bodies_tell_windows, windows_are_traces}
 use Rattle.oat_verify.specs.Verdict.{Accepts, head_of, subject_of}
 use Rattle.oat_attest.specs.Lockstep.{ClashOfUnequalReturns}
+use Rattle.oat_map.specs.declared.edge.Edge.TheVariants as edges
+use Rattle.oat_map.specs.declared.row.Row.TheVariants as rows
+use Rattle.oat_journal.specs.svc as svc
 
 abbrev AllFit : List ℕ → Type 0
 AllFit addresses = All (λ address. address < 2 ^ 64) addresses

@@ -1,25 +1,15 @@
 -- What a run makes and shows in the group of a row that transfers control, and where it goes on.
-use Rattle.std.proofs.Common.{◌≡◌, ◌≢◌, ℕ, ◌+◌, ◌^◌, ◌<◌, pos, Bool, true, false, not, cond, ◌&&◌, eqb, leb, List, [], ◌∷◌, Contains, Option, Some, None, refl, sym, ap, ap₂, subst, ◌∙◌, inl, inr, arith, mod-eq_of_lt}
+use Rattle.std.proofs.Common.{◌≡◌, ◌≢◌, ℕ, ◌+◌, ◌^◌, ◌<◌, pos, Bool, true, false, not, cond, ◌&&◌, eqb, leb, List, [], ◌∷◌, Contains, Option, Some, None, refl, sym, ap, ap₂, subst, ◌∙◌, inl, inr}
+use Rattle.std.proofs.Common.{arith, mod-eq_of_lt}
 use Rattle.std.proofs.lemmas.Bool.{ne_eqb, eq-eqb}
-use Rattle.oat_a64.specs.declared.inst.Inst.{Inst}
-use Rattle.oat_a64.specs.declared.inst.Inst.TheVariants.{B, Bl, BCond, Cbnz, Blr, Ret, Svc, Brk}
-use Rattle.oat_a64.specs.Step.{Regs, Effect, act, next_pc, with_reg, branch_target, reg, holds}
-use Rattle.oat_map.specs.declared.edge.Edge.{Edge}
-use Rattle.oat_map.specs.declared.edge.Edge.TheVariants as edges
-use Rattle.oat_map.specs.declared.map.Map.{Map}
-use Rattle.oat_map.specs.declared.row.Row.{Row}
-use Rattle.oat_map.specs.declared.row.Row.TheVariants as rows
-use Rattle.oat_image.specs.declared.image.Image.{Image}
-use Rattle.oat_measure.specs.Monitor.{monitor_call}
-use Rattle.oat_measure.specs.declared.call.MonitorCall.{MonitorCall}
-use Rattle.oat_measure.specs.declared.call.MonitorCall.TheVariants as svc
-use Rattle.oat_shape.specs.Groups.{Stands}
-use Rattle.oat_journal.specs.Run.{Entry}
-use Rattle.oat_journal.specs.Journal.{takes_input}
-use Rattle.oat_journal.specs.Window.{shown_edge, edge_over}
+use Rattle.oat_journal.specs.{Inst, B, Bl, BCond, Cbnz, Blr, Ret, Svc, Brk, Regs, Effect, act, next_pc, with_reg, branch_target, reg, holds, Edge, Map, Row, Image, monitor_call, MonitorCall}
+use Rattle.oat_journal.specs.{Run.Entry, Journal.takes_input, Window.shown_edge, Window.edge_over}
+use Rattle.oat_verify.specs.{Stands, IsLaid}
 use Rattle.oat_attest.specs.Lockstep.{Placed, plain, calling}
-use Rattle.oat_shape.specs.Laid.{IsLaid}
 use Rattle.oat_attest.proofs.Stretches.{Runs, machine, moved_to, GoesOn, no_runs, entry_by, pop, Crossed, arrives, crossed_cons}
+use Rattle.oat_map.specs.declared.edge.Edge.TheVariants as edges
+use Rattle.oat_map.specs.declared.row.Row.TheVariants as rows
+use Rattle.oat_journal.specs.svc as svc
 
 -- ---- one instruction of a group
 

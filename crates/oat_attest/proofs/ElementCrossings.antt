@@ -1,26 +1,16 @@
 -- What a run makes in the group of a row that uses or defines an element of an array.
 use Rattle.std.proofs.Common.{◌≡◌, ℕ, pos, ◌+◌, ◌*◌, ◌^◌, ◌<◌, ◌≤◌, true, false, not, leb, List, [], ◌∷◌, ◌++◌, map, Contains, Some, None, refl, sym, ap, ap₂, subst, ◌∙◌, inl, inr, arith}
 use Rattle.std.proofs.lemmas.Bool.{cases_lt, le-leb}
-use Rattle.oat_a64.specs.declared.inst.Inst.TheVariants.{AddReg, SubsReg, Movz, Movk, BCond, LdrReg, StrReg, Svc}
-use Rattle.oat_a64.specs.Step.{Regs, holds, branch_target, next_pc, with_reg, with_flags, difference, shifted_left, wrap}
-use Rattle.oat_mem.specs.DataMemory.{word_in, global_address}
-use Rattle.oat_map.specs.declared.row.Row.{Row}
-use Rattle.oat_map.specs.declared.row.Row.TheVariants as rows
-use Rattle.oat_map.specs.Rows.{row_over}
-use Rattle.oat_image.specs.declared.image.Image.{Image}
-use Rattle.oat_measure.specs.declared.call.MonitorCall.{MonitorCall}
-use Rattle.oat_measure.specs.declared.call.MonitorCall.TheVariants as svc
-use Rattle.oat_shape.specs.Groups.{Stands, MovesAddress, TestsElement}
-use Rattle.oat_shape.specs.Laid.{IsLaid, IsElement}
 use Rattle.oat_shape.proofs.Laid.{elements_have_cells}
-use Rattle.oat_journal.specs.Run.{Entry}
-use Rattle.oat_journal.specs.Window.{edge_over}
-use Rattle.oat_attest.specs.Headline.{AllReadByLoad}
-use Rattle.oat_attest.specs.Lockstep.{Placed, plain, calling, element_places}
-use Rattle.oat_attest.proofs.Lists.{contains_get}
-use Rattle.oat_attest.proofs.Stretches.{Runs, moved_to, entry_by, Crossed, arrives, crossed_cons}
-use Rattle.oat_attest.proofs.Crossings.{Led, lead, next_at, edge_is, silent, skips, if_leads}
-use Rattle.oat_attest.proofs.Accesses.{shifted_zero, with_address, second_move, moves_address, loaded, stored, loads_use}
+use Rattle.oat_journal.specs.{AddReg, SubsReg, Movz, Movk, BCond, LdrReg, StrReg, Svc, Regs, holds, branch_target, next_pc, with_reg, with_flags, difference, shifted_left, wrap, word_in}
+use Rattle.oat_journal.specs.{global_address, Row, row_over, Image, MonitorCall, Run.Entry, Window.edge_over}
+use Rattle.oat_verify.specs.{Stands, MovesAddress, TestsElement, IsLaid, IsElement}
+use Rattle.oat_attest.specs.{Headline.AllReadByLoad, Lockstep.Placed, Lockstep.plain, Lockstep.calling, Lockstep.element_places}
+use Rattle.oat_attest.proofs.{Lists.contains_get, Stretches.Runs, Stretches.moved_to, Stretches.entry_by, Stretches.Crossed, Stretches.arrives, Stretches.crossed_cons, Crossings.Led, Crossings.lead}
+use Rattle.oat_attest.proofs.{Crossings.next_at, Crossings.edge_is, Crossings.silent, Crossings.skips, Crossings.if_leads, Accesses.shifted_zero, Accesses.with_address, Accesses.second_move}
+use Rattle.oat_attest.proofs.{Accesses.moves_address, Accesses.loaded, Accesses.stored, Accesses.loads_use}
+use Rattle.oat_map.specs.declared.row.Row.TheVariants as rows
+use Rattle.oat_journal.specs.svc as svc
 
 -- ---- the test of an element's number, and the two moves
 

@@ -1,24 +1,15 @@
 -- What follows of a window that executes steps: its path, its records, where it leads, the cells that it uses.
-use Rattle.std.proofs.Common.{◌≡◌, ℕ, ◌+◌, ◌≤◌, Bool, true, false, not, List, [], ◌∷◌, ◌++◌, length, map, Contains, Option, Some, None, refl, sym, ap, ap₂, subst, ◌∙◌, inl, inr, arith, append_assoc, length-append}
-use Rattle.std.specs.List.{slice_get, filter_map, cons_option}
-use Rattle.std.specs.Option.{option_map}
-use Rattle.std.proofs.lemmas.Bool.{ne_eqb}
-use Rattle.std.proofs.lemmas.List.{length-map}
-use Rattle.std.proofs.lemmas.List.Elements.{filter_map-append}
-use Rattle.oat_map.specs.declared.edge.Edge.{Edge}
-use Rattle.oat_map.specs.declared.edge.Edge.TheVariants as edges
-use Rattle.oat_map.specs.declared.map.Map.{Map}
-use Rattle.oat_map.specs.declared.row.Row.{Row}
-use Rattle.oat_map.specs.declared.row.Row.TheVariants as rows
-use Rattle.oat_map.specs.Walk.{Step, moved, edge_of as step_edge, path_of, bit_of, bits_of, target_of, targets_of, return_of, returns_of, RowGoes, Leads}
-use Rattle.oat_image.specs.declared.image.Image.{Image}
-use Rattle.oat_measure.specs.declared.call.MonitorCall.{MonitorCall}
-use Rattle.oat_measure.specs.declared.call.MonitorCall.TheVariants as svc
-use Rattle.oat_journal.specs.Run.{Entry}
-use Rattle.oat_a64.specs.Kinds.{is_transfer}
-use Rattle.oat_journal.specs.Window.{made_call, shown_edge, executed_path, returned, recorded_bit, recorded_target}
+use Rattle.std.proofs.Common.{◌≡◌, ℕ, ◌+◌, ◌≤◌, Bool, true, false, not, List, [], ◌∷◌, ◌++◌, length, map, Contains, Option, Some, None, refl, sym, ap, ap₂, subst, ◌∙◌, inl, inr, arith, append_assoc}
+use Rattle.std.proofs.Common.{length-append}
+use Rattle.std.specs.{List.slice_get, List.filter_map, List.cons_option, Option.option_map}
+use Rattle.std.proofs.lemmas.{Bool.ne_eqb, List.length-map, List.Elements.filter_map-append}
+use Rattle.oat_journal.specs.{Edge, Map, Row, Step, moved, edge_of as step_edge, path_of, bit_of, bits_of, target_of, targets_of, return_of, returns_of, RowGoes, Leads, Image, MonitorCall, Run.Entry}
+use Rattle.oat_journal.specs.{is_transfer, Window.made_call, Window.shown_edge, Window.executed_path, Window.returned, Window.recorded_bit, Window.recorded_target}
+use Rattle.oat_verify.specs.{IsLaid}
 use Rattle.oat_attest.specs.Lockstep.{Placed, placed_of, AreQuiet, IsGroupRun, Makes, Executes, AreUsedAt, PassesCells}
-use Rattle.oat_shape.specs.Laid.{IsLaid}
+use Rattle.oat_map.specs.declared.edge.Edge.TheVariants as edges
+use Rattle.oat_map.specs.declared.row.Row.TheVariants as rows
+use Rattle.oat_journal.specs.svc as svc
 
 -- ---- what is seen of instructions
 

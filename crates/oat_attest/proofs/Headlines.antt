@@ -1,22 +1,12 @@
 -- The headline for `verify`, from same path, the clash of unequal returns, and exact violations: by whether the run's returns are those of the path.
 use Rattle.std.proofs.Common.{◌≡◌, ℕ, ℤ, inl, inr, List, All, None, ap, ◌∙◌}
-use Rattle.oat_blob.specs.Body.{Body}
-use Rattle.oat_blob.proofs.OneLayout.{one_body}
-use Rattle.oat_case.specs.declared.case.Session.{Session}
-use Rattle.oat_case.specs.declared.case.Write.{Write}
 use Rattle.oat_chain.proofs.Messages.{decided}
-use Rattle.oat_image.specs.declared.image.Image.{Image}
-use Rattle.oat_map.specs.declared.edge.Edge.{Edge}
-use Rattle.oat_map.specs.Walk.{returns_of}
-use Rattle.oat_journal.specs.Uses.{IsSound}
-use Rattle.oat_journal.specs.Window.{returns_of_run}
-use Rattle.oat_journal.specs.Measured.{dev, window_of, uses_of, opening_of}
+use Rattle.oat_blob.proofs.OneLayout.{one_body}
+use Rattle.oat_journal.specs.{Body, Session, Write, Image, Edge, returns_of, Uses.IsSound, Window.returns_of_run, Measured.dev, Measured.window_of, Measured.uses_of, Measured.opening_of}
 use Rattle.oat_journal.proofs.RunLaws.{no_violation_means_sound}
 use Rattle.oat_verify.specs.Verdict.{Accepts, subject_of}
-use Rattle.oat_attest.proofs.Joining.{same_path}
-use Rattle.oat_attest.proofs.Clashing.{clash_of_unequal_returns}
-use Rattle.oat_attest.specs.Headline.{IsReported, Headline}
-use Rattle.oat_attest.specs.Lockstep.{SamePath, ClashOfUnequalReturns}
+use Rattle.oat_attest.specs.{Headline.IsReported, Headline.Headline, Lockstep.SamePath, Lockstep.ClashOfUnequalReturns}
+use Rattle.oat_attest.proofs.{Joining.same_path, Clashing.clash_of_unequal_returns}
 
 -- an accepted run has no violation, and so each of its checked uses is sound
 all_sound : (image : Image) (session : Session) (begin_at : ℕ) (bytes : List ℕ) (path : List Edge) → Accepts (subject_of image session) bytes path

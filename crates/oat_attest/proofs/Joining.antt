@@ -1,43 +1,25 @@
 -- The window of a sealed run beside the walk of an accepted path.
-use Rattle.std.proofs.Common.{◌≡◌, ℕ, suc, ℤ, ◌+◌, ◌^◌, ◌<◌, List, [], ◌∷◌, ◌++◌, map, Contains, Option, Some, None, refl, sym, ap, ap₂, subst, ◌∙◌, inl, inr, arith, append-nil, append_assoc, mod-eq_of_lt, length, length-append, ◌≤◌}
-use Rattle.std.specs.List.{slice_get, filter_map, cons_option}
-use Rattle.std.specs.Option.{option_map}
-use Rattle.std.proofs.lemmas.List.{append_cancel_left}
-use Rattle.std.proofs.lemmas.List.Elements.{filter_map-append}
-use Rattle.oat_a64.specs.Step.{Regs, next_pc}
-use Rattle.oat_case.specs.declared.case.Session.{Session}
-use Rattle.oat_case.specs.declared.case.Write.{Write}
-use Rattle.oat_map.specs.declared.edge.Edge.{Edge}
-use Rattle.oat_map.specs.declared.edge.Edge.TheVariants as edges
-use Rattle.oat_map.specs.declared.row.Row.TheVariants.{Begin}
-use Rattle.oat_map.specs.declared.row.Row.TheVariants as rows
-use Rattle.oat_map.specs.Rows.{after, start}
-use Rattle.oat_map.specs.Walk.{Step, moved, edge_of, path_of, bit_of, bits_of, target_of, targets_of, return_of, returns_of, Walk}
-use Rattle.oat_image.specs.declared.image.Image.{Image}
-use Rattle.oat_measure.specs.declared.call.MonitorCall.{MonitorCall}
-use Rattle.oat_measure.specs.declared.call.MonitorCall.TheVariants as svc
-use Rattle.oat_blob.specs.Body.{Body}
-use Rattle.oat_blob.proofs.OneLayout.{one_body}
-use Rattle.oat_journal.specs.Run.{Entry, AreGiven, start_memory}
-use Rattle.oat_mem.specs.DataMemory.{global_address, word_in}
-use Rattle.oat_journal.specs.Journal.{IsMade}
-use Rattle.oat_journal.specs.Window.{made_call, executed_path, returned, bits_of_run, targets_of_run, returns_of_run}
-use Rattle.oat_journal.specs.Uses.{CheckedUse, defined_value, use_behind, uses_behind}
-use Rattle.oat_journal.specs.Measured.{dev, window_of, start_cells, opening_of}
-use Rattle.oat_journal.specs.Trace.{IsQuiet, IsTrace}
-use Rattle.oat_journal.proofs.RunLaws.{bodies_tell_windows, windows_are_traces}
-use Rattle.oat_verify.specs.Verdict.{Accepts, subject_of}
-use Rattle.oat_attest.specs.Headline.{IsSetting, IsReported, calls_before}
-use Rattle.oat_attest.specs.Lockstep.{placed_of, Makes, ExecutesWalk, ExecutesUpToFirst, PassesCells, SamePath, Lockstep}
-use Rattle.oat_shape.specs.Laid.{IsLaid}
-use Rattle.oat_shape.specs.Shape.{group_end, CutsNoGroup}
+use Rattle.std.proofs.Common.{◌≡◌, ℕ, suc, ℤ, ◌+◌, ◌^◌, ◌<◌, List, [], ◌∷◌, ◌++◌, map, Contains, Option, Some, None, refl, sym, ap, ap₂, subst, ◌∙◌, inl, inr, arith, append-nil, append_assoc}
+use Rattle.std.proofs.Common.{mod-eq_of_lt, length, length-append, ◌≤◌}
+use Rattle.std.specs.{List.slice_get, List.filter_map, List.cons_option, Option.option_map}
+use Rattle.std.proofs.lemmas.{List.append_cancel_left, List.Elements.filter_map-append}
 use Rattle.oat_shape.proofs.Laid.{laid}
-use Rattle.oat_attest.proofs.Stretches.{Runs, last, more, GoesOn, moved_to, moved_itself}
-use Rattle.oat_attest.proofs.Executing.{seen, used, Agree, returns_agree, makes_path, makes_seen, makes_length, executed_seen, executed_edges, executed_leads, executed_length, executed_cells}
-use Rattle.oat_attest.proofs.Places.{called_none}
-use Rattle.oat_attest.proofs.Moves.{returns_moves}
-use Rattle.oat_attest.proofs.TrueReturns.{all_returns_match}
-use Rattle.oat_attest.proofs.Sync.{Outcome, follows, parts, Following, Parting, sync}
+use Rattle.oat_blob.proofs.OneLayout.{one_body}
+use Rattle.oat_journal.specs.{Regs, next_pc, Session, Write, Edge, Begin, after, start, Step, moved, edge_of, path_of, bit_of, bits_of, target_of, targets_of, return_of, returns_of, Walk, Image}
+use Rattle.oat_journal.specs.{MonitorCall, Body, Run.Entry, Run.AreGiven, Run.start_memory, global_address, word_in, Journal.IsMade, Window.made_call, Window.executed_path, Window.returned}
+use Rattle.oat_journal.specs.{Window.bits_of_run, Window.targets_of_run, Window.returns_of_run, Uses.CheckedUse, Uses.defined_value, Uses.use_behind, Uses.uses_behind, Measured.dev}
+use Rattle.oat_journal.specs.{Measured.window_of, Measured.start_cells, Measured.opening_of, Trace.IsQuiet, Trace.IsTrace}
+use Rattle.oat_journal.proofs.RunLaws.{bodies_tell_windows, windows_are_traces}
+use Rattle.oat_verify.specs.{Verdict.Accepts, Verdict.subject_of, IsLaid, group_end, CutsNoGroup}
+use Rattle.oat_attest.specs.{Headline.IsSetting, Headline.IsReported, Headline.calls_before, Lockstep.placed_of, Lockstep.Makes, Lockstep.ExecutesWalk, Lockstep.ExecutesUpToFirst}
+use Rattle.oat_attest.specs.{Lockstep.PassesCells, Lockstep.SamePath, Lockstep.Lockstep}
+use Rattle.oat_attest.proofs.{Stretches.Runs, Stretches.last, Stretches.more, Stretches.GoesOn, Stretches.moved_to, Stretches.moved_itself, Executing.seen, Executing.used, Executing.Agree}
+use Rattle.oat_attest.proofs.{Executing.returns_agree, Executing.makes_path, Executing.makes_seen, Executing.makes_length, Executing.executed_seen, Executing.executed_edges, Executing.executed_leads}
+use Rattle.oat_attest.proofs.{Executing.executed_length, Executing.executed_cells, Places.called_none, Moves.returns_moves, TrueReturns.all_returns_match, Sync.Outcome, Sync.follows, Sync.parts}
+use Rattle.oat_attest.proofs.{Sync.Following, Sync.Parting, Sync.sync}
+use Rattle.oat_map.specs.declared.edge.Edge.TheVariants as edges
+use Rattle.oat_map.specs.declared.row.Row.TheVariants as rows
+use Rattle.oat_journal.specs.svc as svc
 
 -- ---- a trace is a run
 

@@ -1,8 +1,7 @@
 -- The moves of a list of steps: the steps but those that only pass. A return's matching call is the same among them.
 use Rattle.std.proofs.Common.{◌≡◌, ℕ, zero, suc, ◌+◌, ◌-◌, ◌<◌, List, [], ◌∷◌, map, take, fold, Some, refl, sym, ap, ap₂, subst, ◌∙◌, arith}
-use Rattle.std.specs.List.{slice_get}
-use Rattle.std.specs.Option.{option_and_then}
-use Rattle.oat_map.specs.Walk.{Step, passed, moved, path_of, return_site_of, call_count, return_count, depth, Returns}
+use Rattle.std.specs.{List.slice_get, Option.option_and_then}
+use Rattle.oat_journal.specs.{Step, passed, moved, path_of, return_site_of, call_count, return_count, depth, Returns}
 
 abbrev pub moves : List Step → List Step
 moves steps = map moved (path_of steps)

@@ -1,21 +1,12 @@
 -- Where the steps of a walk go: to clear places, and back to the sites of calls.
 use Rattle.std.proofs.Common.{◌≡◌, ℕ, zero, suc, ◌+◌, true, false, List, [], ◌∷◌, ◌++◌, map, Contains, Some, None, refl, sym, ap, subst, ◌∙◌, inl, inr, arith}
-use Rattle.std.specs.List.{slice_get, list_any}
-use Rattle.std.specs.Option.{option_and_then, option_map}
-use Rattle.std.proofs.lemmas.Bool.{eq-eqb, and_from}
-use Rattle.std.proofs.lemmas.List.Folds.{list_any_at}
-use Rattle.std.proofs.lemmas.Option.{slice_get-map}
-use Rattle.oat_map.specs.declared.edge.Edge.TheVariants as edges
-use Rattle.oat_map.specs.declared.map.Map.{Map}
-use Rattle.oat_map.specs.declared.map.Function.{Function}
-use Rattle.oat_map.specs.declared.row.Row.{Row}
-use Rattle.oat_map.specs.declared.row.Row.TheVariants.{Jump, Branch, Call, ICall, Ret, Begin, End, UseCell, DefCell, UseAt, DefAt, Check}
-use Rattle.oat_map.specs.Rows.{after, entries_of, IsIndirectTarget, is_call, is_called_at, is_returned_to}
-use Rattle.oat_map.specs.Walk.{Step, passed, moved, return_site_of, Returns, RowGoes}
-use Rattle.oat_image.specs.declared.image.Image.{Image}
-use Rattle.oat_shape.specs.Shape.{IsReturnSite, CutsNoGroup}
+use Rattle.std.specs.{List.slice_get, List.list_any, Option.option_and_then, Option.option_map}
+use Rattle.std.proofs.lemmas.{Bool.eq-eqb, Bool.and_from, List.Folds.list_any_at, Option.slice_get-map}
+use Rattle.oat_journal.specs.{Map, Function, Row, Jump, Branch, Call, ICall, Begin, End, UseCell, DefCell, UseAt, DefAt, Check, after, entries_of, IsIndirectTarget, is_call, is_called_at}
+use Rattle.oat_journal.specs.{is_returned_to, Step, passed, moved, return_site_of, Returns, RowGoes, Image}
+use Rattle.oat_verify.specs.{Ret, IsReturnSite, CutsNoGroup, IsLaid}
 use Rattle.oat_attest.proofs.Lists.{contains_get, get_contains}
-use Rattle.oat_shape.specs.Laid.{IsLaid}
+use Rattle.oat_map.specs.declared.edge.Edge.TheVariants as edges
 
 -- ---- calls of the steps so far
 

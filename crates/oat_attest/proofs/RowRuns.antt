@@ -1,29 +1,17 @@
 -- What a run does from a clear address on, by the row that it comes to next.
 use Rattle.std.proofs.Common.{append-nil, ◌≡◌, ℕ, ◌+◌, ◌⊎◌, Bool, true, false, cond, eqb, List, [], ◌∷◌, ◌++◌, Contains, Some, refl, sym, ap, subst, ◌∙◌, inl, inr}
 use Rattle.std.specs.List.{list_any}
-use Rattle.std.proofs.lemmas.Bool.{cases_Bool, and_parts, eqb-true, eq-eqb}
-use Rattle.std.proofs.lemmas.List.Folds.{Any-from_list_any}
-use Rattle.oat_a64.specs.Step.{Regs}
-use Rattle.oat_map.specs.declared.edge.Edge.{Edge}
+use Rattle.std.proofs.lemmas.{Bool.cases_Bool, Bool.and_parts, Bool.eqb-true, Bool.eq-eqb, List.Folds.Any-from_list_any}
+use Rattle.oat_journal.specs.{Regs, Edge, Function, Row, address_of, after, next, IsIndirectTarget, is_called_at, is_returned_to, Image, Run.Entry, Window.edge_over}
+use Rattle.oat_verify.specs.{IsReturnSite, CutsNoGroup, IsLaid}
+use Rattle.oat_attest.specs.{Headline.AllReadByLoad, Lockstep.Placed, Lockstep.plain, Lockstep.calling, Lockstep.IsGroupRun, Lockstep.Makes}
+use Rattle.oat_attest.proofs.{Places.branch_apart, Places.target_any, Places.returned_any, Stretches.Runs, Stretches.moved_to, Stretches.runs_stand, Stretches.Crossed, Stretches.Skipped, Skips.skip}
+use Rattle.oat_attest.proofs.{Crossings.cross_jump, Crossings.cross_call, Crossings.cross_icall, Crossings.cross_ret, Crossings.cross_taken, Crossings.cross_other, Crossings.cross_check}
+use Rattle.oat_attest.proofs.{CellCrossings.cross_use, CellCrossings.cross_define, CellCrossings.cross_end, CellCrossings.cross_begin, CellCrossings.BegunBy, ElementCrossings.cross_use_at}
+use Rattle.oat_attest.proofs.{ElementCrossings.cross_define_at}
 use Rattle.oat_map.specs.declared.edge.Edge.TheVariants as edges
-use Rattle.oat_map.specs.declared.map.Function.{Function}
-use Rattle.oat_map.specs.declared.row.Row.{Row}
 use Rattle.oat_map.specs.declared.row.Row.TheVariants as rows
-use Rattle.oat_map.specs.Rows.{address_of, after, next, IsIndirectTarget, is_called_at, is_returned_to}
-use Rattle.oat_image.specs.declared.image.Image.{Image}
-use Rattle.oat_measure.specs.declared.call.MonitorCall.TheVariants as svc
-use Rattle.oat_journal.specs.Run.{Entry}
-use Rattle.oat_shape.specs.Shape.{IsReturnSite, CutsNoGroup}
-use Rattle.oat_journal.specs.Window.{edge_over}
-use Rattle.oat_attest.specs.Headline.{AllReadByLoad}
-use Rattle.oat_attest.specs.Lockstep.{Placed, plain, calling, IsGroupRun, Makes}
-use Rattle.oat_shape.specs.Laid.{IsLaid}
-use Rattle.oat_attest.proofs.Places.{branch_apart, target_any, returned_any}
-use Rattle.oat_attest.proofs.Stretches.{Runs, moved_to, runs_stand, Crossed, Skipped}
-use Rattle.oat_attest.proofs.Skips.{skip}
-use Rattle.oat_attest.proofs.Crossings.{cross_jump, cross_call, cross_icall, cross_ret, cross_taken, cross_other, cross_check}
-use Rattle.oat_attest.proofs.CellCrossings.{cross_use, cross_define, cross_end, cross_begin, BegunBy}
-use Rattle.oat_attest.proofs.ElementCrossings.{cross_use_at, cross_define_at}
+use Rattle.oat_journal.specs.svc as svc
 
 -- From an address on a run makes the group of a row, and goes on.
 pub record Past (image : Image) (op from : ℕ) (row : Row) (shown : List Edge) (to : ℕ) (es : List Entry) : Type 0 where

@@ -1,33 +1,19 @@
 -- The window of an honest sealed run is a walk, and its blob is accepted.
-use Rattle.std.specs.Prelude.{IfSome, unwrap_or}
 use Rattle.std.proofs.Common.{◌≡◌, ◌+◌, ◌<◌, ◌⊎◌, inl, inr, ℕ, suc, Option, option_map, List, [], ◌∷◌, ◌++◌, Some, None, refl, sym, ap, subst, ◌∙◌, arith}
-use Rattle.std.specs.List.{slice_get}
-use Rattle.oat_a64.specs.Step.{next_pc}
-use Rattle.oat_chain.specs.Chain.{chain}
-use Rattle.oat_map.specs.declared.edge.Edge.{Edge}
-use Rattle.oat_map.specs.declared.edge.Edge.TheVariants as edges
-use Rattle.oat_map.specs.declared.row.Row.TheVariants.{Begin}
-use Rattle.oat_map.specs.Rows.{after}
-use Rattle.oat_map.specs.Walk.{moved, Walk, bit_of, bits_of, target_of, targets_of, return_of, returns_of}
+use Rattle.std.specs.{Prelude.IfSome, Prelude.unwrap_or, List.slice_get}
 use Rattle.oat_map.proofs.StackLemmas.{IsStack-empty}
-use Rattle.oat_measure.specs.Shelving.{serial_of}
-use Rattle.oat_measure.specs.declared.call.MonitorCall.TheVariants as svc
-use Rattle.oat_journal.specs.Run.{Entry}
-use Rattle.oat_journal.specs.Window.{made_call, executed_path, returned, recorded_bit, recorded_target, returns_of_run}
-use Rattle.oat_journal.specs.Measured.{dev, window_of, opening_of}
-use Rattle.oat_journal.specs.Trace.{IsQuiet, IsTrace}
-use Rattle.oat_journal.proofs.RunLaws.{bodies_are_called_for, bodies_tell_windows, no_violation_means_sound, windows_are_short, windows_are_traces}
-use Rattle.oat_verify.proofs.OneVerdict.{one_verdict, acceptance_at_once}
-use Rattle.oat_verify.specs.Verdict.{FitsSession, IsVerdict, subject_of, head_of}
-use Rattle.oat_verify.specs.declared.verdict.Verdict.TheVariants.{Accept}
-use Rattle.oat_attest.specs.Honest.{TracesAreWalks, HonestRunsWalk, HonestRunsAreAccepted, SoundRunsAreAccepted}
-use Rattle.oat_attest.specs.Lockstep.{ExecutesWalk}
 use Rattle.oat_shape.proofs.Laid.{laid}
-use Rattle.oat_attest.proofs.Stretches.{Runs, moved_to}
-use Rattle.oat_attest.proofs.Places.{called_none}
-use Rattle.oat_attest.proofs.Executing.{bits_agree, targets_agree, returns_agree, executed_leads}
-use Rattle.oat_attest.proofs.Joining.{trace_runs, starts_at, walk_path, walk_records, walk_length}
-use Rattle.oat_attest.proofs.Walking.{NoneBegins, finds}
+use Rattle.oat_journal.specs.{next_pc, chain, Edge, Begin, after, moved, Walk, bit_of, bits_of, target_of, targets_of, return_of, returns_of, serial_of, Run.Entry, Window.made_call}
+use Rattle.oat_journal.specs.{Window.executed_path, Window.returned, Window.recorded_bit, Window.recorded_target, Window.returns_of_run, Measured.dev, Measured.window_of, Measured.opening_of}
+use Rattle.oat_journal.specs.{Trace.IsQuiet, Trace.IsTrace}
+use Rattle.oat_journal.proofs.RunLaws.{bodies_are_called_for, bodies_tell_windows, no_violation_means_sound, windows_are_short, windows_are_traces}
+use Rattle.oat_verify.specs.{Verdict.FitsSession, Verdict.IsVerdict, Verdict.subject_of, Verdict.head_of, declared.verdict.Verdict.TheVariants.Accept}
+use Rattle.oat_verify.proofs.OneVerdict.{one_verdict, acceptance_at_once}
+use Rattle.oat_attest.specs.{Honest.TracesAreWalks, Honest.HonestRunsWalk, Honest.HonestRunsAreAccepted, Honest.SoundRunsAreAccepted, Lockstep.ExecutesWalk}
+use Rattle.oat_attest.proofs.{Stretches.Runs, Stretches.moved_to, Places.called_none, Executing.bits_agree, Executing.targets_agree, Executing.returns_agree, Executing.executed_leads}
+use Rattle.oat_attest.proofs.{Joining.trace_runs, Joining.starts_at, Joining.walk_path, Joining.walk_records, Joining.walk_length, Walking.NoneBegins, Walking.finds}
+use Rattle.oat_map.specs.declared.edge.Edge.TheVariants as edges
+use Rattle.oat_journal.specs.svc as svc
 
 -- ---- no operation begins in a trace
 

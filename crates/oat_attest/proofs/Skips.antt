@@ -1,27 +1,15 @@
 -- From a clear address, a run makes its quiet way to the next row; where no row is ahead, it never comes to the end that seals.
-use Rattle.std.proofs.Common.{◌≡◌, ℕ, zero, suc, Contains, ◌+◌, ◌*◌, ◌%◌, ◌^◌, ◌<◌, ◌≤◌, ◌⊎◌, Bool, true, false, not, cond, ◌&&◌, ◌||◌, leb, List, [], ◌∷◌, Some, None, refl, sym, ap, ap₂, subst, ◌∙◌, inl, inr, arith, mod-eq_of_lt}
+use Rattle.std.proofs.Common.{◌≡◌, ℕ, zero, suc, Contains, ◌+◌, ◌*◌, ◌%◌, ◌^◌, ◌<◌, ◌≤◌, ◌⊎◌, Bool, true, false, not, cond, ◌&&◌, ◌||◌, leb, List, [], ◌∷◌, Some, None, refl, sym, ap, ap₂, subst, ◌∙◌}
+use Rattle.std.proofs.Common.{inl, inr, arith, mod-eq_of_lt}
 use Rattle.std.specs.List.{slice_get, find}
 use Rattle.std.proofs.lemmas.Bool.{cases_lt, cases_Bool, or_parts, le-leb, leb-false, ne_eqb}
-use Rattle.oat_a64.specs.declared.inst.Inst.{Inst}
-use Rattle.oat_a64.specs.declared.inst.Inst.TheVariants.{B, Bl, BCond, Cbz, Cbnz, Blr, Ret, Ldr, Str, LdrReg, StrReg, Svc, Brk}
-use Rattle.oat_a64.specs.Step.{Regs, Machine, Effect, act, next_pc, wrap, reg, reg_or_sp, instruction_at}
-use Rattle.oat_mem.specs.DataMemory.{can_access}
-use Rattle.oat_map.specs.declared.row.Row.{Row}
-use Rattle.oat_map.specs.declared.row.Row.TheVariants.{Jump, Branch, Call, ICall, Begin, End, UseCell, DefCell, UseAt, DefAt, Check}
+use Rattle.oat_journal.specs.{Inst, B, Bl, BCond, Cbz, Cbnz, Blr, Ret, Ldr, Str, LdrReg, StrReg, Svc, Brk, Regs, Machine, Effect, act, next_pc, wrap, reg, reg_or_sp, instruction_at, can_access, Row}
+use Rattle.oat_journal.specs.{Jump, Branch, Call, ICall, Begin, End, UseCell, DefCell, UseAt, DefAt, Check, address_of, next, Image, monitor_call, call_numbered, Run.Entry, Run.pc_of, Journal.IsMade}
+use Rattle.oat_journal.specs.{Journal.takes_input, is_measured, is_transfer, Window.made_call}
+use Rattle.oat_verify.specs.{Stands, IsGroup, IsLaid, IsNext, CutsNoGroup}
+use Rattle.oat_attest.proofs.{Lists.get_contains, Stretches.Runs, Stretches.no_runs, Stretches.head_of, Stretches.moved_to, Stretches.moved_itself, Stretches.read_cons, Stretches.Skipped}
 use Rattle.oat_map.specs.declared.row.Row.TheVariants as rows
-use Rattle.oat_map.specs.Rows.{address_of, next}
-use Rattle.oat_image.specs.declared.image.Image.{Image}
-use Rattle.oat_measure.specs.Monitor.{monitor_call, call_numbered}
-use Rattle.oat_measure.specs.declared.call.MonitorCall.TheVariants as svc
-use Rattle.oat_shape.specs.Groups.{Stands, IsGroup}
-use Rattle.oat_journal.specs.Run.{Entry, pc_of}
-use Rattle.oat_journal.specs.Journal.{IsMade, takes_input}
-use Rattle.oat_a64.specs.Kinds.{is_measured, is_transfer}
-use Rattle.oat_journal.specs.Window.{made_call}
-use Rattle.oat_attest.proofs.Lists.{get_contains}
-use Rattle.oat_shape.specs.Laid.{IsLaid, IsNext}
-use Rattle.oat_shape.specs.Shape.{CutsNoGroup}
-use Rattle.oat_attest.proofs.Stretches.{Runs, no_runs, head_of, moved_to, moved_itself, read_cons, Skipped}
+use Rattle.oat_journal.specs.svc as svc
 
 -- ---- an instruction that is neither a transfer nor measured
 

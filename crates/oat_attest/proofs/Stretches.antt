@@ -1,19 +1,11 @@
 -- Runs of instructions up to the end that seals, and the stretches of them that a row's group makes.
 use Rattle.std.proofs.Common.{◌≡◌, ℕ, zero, suc, true, false, not, List, [], ◌∷◌, ◌++◌, map, Option, Some, refl, sym, ap, ap₂, subst, ◌∙◌, arith}
 use Rattle.std.specs.List.{cons_option}
-use Rattle.oat_a64.specs.declared.inst.Inst.{Inst}
-use Rattle.oat_a64.specs.Step.{Regs, Machine, act, instruction_at}
-use Rattle.oat_map.specs.declared.edge.Edge.{Edge}
-use Rattle.oat_image.specs.declared.image.Image.{Image}
-use Rattle.oat_measure.specs.Monitor.{monitor_call}
-use Rattle.oat_measure.specs.declared.call.MonitorCall.{MonitorCall}
-use Rattle.oat_measure.specs.declared.call.MonitorCall.TheVariants as svc
-use Rattle.oat_shape.specs.Groups.{Stands}
-use Rattle.oat_journal.specs.Run.{Entry}
-use Rattle.oat_journal.specs.Journal.{IsMade, takes_input}
-use Rattle.oat_journal.specs.Window.{made_call, shown_edge, executed_path}
-use Rattle.oat_attest.specs.Headline.{ReadByLoad, AllReadByLoad}
-use Rattle.oat_attest.specs.Lockstep.{Placed, placed_of, AreQuiet, StandsAt}
+use Rattle.oat_journal.specs.{Inst, Regs, Machine, act, instruction_at, Edge, Image, monitor_call, MonitorCall, Run.Entry, Journal.IsMade, Journal.takes_input, Window.made_call, Window.shown_edge}
+use Rattle.oat_journal.specs.{Window.executed_path}
+use Rattle.oat_verify.specs.{Stands}
+use Rattle.oat_attest.specs.{Headline.ReadByLoad, Headline.AllReadByLoad, Lockstep.Placed, Lockstep.placed_of, Lockstep.AreQuiet, Lockstep.StandsAt}
+use Rattle.oat_journal.specs.svc as svc
 
 -- ---- runs
 

@@ -1,26 +1,15 @@
 -- Lockstep: from one address on, a run executes the steps of a walk with the same records, up to the first return where they part.
 use Rattle.std.proofs.Common.{◌≡◌, ◌≢◌, ℕ, ◌+◌, Bool, true, false, List, [], ◌∷◌, ◌++◌, Option, Some, refl, sym, ap, subst, ◌∙◌, inl, inr, append-nil, append_assoc}
 use Rattle.std.specs.List.{filter_map}
-use Rattle.std.proofs.lemmas.Bool.{cases_eq}
-use Rattle.std.proofs.lemmas.List.{append_cancel_left}
-use Rattle.oat_a64.specs.Step.{Regs}
-use Rattle.oat_map.specs.declared.edge.Edge.{Edge}
+use Rattle.std.proofs.lemmas.{Bool.cases_eq, List.append_cancel_left}
+use Rattle.oat_journal.specs.{Regs, Edge, Row, after, next, IsIndirectTarget, Step, passed, moved, path_of, bit_of, bits_of, target_of, targets_of, Returns, RowGoes, Leads, Image, Run.Entry}
+use Rattle.oat_journal.specs.{Window.recorded_bit, Window.bits_of_run, Window.recorded_target, Window.targets_of_run}
+use Rattle.oat_verify.specs.{IsReturnSite, CutsNoGroup, IsLaid}
+use Rattle.oat_attest.specs.{Headline.AllReadByLoad, Lockstep.IsReturn, Lockstep.Makes, Lockstep.Executes}
+use Rattle.oat_attest.proofs.{Stretches.Runs, Stretches.moved_to, Places.AreCalled, Places.called_more, Places.goes_site, Places.goes_clear, Places.returns_site, RowRuns.Past, RowRuns.RowRuns}
+use Rattle.oat_attest.proofs.{RowRuns.runs_row, Executing.bits_agree, Executing.targets_agree, Executing.makes_seen, Executing.step_seen, Executing.records_split}
 use Rattle.oat_map.specs.declared.edge.Edge.TheVariants as edges
-use Rattle.oat_map.specs.declared.row.Row.{Row}
 use Rattle.oat_map.specs.declared.row.Row.TheVariants as rows
-use Rattle.oat_map.specs.Rows.{after, next, IsIndirectTarget}
-use Rattle.oat_shape.specs.Shape.{IsReturnSite, CutsNoGroup}
-use Rattle.oat_map.specs.Walk.{Step, passed, moved, path_of, bit_of, bits_of, target_of, targets_of, Returns, RowGoes, Leads}
-use Rattle.oat_image.specs.declared.image.Image.{Image}
-use Rattle.oat_journal.specs.Run.{Entry}
-use Rattle.oat_journal.specs.Window.{recorded_bit, bits_of_run, recorded_target, targets_of_run}
-use Rattle.oat_attest.specs.Headline.{AllReadByLoad}
-use Rattle.oat_attest.specs.Lockstep.{IsReturn, Makes, Executes}
-use Rattle.oat_shape.specs.Laid.{IsLaid}
-use Rattle.oat_attest.proofs.Stretches.{Runs, moved_to}
-use Rattle.oat_attest.proofs.Places.{AreCalled, called_more, goes_site, goes_clear, returns_site}
-use Rattle.oat_attest.proofs.RowRuns.{Past, RowRuns, runs_row}
-use Rattle.oat_attest.proofs.Executing.{bits_agree, targets_agree, makes_seen, step_seen, records_split}
 
 -- ---- the outcome
 

@@ -1,14 +1,11 @@
 -- Each return of a trail goes to the site of its matching call, also where the call is looked for among the edges alone.
 use Rattle.std.proofs.Common.{◌≡◌, ℕ, List, [], ◌∷◌, ◌++◌, map, sym, ap, subst, ◌∙◌, inl, inr, append-nil, append_assoc}
 use Rattle.std.proofs.lemmas.List.Elements.{filter_map-append}
-use Rattle.oat_map.specs.declared.edge.Edge.{Edge}
-use Rattle.oat_map.specs.declared.edge.Edge.TheVariants as edges
-use Rattle.oat_map.specs.declared.map.Map.{Map}
-use Rattle.oat_map.specs.declared.row.Row.{Row}
-use Rattle.oat_map.specs.declared.row.Row.TheVariants.{Jump, Branch, Call, ICall, Ret, Begin, End, UseCell, DefCell, UseAt, DefAt, Check}
-use Rattle.oat_map.specs.Walk.{Step, passed, moved, edge_of, path_of, Returns, RowGoes, Leads}
+use Rattle.oat_journal.specs.{Edge, Map, Row, Jump, Branch, Call, ICall, Begin, End, UseCell, DefCell, UseAt, DefAt, Check, Step, passed, moved, edge_of, path_of, Returns, RowGoes, Leads}
+use Rattle.oat_verify.specs.{Ret}
 use Rattle.oat_attest.specs.Lockstep.{AllReturnsMatch}
 use Rattle.oat_attest.proofs.Moves.{returns_moves}
+use Rattle.oat_map.specs.declared.edge.Edge.TheVariants as edges
 
 ret_goes : (flow : Map) (row : Row) (before : List Step) (to at goes : ℕ) → RowGoes flow row before (moved (edges.Ret at goes)) to → Returns before goes
 ret_goes flow (Jump a t) before to at goes g = let h = g.0 in absurd (cc)

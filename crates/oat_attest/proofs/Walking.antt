@@ -1,27 +1,13 @@
 -- From a clear address on, a run that goes back as it called executes a walk: row by row, and by the number of its instructions.
 use Rattle.std.proofs.Common.{◌≡◌, ℕ, zero, suc, ◌+◌, ◌≤◌, true, false, List, [], ◌∷◌, ◌++◌, length, Contains, Option, Some, None, refl, sym, ap, subst, ◌∙◌, inl, inr, arith, append_assoc, append-nil}
-use Rattle.oat_a64.specs.Step.{Regs}
-use Rattle.oat_map.specs.declared.edge.Edge.{Edge}
-use Rattle.oat_map.specs.declared.edge.Edge.TheVariants as edges
-use Rattle.oat_map.specs.declared.row.Row.{Row}
-use Rattle.oat_map.specs.declared.row.Row.TheVariants as rows
-use Rattle.oat_map.specs.Rows.{after, next}
-use Rattle.oat_map.specs.Walk.{Step, passed, moved, path_of, depth, RowGoes}
-use Rattle.oat_map.specs.Stack.{IsStack}
 use Rattle.oat_map.proofs.StackLemmas.{IsStack-passed, IsStack-jump, IsStack-branch, IsStack-call, IsStack-icall, IsStack-return, Returns-top, depth-is}
-use Rattle.oat_image.specs.declared.image.Image.{Image}
-use Rattle.oat_journal.specs.Run.{Entry}
-use Rattle.oat_journal.specs.Window.{executed_path}
+use Rattle.oat_journal.specs.{Regs, Edge, Row, after, next, Step, passed, moved, path_of, depth, RowGoes, IsStack, Image, Run.Entry, Window.executed_path, GoesBack, turn_of}
+use Rattle.oat_verify.specs.{IsLaid, CutsNoGroup}
 use Rattle.oat_attest.specs.Lockstep.{Makes, Executes}
-use Rattle.oat_map.specs.Turns.{GoesBack, turn_of}
-use Rattle.oat_shape.specs.Laid.{IsLaid}
-use Rattle.oat_shape.specs.Shape.{CutsNoGroup}
-use Rattle.oat_attest.proofs.Stretches.{Runs, no_runs, moved_to}
-use Rattle.oat_attest.proofs.Skips.{skip_none}
-use Rattle.oat_attest.proofs.Places.{AreCalled, called_more, goes_site, goes_clear}
-use Rattle.oat_attest.proofs.CellCrossings.{BegunBy}
-use Rattle.oat_attest.proofs.RowRuns.{Past, RowRuns, runs_row}
-use Rattle.oat_attest.proofs.Executing.{makes_path, executed_length}
+use Rattle.oat_attest.proofs.{Stretches.Runs, Stretches.no_runs, Stretches.moved_to, Skips.skip_none, Places.AreCalled, Places.called_more, Places.goes_site, Places.goes_clear, CellCrossings.BegunBy}
+use Rattle.oat_attest.proofs.{RowRuns.Past, RowRuns.RowRuns, RowRuns.runs_row, Executing.makes_path, Executing.executed_length}
+use Rattle.oat_map.specs.declared.edge.Edge.TheVariants as edges
+use Rattle.oat_map.specs.declared.row.Row.TheVariants as rows
 
 -- ---- what is found
 

@@ -1,21 +1,14 @@
 -- The worked windows and paths.
 use Rattle.std.proofs.Common.{◌+◌, ◌*◌, ◌≡◌, ℕ, pos, suc, zero, List, [], ◌∷◌, ◌++◌, map, Some, length, ◌≤◌, refl, sym, ap, subst, ◌∙◌, arith, inl, Contains, append-nil}
-use Rattle.std.specs.List.{slice_get}
-use Rattle.std.specs.Option.{option_and_then}
-use Rattle.oat_map.specs.declared.edge.Edge.TheVariants as edges
-use Rattle.oat_map.specs.declared.row.Row.{Row}
-use Rattle.oat_map.specs.declared.row.Row.TheVariants as rows
-use Rattle.oat_map.specs.Walk.{Step, passed, moved, Returns, return_site_of}
+use Rattle.std.specs.{List.slice_get, Option.option_and_then}
 use Rattle.oat_map.proofs.WalkLemmas.{Returns-one}
-use Rattle.oat_journal.specs.Run.{Entry, pc_of}
-use Rattle.oat_attest.specs.Headline.{IsUseOf, IsLoadOf, AllReadByLoad}
-use Rattle.oat_attest.specs.Lockstep.{Placed, placed_of, Makes, Executes, PassesCells, AllReturnsMatch}
-use Rattle.oat_a64.specs.declared.inst.Inst.TheVariants.{AddReg, SubsReg, Movz, Movk, Ldr, LdrReg, BCond, Svc}
-use Rattle.oat_mem.specs.DataMemory.{word_in}
-use Rattle.oat_attest.proofs.Lists.{get_contains}
-use Rattle.oat_attest.proofs.Stretches.{none_read, read_cons}
-use Rattle.oat_attest.proofs.Accesses.{loads_use}
-use Rattle.oat_attest.specs.Worked.{two_uses, two_uses_map, made_at, use_at, both_passed, cells_used, TwoUses, one_element, made_at_element, use_element, OneElement, three_calls, SecondIsFalse}
+use Rattle.oat_journal.specs.{Row, Step, passed, moved, Returns, return_site_of, Run.Entry, Run.pc_of, AddReg, SubsReg, Movz, Movk, Ldr, LdrReg, BCond, Svc, word_in}
+use Rattle.oat_attest.specs.{Headline.IsUseOf, Headline.IsLoadOf, Headline.AllReadByLoad, Lockstep.Placed, Lockstep.placed_of, Lockstep.Makes, Lockstep.Executes, Lockstep.PassesCells}
+use Rattle.oat_attest.specs.{Lockstep.AllReturnsMatch, Worked.two_uses, Worked.two_uses_map, Worked.made_at, Worked.use_at, Worked.both_passed, Worked.cells_used, Worked.TwoUses, Worked.one_element}
+use Rattle.oat_attest.specs.{Worked.made_at_element, Worked.use_element, Worked.OneElement, Worked.three_calls, Worked.SecondIsFalse}
+use Rattle.oat_attest.proofs.{Lists.get_contains, Stretches.none_read, Stretches.read_cons, Accesses.loads_use}
+use Rattle.oat_map.specs.declared.edge.Edge.TheVariants as edges
+use Rattle.oat_map.specs.declared.row.Row.TheVariants as rows
 
 -- ---- two uses
 

@@ -1,31 +1,13 @@
 -- The headline: what is claimed where the verifier accepts the blob of a device run (docs/PROMISES.md).
-use Rattle.std.specs.Prelude.{◌≡◌, ◌≢◌, ◌+◌, ◌*◌, ◌<◌, ◌⊎◌, ℕ, ℤ, List, Option, Some, Contains, map, slice_get}
-use Rattle.std.specs.List.{All}
+use Rattle.std.specs.{Prelude.◌≡◌, Prelude.◌≢◌, Prelude.◌+◌, Prelude.◌*◌, Prelude.◌<◌, Prelude.◌⊎◌, Prelude.ℕ, Prelude.ℤ, Prelude.List, Prelude.Option, Prelude.Some, Prelude.Contains, Prelude.map}
+use Rattle.std.specs.{Prelude.slice_get, List.All}
 use Rattle.sha2.specs.Sha256.{sha256}
-use Rattle.oat_blob.specs.Body.{Body}
-use Rattle.oat_blob.specs.Layout.{IsBlobOf}
-use Rattle.oat_chain.specs.Chain.{messages, DiffersAt}
-use Rattle.oat_case.specs.declared.case.Session.{Session}
-use Rattle.oat_case.specs.declared.case.Write.{Write}
-use Rattle.oat_image.specs.declared.image.Image.{Image}
-use Rattle.oat_image.specs.Grammar.{IsWellFormedImage}
-use Rattle.oat_map.specs.declared.edge.Edge.{Edge}
-use Rattle.oat_map.specs.Walk.{returns_of}
-use Rattle.oat_map.specs.declared.row.Row.{Row}
+use Rattle.oat_journal.specs.{Body, IsBlobOf, messages, DiffersAt, Session, Write, Image, IsWellFormedImage, Edge, returns_of, Row, word_in, global_address, Ldr, LdrReg, MonitorCall, Opening}
+use Rattle.oat_journal.specs.{BeginsAt, Run.Entry, Run.AreGiven, Run.pc_of, Window.executed_path, Window.returns_of_run, Window.made_call, Window.up_to_window, Uses.CheckedUse, Uses.IsSound}
+use Rattle.oat_journal.specs.{Uses.uses_behind, Measured.HasBody, Measured.Run, Measured.dev, Measured.opening_of, Measured.start_cells, Measured.window_of, serial_of}
+use Rattle.oat_verify.specs.{IsShaped, Verdict.Accepts, Verdict.subject_of, Verdict.head_of}
 use Rattle.oat_map.specs.declared.row.Row.TheVariants as rows
-use Rattle.oat_mem.specs.DataMemory.{word_in, global_address}
-use Rattle.oat_a64.specs.declared.inst.Inst.TheVariants.{Ldr, LdrReg}
-use Rattle.oat_measure.specs.declared.call.MonitorCall.{MonitorCall}
-use Rattle.oat_measure.specs.declared.call.MonitorCall.TheVariants as svc
-use Rattle.oat_measure.specs.declared.opening.Opening.{Opening}
-use Rattle.oat_shape.specs.Shape.{IsShaped}
-use Rattle.oat_map.specs.Rows.{BeginsAt}
-use Rattle.oat_journal.specs.Run.{Entry, AreGiven, pc_of}
-use Rattle.oat_journal.specs.Window.{executed_path, returns_of_run, made_call, up_to_window}
-use Rattle.oat_journal.specs.Uses.{CheckedUse, IsSound, uses_behind}
-use Rattle.oat_journal.specs.Measured.{HasBody, Run, dev, opening_of, start_cells, window_of}
-use Rattle.oat_measure.specs.Shelving.{serial_of}
-use Rattle.oat_verify.specs.Verdict.{Accepts, subject_of, head_of}
+use Rattle.oat_journal.specs.svc as svc
 
 -- ---- runs and their windows
 

@@ -1,28 +1,10 @@
 -- Honest runs: a window in which each return goes back to the site of its call is a walk, and its blob is accepted (docs/PROMISES.md).
-use Rattle.std.specs.Prelude.{◌≡◌, ◌↔◌, ◌≤◌, ◌<◌, ℕ, ℤ, List, [], length, None, IfSome}
-use Rattle.std.specs.List.{All}
-use Rattle.oat_a64.specs.Step.{next_pc}
-use Rattle.oat_blob.specs.Body.{Body}
-use Rattle.oat_blob.specs.Layout.{IsBlobOf}
-use Rattle.oat_case.specs.declared.case.Session.{Session}
-use Rattle.oat_case.specs.declared.case.Write.{Write}
-use Rattle.oat_chain.specs.Chain.{chain}
-use Rattle.oat_image.specs.declared.image.Image.{Image}
-use Rattle.oat_image.specs.Grammar.{IsWellFormedImage}
-use Rattle.oat_map.specs.Walk.{Step, Walk, path_of, bits_of, targets_of, returns_of, path_limit}
-use Rattle.oat_journal.specs.Run.{Entry, AreGiven}
-use Rattle.oat_shape.specs.Shape.{IsShaped}
-use Rattle.oat_map.specs.Rows.{BeginsAt}
-use Rattle.oat_journal.specs.Uses.{IsSound}
-use Rattle.oat_journal.specs.Window.{executed_path, bits_of_run, targets_of_run, returns_of_run}
-use Rattle.oat_journal.specs.Measured.{HasBody, Run, dev, window_of, uses_of, opening_of}
-use Rattle.oat_journal.specs.Trace.{IsTrace}
-use Rattle.oat_verify.specs.Verdict.{Accepts, IsVerdict, subject_of, head_of}
-use Rattle.oat_verify.specs.declared.verdict.Verdict.{Verdict}
-use Rattle.oat_verify.specs.declared.verdict.Verdict.TheVariants.{Accept}
-use Rattle.oat_attest.specs.Headline.{IsSetting}
-use Rattle.oat_attest.specs.Lockstep.{ExecutesWalk}
-use Rattle.oat_map.specs.Turns.{GoesBack, turn_of}
+use Rattle.std.specs.{Prelude.◌≡◌, Prelude.◌↔◌, Prelude.◌≤◌, Prelude.◌<◌, Prelude.ℕ, Prelude.ℤ, Prelude.List, Prelude.[], Prelude.length, Prelude.None, Prelude.IfSome, List.All}
+use Rattle.oat_journal.specs.{next_pc, Body, IsBlobOf, Session, Write, chain, Image, IsWellFormedImage, Step, Walk, path_of, bits_of, targets_of, returns_of, path_limit, Run.Entry, Run.AreGiven}
+use Rattle.oat_journal.specs.{BeginsAt, Uses.IsSound, Window.executed_path, Window.bits_of_run, Window.targets_of_run, Window.returns_of_run, Measured.HasBody, Measured.Run, Measured.dev}
+use Rattle.oat_journal.specs.{Measured.window_of, Measured.uses_of, Measured.opening_of, Trace.IsTrace, GoesBack, turn_of}
+use Rattle.oat_verify.specs.{IsShaped, Verdict.Accepts, Verdict.IsVerdict, Verdict.subject_of, Verdict.head_of, declared.verdict.Verdict.Verdict, declared.verdict.Verdict.TheVariants.Accept}
+use Rattle.oat_attest.specs.{Headline.IsSetting, Lockstep.ExecutesWalk}
 
 -- A window executes a walk of the operation, shows its path and its records, and has at least one instruction for each step.
 pub record IsWalkOf (image : Image) (op : ℕ) (window : List Entry) : Type 0 where

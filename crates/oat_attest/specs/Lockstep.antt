@@ -1,24 +1,12 @@
 -- Lockstep, same path, and the clash of unequal returns: the window of a run beside the walk of the path that is accepted for its blob (docs/PROMISES.md).
 use Rattle.std.specs.Prelude.{◌≡◌, ◌≢◌, ◌+◌, ◌⊎◌, ℕ, ℤ, true, false, List, [], ◌∷◌, ◌++◌, Option, Some, None, map, slice_get}
-use Rattle.oat_blob.specs.Body.{Body}
-use Rattle.oat_case.specs.declared.case.Session.{Session}
-use Rattle.oat_case.specs.declared.case.Write.{Write}
-use Rattle.oat_image.specs.declared.image.Image.{Image}
-use Rattle.oat_map.specs.declared.edge.Edge.{Edge}
-use Rattle.oat_map.specs.declared.edge.Edge.TheVariants as edges
-use Rattle.oat_map.specs.declared.map.Map.{Map}
-use Rattle.oat_map.specs.declared.row.Row.{Row}
-use Rattle.oat_map.specs.declared.row.Row.TheVariants as rows
-use Rattle.oat_map.specs.Rows.{after, next}
-use Rattle.oat_map.specs.Walk.{Step, moved, Walk, Returns, RowGoes, path_of, returns_of}
-use Rattle.oat_measure.specs.declared.call.MonitorCall.{MonitorCall}
-use Rattle.oat_measure.specs.declared.call.MonitorCall.TheVariants as svc
-use Rattle.oat_journal.specs.Run.{Entry, pc_of}
-use Rattle.oat_a64.specs.Kinds.{is_transfer}
-use Rattle.oat_journal.specs.Window.{executed_path, returns_of_run, made_call}
-use Rattle.oat_journal.specs.Measured.{HasBody, dev, uses_of, first_unsound, opening_of}
+use Rattle.oat_journal.specs.{Body, Session, Write, Image, Edge, Map, Row, after, next, Step, moved, Walk, Returns, RowGoes, path_of, returns_of, MonitorCall, Run.Entry, Run.pc_of, is_transfer}
+use Rattle.oat_journal.specs.{Window.executed_path, Window.returns_of_run, Window.made_call, Measured.HasBody, Measured.dev, Measured.uses_of, Measured.first_unsound, Measured.opening_of}
 use Rattle.oat_verify.specs.Verdict.{subject_of, head_of}
 use Rattle.oat_attest.specs.Headline.{uses_in, OfAcceptedRuns, AllReadByLoad, Clashes, NamesCell}
+use Rattle.oat_map.specs.declared.edge.Edge.TheVariants as edges
+use Rattle.oat_map.specs.declared.row.Row.TheVariants as rows
+use Rattle.oat_journal.specs.svc as svc
 
 -- ---- the run executes steps
 

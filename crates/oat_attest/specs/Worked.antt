@@ -1,18 +1,9 @@
 -- Worked windows and paths that tell the statements apart from weaker ones: from equal lists of cells, from a load somewhere, from the load of another element, and from a false return somewhere.
 use Rattle.std.specs.Prelude.{◌≡◌, ◌+◌, ◌==◌, if◌then◌else◌, ℕ, pos, List, [], ◌∷◌, ◌++◌, map, codes, false}
-use Rattle.oat_a64.specs.declared.inst.Inst.{Inst}
-use Rattle.oat_a64.specs.declared.inst.Inst.TheVariants.{AddReg, SubsReg, Movz, Movk, Ldr, LdrReg, BCond, Svc}
-use Rattle.oat_a64.specs.Step.{Machine, act, first_regs}
-use Rattle.oat_mem.specs.DataMemory.{word_in}
-use Rattle.oat_map.specs.declared.edge.Edge.{Edge}
+use Rattle.oat_journal.specs.{Inst, AddReg, SubsReg, Movz, Movk, Ldr, LdrReg, BCond, Svc, Machine, act, first_regs, word_in, Edge, Map, Step, passed, Image, Run.Entry}
+use Rattle.oat_attest.specs.{Headline.uses_in, Headline.AllReadByLoad, Lockstep.Makes, Lockstep.Executes, Lockstep.PassesCells, Lockstep.PartsAt, Lockstep.AllReturnsMatch, Lockstep.PartsAtFirst}
 use Rattle.oat_map.specs.declared.edge.Edge.TheVariants as edges
-use Rattle.oat_map.specs.declared.map.Map.{Map}
 use Rattle.oat_map.specs.declared.row.Row.TheVariants as rows
-use Rattle.oat_map.specs.Walk.{Step, passed}
-use Rattle.oat_image.specs.declared.image.Image.{Image}
-use Rattle.oat_journal.specs.Run.{Entry}
-use Rattle.oat_attest.specs.Headline.{uses_in, AllReadByLoad}
-use Rattle.oat_attest.specs.Lockstep.{Makes, Executes, PassesCells, PartsAt, AllReturnsMatch, PartsAtFirst}
 
 -- ---- an operation that uses one cell at two rows
 

@@ -1,12 +1,7 @@
 -- A well-formed case can be given to a run.
 use Rattle.std.proofs.Common.{◌<◌}
-use Rattle.std.specs.Prelude.{FitsSigned}
-use Rattle.std.specs.Int.{w64}
-use Rattle.std.specs.List.{All}
-use Rattle.oat_case.specs.declared.case.Case.{Case}
-use Rattle.oat_case.specs.Laws.{WritesCanBeMade}
-use Rattle.oat_case.specs.Limits.{IsWellFormedCase}
-use Rattle.oat_journal.specs.Run.{AreGiven}
+use Rattle.std.specs.{Prelude.FitsSigned, Int.w64, List.All}
+use Rattle.oat_build.specs.{Case, WritesCanBeMade, IsWellFormedCase, AreGiven}
 
 pub can_be_given : WritesCanBeMade → (case : Case) → IsWellFormedCase case → All (FitsSigned w64) case.inputs → All (λ write. All (λ byte. byte < 256) write.bytes) case.writes → AreGiven case.inputs case.writes
 can_be_given made case formed inputs bytes =

@@ -1,42 +1,14 @@
 -- Where nothing is written, an attestation tells the source's run, and accepts each of its calls.
 use Rattle.std.proofs.Common.{◌≡◌, ◌+◌, ◌-◌, ◌*◌, ◌≤◌, ◌<◌, ◌⊎◌, ◌++◌, inl, inr, ℕ, ℤ, List, [], Option, Some, None, true, option_map, refl, sym, ap, subst, ◌∙◌, arith}
-use Rattle.std.specs.Prelude.{FitsSigned, IfSome, IsTrue, nat_le, nat_lt, unwrap_or, length, slice_get}
-use Rattle.std.specs.Int.{w64}
-use Rattle.std.specs.List.{All, AllByRecursion}
-use Rattle.std.proofs.lemmas.Bool.{and_parts, leb-true, lt-ltb}
-use Rattle.std.proofs.lemmas.List.Elements.{recursion_from_All}
-use Rattle.std.proofs.lemmas.Option.{slice_get_cases, slice_get_within}
-use Rattle.std.proofs.lemmas.Slice.Zip.{AllZip-long}
-use Rattle.oat_blob.specs.Body.{Body}
-use Rattle.oat_blob.specs.Layout.{IsBlobOf}
-use Rattle.oat_case.specs.declared.case.Case.{Case}
-use Rattle.oat_case.specs.declared.case.Write.{Write}
-use Rattle.oat_case.specs.Limits.{IsWellFormedCase, calls_fit}
-use Rattle.oat_ir.specs.declared.program.Program.{Program}
-use Rattle.oat_check.specs.Rules.{IsChecked}
-use Rattle.oat_check.specs.RunLaws.{CallsAreCounted}
-use Rattle.oat_check.specs.Runs.{source_events, source_of}
-use Rattle.oat_check.specs.Steps.{LineEdge}
-use Rattle.oat_events.specs.Source.{Finish, calls_done, has_completed, outputs_of}
-use Rattle.oat_map.specs.Turns.{GoesBack, turn_of}
-use Rattle.oat_measure.specs.declared.opening.Opening.{Opening}
-use Rattle.oat_measure.specs.Shelving.{sealed_bodies, serial_of}
-use Rattle.oat_journal.specs.declared.end.DeviceEnd.{DeviceEnd}
-use Rattle.oat_journal.specs.declared.end.DeviceEnd.TheVariants.{OutOfSteps}
-use Rattle.oat_journal.specs.Measured.{BodiesAreCalledFor, HasBody, IsCalledFor, Run, dev, end_of, uses_of, window_of}
-use Rattle.oat_journal.specs.Uses.{IsSound}
-use Rattle.oat_journal.specs.Window.{executed_path}
-use Rattle.oat_follow.specs.Following.{EndsAs, HasEnded, Means, RunShowsTheCall}
-use Rattle.oat_follow.specs.Placement.{Placement}
-use Rattle.oat_follow.specs.Steps.{device_end, instructions_for}
-use Rattle.oat_verify.specs.declared.verdict.Verdict.{Verdict}
-use Rattle.oat_verify.specs.Verdict.{IsVerdict, subject_of}
-use Rattle.oat_attest.specs.Honest.{CallsForOne, SoundRunsAreAccepted}
-use Rattle.oat_attestation.specs.declared.attested.Attested.{Attested}
-use Rattle.oat_attestation.specs.Attestation.{Attests}
-use Rattle.oat_attestation.specs.Laws.{AcceptsTheCall, AttestationsAreComplete, EndsAsSource, HonestRunsAreAttested, calls_measured, opening_told, run_told}
-use Rattle.oat_attestation.proofs.Places.{item_at}
-use Rattle.oat_attestation.proofs.Windows.{judged, setting}
+use Rattle.std.specs.{Prelude.FitsSigned, Prelude.IfSome, Prelude.IsTrue, Prelude.nat_le, Prelude.nat_lt, Prelude.unwrap_or, Prelude.length, Prelude.slice_get, Int.w64, List.All, List.AllByRecursion}
+use Rattle.std.proofs.lemmas.{Bool.and_parts, Bool.leb-true, Bool.lt-ltb, List.Elements.recursion_from_All, Option.slice_get_cases, Option.slice_get_within, Slice.Zip.AllZip-long}
+use Rattle.oat_build.specs.{Body, IsBlobOf, Case, Write, IsWellFormedCase, calls_fit, Program, IsChecked, CallsAreCounted, source_events, source_of, LineEdge, Finish, calls_done, has_completed}
+use Rattle.oat_build.specs.{outputs_of, GoesBack, turn_of, Opening, sealed_bodies, serial_of, DeviceEnd, OutOfSteps, BodiesAreCalledFor, HasBody, IsCalledFor, Run, dev, end_of, uses_of, window_of}
+use Rattle.oat_build.specs.{IsSound, executed_path, EndsAs, HasEnded, Means, RunShowsTheCall, Placement, device_end, instructions_for}
+use Rattle.oat_attest.specs.{Verdict, IsVerdict, subject_of, Honest.CallsForOne, Honest.SoundRunsAreAccepted}
+use Rattle.oat_attestation.specs.{declared.attested.Attested.Attested, Attestation.Attests, Laws.AcceptsTheCall, Laws.AttestationsAreComplete, Laws.EndsAsSource, Laws.HonestRunsAreAttested}
+use Rattle.oat_attestation.specs.{Laws.calls_measured, Laws.opening_told, Laws.run_told}
+use Rattle.oat_attestation.proofs.{Places.item_at, Windows.judged, Windows.setting}
 
 -- ---- what a session of a case calls for
 

@@ -1,8 +1,7 @@
 -- Two lists that go together place by place, and the items at their places.
 use Rattle.std.proofs.Common.{◌≡◌, ◌+◌, ◌<◌, ◌++◌, ℕ, zero, suc, List, [], ◌∷◌, length, take, Some, Option, sym, ap, subst, ◌∙◌, refl, arith}
 use Rattle.std.specs.List.{AllZip, slice_get}
-use Rattle.std.proofs.lemmas.List.{take_more}
-use Rattle.std.proofs.lemmas.Option.{get_or_from_slice_get}
+use Rattle.std.proofs.lemmas.{List.take_more, Option.get_or_from_slice_get}
 
 pub item_at : {X : Type 0} (xs : List X) (s : ℕ) → s < length xs → (x : X) × (slice_get xs s ≡ Some x)
 item_at [] s below = absurd (omega (arith, below))

@@ -1,23 +1,12 @@
 -- The windows of an attestation: how many verdicts there are, and the headline of each.
 use Rattle.std.proofs.Common.{◌≡◌, ◌≤◌, ◌<◌, ℕ, List, Option, Some, None, option_map, refl, sym, subst, ◌∙◌, arith}
 use Rattle.std.specs.Prelude.{IfSome, IsTrue, MatchOption, nat_le, unwrap_or, length, slice_get}
-use Rattle.std.proofs.lemmas.Bool.{and_parts, leb-true}
-use Rattle.std.proofs.lemmas.Slice.Zip.{AllZip-long}
-use Rattle.oat_blob.specs.Body.{Body}
-use Rattle.oat_blob.specs.Layout.{IsBlobOf}
-use Rattle.oat_case.specs.declared.case.Case.{Case}
-use Rattle.oat_case.specs.Limits.{IsWellFormedCase, calls_fit}
-use Rattle.oat_ir.specs.declared.program.Program.{Program}
-use Rattle.oat_measure.specs.Shelving.{sealed_bodies}
-use Rattle.oat_journal.specs.Measured.{HasBody}
+use Rattle.std.proofs.lemmas.{Bool.and_parts, Bool.leb-true, Slice.Zip.AllZip-long}
+use Rattle.oat_build.specs.{Body, IsBlobOf, Case, IsWellFormedCase, calls_fit, Program, sealed_bodies, HasBody}
+use Rattle.oat_attest.specs.{AcceptanceAtOnce, IsVerdict, subject_of, Verdict, Accept, Headline.Headline, Headline.IsSetting}
 use Rattle.oat_device.specs.DeviceRun.{WindowsAreCounted}
-use Rattle.oat_verify.specs.Verdict.{AcceptanceAtOnce, IsVerdict, subject_of}
-use Rattle.oat_verify.specs.declared.verdict.Verdict.{Verdict}
-use Rattle.oat_verify.specs.declared.verdict.Verdict.TheVariants.{Accept}
-use Rattle.oat_attest.specs.Headline.{Headline, IsSetting}
-use Rattle.oat_attestation.specs.declared.attested.Attested.{Attested}
-use Rattle.oat_attestation.specs.Attestation.{Attests, TellsRun}
-use Rattle.oat_attestation.specs.Laws.{JudgesWindows, RunsAreHeadlined, WindowsAreJudged, opening_told, run_told}
+use Rattle.oat_attestation.specs.{declared.attested.Attested.Attested, Attestation.Attests, Attestation.TellsRun, Laws.JudgesWindows, Laws.RunsAreHeadlined, Laws.WindowsAreJudged, Laws.opening_told}
+use Rattle.oat_attestation.specs.{Laws.run_told}
 use Rattle.oat_attestation.proofs.Places.{partner}
 
 -- ---- a verdict, its blob, and its body

@@ -1,16 +1,7 @@
 -- An attestation: what is answered of a program and a case (docs/DEFINITIONS.md, "Attestation").
-use Rattle.std.specs.Prelude.{◌≡◌, ℕ}
-use Rattle.std.specs.List.{AllZip}
-use Rattle.oat_blob.specs.Layout.{IsBlobOf}
-use Rattle.oat_case.specs.declared.case.Case.{Case}
-use Rattle.oat_ir.specs.declared.program.Program.{Program}
-use Rattle.oat_map.specs.Rows.{BeginsAt}
-use Rattle.oat_measure.specs.declared.opening.Opening.{Opening}
-use Rattle.oat_measure.specs.Shelving.{sealed_bodies}
-use Rattle.oat_journal.specs.Measured.{Run, dev, end_of, opening_of}
-use Rattle.oat_journal.specs.Run.{AreGiven}
-use Rattle.oat_verify.specs.Verdict.{IsVerdict, subject_of}
-use Rattle.oat_build.specs.Built.{IsImageOf}
+use Rattle.std.specs.{Prelude.◌≡◌, Prelude.ℕ, List.AllZip}
+use Rattle.oat_build.specs.{IsBlobOf, Case, Program, BeginsAt, Opening, sealed_bodies, Run, dev, end_of, opening_of, AreGiven, Built.IsImageOf}
+use Rattle.oat_attest.specs.{IsVerdict, subject_of}
 use Rattle.oat_attestation.specs.declared.attested.Attested.{Attested}
 
 -- what the windows of the case are opened for on the image, where they open at this address

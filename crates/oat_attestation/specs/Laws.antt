@@ -1,27 +1,10 @@
 -- What follows of an attestation: its headline, that honest runs are accepted, and that none of their windows is wanting (docs/PROMISES.md).
 use Rattle.std.specs.Prelude.{◌≡◌, ◌≤◌, ◌<◌, ◌⊎◌, ℕ, ℤ, true, List, [], ◌++◌, length, slice_get, Option, Some, unwrap_or}
-use Rattle.oat_case.specs.declared.case.Case.{Case}
-use Rattle.oat_case.specs.declared.case.Session.{Session}
-use Rattle.oat_case.specs.Limits.{IsWellFormedCase}
-use Rattle.oat_ir.specs.declared.program.Program.{Program}
-use Rattle.oat_check.specs.Rules.{IsChecked}
-use Rattle.oat_check.specs.Runs.{source_events, source_of}
-use Rattle.oat_events.specs.Source.{Finish, calls_done, end_after, has_completed, outputs_of}
-use Rattle.oat_map.specs.declared.edge.Edge.{Edge}
-use Rattle.oat_measure.specs.declared.opening.Opening.{Opening}
-use Rattle.oat_measure.specs.Shelving.{serial_of}
-use Rattle.oat_journal.specs.declared.end.DeviceEnd.TheVariants.{OutOfSteps}
-use Rattle.oat_journal.specs.Measured.{Run, uses_of, window_of}
-use Rattle.oat_journal.specs.Window.{executed_path}
+use Rattle.oat_build.specs.{Case, Session, IsWellFormedCase, Program, IsChecked, source_events, source_of, Finish, calls_done, end_after, has_completed, outputs_of, Edge, Opening, serial_of}
+use Rattle.oat_build.specs.{OutOfSteps, Run, uses_of, window_of, executed_path, EndsAs, HasEnded, ShowsTheCall, defines_up_to_window, instructions_for}
+use Rattle.oat_attest.specs.{Verdict, Accept, Headline.FollowedOrClashes, Headline.calls_before}
 use Rattle.oat_device.specs.DeviceRun.{IsSealed}
-use Rattle.oat_follow.specs.Following.{EndsAs, HasEnded, ShowsTheCall}
-use Rattle.oat_follow.specs.Order.{defines_up_to_window}
-use Rattle.oat_follow.specs.Steps.{instructions_for}
-use Rattle.oat_verify.specs.declared.verdict.Verdict.{Verdict}
-use Rattle.oat_verify.specs.declared.verdict.Verdict.TheVariants.{Accept}
-use Rattle.oat_attest.specs.Headline.{FollowedOrClashes, calls_before}
-use Rattle.oat_attestation.specs.declared.attested.Attested.{Attested}
-use Rattle.oat_attestation.specs.Attestation.{Attests, TellsRun, opening_at, run_at}
+use Rattle.oat_attestation.specs.{declared.attested.Attested.Attested, Attestation.Attests, Attestation.TellsRun, Attestation.opening_at, Attestation.run_at}
 
 -- the session's opening, and the run that is told
 abbrev pub opening_told : {case : Case} {a : Attested} → TellsRun case a → Opening

@@ -1,7 +1,6 @@
+use oat_build::{Listed, Shaped};
 use oat_case::Bytes;
 use oat_journal::DeviceEnd;
-use oat_list::Listed;
-use oat_shape::Shaped;
 use oat_verify::Verdict;
 
 /// A program's image, what its device and its outputs told of one run, and what the owner says of that run.

@@ -1,26 +1,19 @@
 ghost use Rattle.std.specs.Prelude.{◌≡◌, ◌<◌, ◌≤◌, ℕ, true, Err, IfOk, OnOk};
 ghost use Rattle.std.specs.List.{AllZip};
-ghost use Rattle.oat_asm.specs.Items.{code_limit};
-ghost use Rattle.oat_blob.specs.Layout.{IsBlobOf};
-ghost use Rattle.oat_case.specs.Limits.{IsWellFormedCase};
-ghost use Rattle.oat_check.specs.Rules.{has_operation};
-ghost use Rattle.oat_ir.specs.Size.{most_words};
-ghost use Rattle.oat_map.specs.Rows.{IsOperation};
+ghost use Rattle.oat_build.specs.{code_limit, IsBlobOf, IsWellFormedCase, has_operation, most_words, IsOperation};
+ghost use Rattle.oat_attest.specs.{IsVerdict, subject_of};
 ghost use Rattle.oat_build.specs.Built.{program_words};
 ghost use Rattle.oat_build.specs.declared.fault.BuildFault.TheVariants.{CodeTooLarge};
 ghost use Rattle.oat_device.specs.DeviceRun.{bodies_so_far};
-ghost use Rattle.oat_verify.specs.Verdict.{IsVerdict, subject_of};
 ghost use Rattle.oat_attestation.specs.Attestation.{Attests, TellsRun};
 
 use crate::attested::Attested;
 use crate::looking::look_at_case;
-use oat_build::{BuildFault, build};
+use oat_build::{BuildFault, Listed, Shaped, build};
 use oat_case::{Bytes, Case, Session};
 use oat_check::Checked;
 use oat_device::Device;
 use oat_device::laws::steps_make_the_run;
-use oat_list::Listed;
-use oat_shape::Shaped;
 use oat_verify::{Verdict, verify};
 use std::alloc::{AllocError, Global};
 

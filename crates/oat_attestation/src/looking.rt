@@ -2,8 +2,7 @@
 ghost use Rattle.std.specs.Prelude.{◌<◌, FitsSigned};
 ghost use Rattle.std.specs.Int.{w64};
 ghost use Rattle.std.specs.List.{All};
-ghost use Rattle.oat_case.specs.Limits.{IsWellFormedCase};
-ghost use Rattle.oat_journal.specs.Run.{AreGiven};
+ghost use Rattle.oat_build.specs.{IsWellFormedCase, AreGiven};
 
 use oat_case::laws::writes_can_be_made;
 use oat_case::{Case, Write};

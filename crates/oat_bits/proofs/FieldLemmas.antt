@@ -1,9 +1,8 @@
 -- A word is what stands above a field, the field, and what stands below it.
 use Rattle.std.proofs.Common.{◌≡◌, ℕ, ◌+◌, ◌-◌, ◌*◌, ◌/◌, ◌%◌, ◌^◌, ◌<◌, ◌≤◌, sym, ap, subst, ◌∙◌, arith, add_comm, add_assoc, mod-eq_of_lt, inl, inr}
-use Rattle.std.proofs.Math.Nat.{mul_assoc, mul_comm, add-mul}
-use Rattle.std.proofs.Math.Pow.{mod-mod-pow}
-use Rattle.std.proofs.lemmas.Nat.{pow_pos, pow-add, mod-pow-add, field_of, shr_split, shr_below, shr-shr, mod_below, mul-add-lt, shr_high, mod_low}
 use Rattle.std.specs.Int.{bit_at}
+use Rattle.std.proofs.Math.{Nat.mul_assoc, Nat.mul_comm, Nat.add-mul, Pow.mod-mod-pow}
+use Rattle.std.proofs.lemmas.Nat.{pow_pos, pow-add, mod-pow-add, field_of, shr_split, shr_below, shr-shr, mod_below, mul-add-lt, shr_high, mod_low}
 use Rattle.oat_bits.specs.Field.{field, with_field, ReadsBack, KeepsOthers}
 
 pub parts : (low width word : ℕ) → with_field low width word (field low width word) ≡ word

@@ -1,15 +1,10 @@
 -- The bits that bytes hold have these bytes as their packed form where the filling bits are zeros.
-use Rattle.std.proofs.Common.{◌≡◌, ℕ, zero, suc, ◌+◌, ◌-◌, ◌*◌, ◌/◌, ◌%◌, ◌<◌, ◌≤◌, ◌^◌, Bool, true, false, List, [], ◌∷◌, length, map, drop, get_or, refl, ap, sym, ◌∙◌, arith, length-drop, mod-eq_of_lt, inl, inr}
-use Rattle.std.proofs.lemmas.List.{ext_get_or, drop-map, get_or_past}
-use Rattle.std.proofs.lemmas.Nat.{pow-add, mod-pow-add}
-use Rattle.std.proofs.lemmas.Bool.{cases_lt}
+use Rattle.std.proofs.Common.{◌≡◌, ℕ, zero, suc, ◌+◌, ◌-◌, ◌*◌, ◌/◌, ◌%◌, ◌<◌, ◌≤◌, ◌^◌, Bool, true, false, List, [], ◌∷◌, length, map, drop, get_or, refl, ap, sym, ◌∙◌, arith, length-drop}
+use Rattle.std.proofs.Common.{mod-eq_of_lt, inl, inr}
+use Rattle.std.specs.{Int.bit_at, Prelude.slice_index, Prelude.◌==◌, Prelude.if◌then◌else◌, List.All, List.range_with_len}
 use Rattle.std.proofs.Math.Nat.{zero-mod, mod-add-mod, mul-mod_left}
-use Rattle.std.specs.Int.{bit_at}
-use Rattle.std.proofs.lemmas.Nat.Bits.{bit_at-lt}
-use Rattle.std.specs.Prelude.{slice_index, ◌==◌, if◌then◌else◌}
-use Rattle.std.specs.List.{All, range_with_len}
-use Rattle.oat_bits.specs.Packed.{digits, octets, packed}
-use Rattle.oat_bits.specs.Bits.{bit_in, bits_in}
+use Rattle.std.proofs.lemmas.{List.ext_get_or, List.drop-map, List.get_or_past, Nat.pow-add, Nat.mod-pow-add, Bool.cases_lt, Nat.Bits.bit_at-lt}
+use Rattle.oat_bits.specs.{Packed.digits, Packed.octets, Packed.packed, Bits.bit_in, Bits.bits_in}
 use Rattle.oat_bits.proofs.PackedForm.{get_or-octets, length-octets, length-packed, length-bits_in}
 
 mod-one : (n : ℕ) → n % 1 ≡ 0

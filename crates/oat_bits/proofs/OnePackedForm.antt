@@ -1,8 +1,7 @@
 -- Packed bits and their number determine the bits.
 use Rattle.std.proofs.Common.{◌≡◌, ℕ, zero, suc, ◌+◌, ◌*◌, ◌/◌, ◌≤◌, Bool, true, false, List, [], ◌∷◌, ◌++◌, length, take, drop, refl, ap, sym, ◌∙◌, arith, length-drop}
 use Rattle.std.proofs.lemmas.List.{take-append-drop, nil_from_length}
-use Rattle.oat_bits.specs.Packed.{digits, octets, packed}
-use Rattle.oat_bits.specs.PackedLaws.{OnePackedForm}
+use Rattle.oat_bits.specs.{Packed.digits, Packed.octets, Packed.packed, PackedLaws.OnePackedForm}
 use Rattle.oat_bits.proofs.PackedForm.{digits-below}
 
 digits-one : (place : ℕ) (xs ys : List Bool) → length xs ≡ length ys → digits place xs ≡ digits place ys → take place xs ≡ take place ys

@@ -1,16 +1,12 @@
 -- The packed form of bits: its length, its bytes, and the bits that it holds.
-use Rattle.std.proofs.Common.{◌≡◌, ℕ, zero, suc, ◌+◌, ◌-◌, ◌*◌, ◌/◌, ◌%◌, ◌<◌, ◌≤◌, ◌^◌, Bool, true, false, List, [], ◌∷◌, ◌++◌, length, map, drop, get_or, refl, ap, sym, ◌∙◌, arith, length-drop, mod-eq_of_lt, pos_of_ne-zero, Some, bit_and}
-use Rattle.std.proofs.lemmas.List.{nil_from_length, ext_get_or, get_or-drop, drop-drop, drop-append-le, length-append, length-set, get_or-set_same}
-use Rattle.std.proofs.lemmas.List.Elements.{All-nil, All-cons}
-use Rattle.std.proofs.lemmas.List.FromFn.{length-map-range_with_len, get_or-map-range_with_len}
-use Rattle.std.proofs.lemmas.Nat.{pow_pos, mod_low, shr_high}
-use Rattle.std.proofs.lemmas.Nat.Bits.{bit_at-zero, shr_and_one}
+use Rattle.std.proofs.Common.{◌≡◌, ℕ, zero, suc, ◌+◌, ◌-◌, ◌*◌, ◌/◌, ◌%◌, ◌<◌, ◌≤◌, ◌^◌, Bool, true, false, List, [], ◌∷◌, ◌++◌, length, map, drop, get_or, refl, ap, sym, ◌∙◌, arith, length-drop}
+use Rattle.std.proofs.Common.{mod-eq_of_lt, pos_of_ne-zero, Some, bit_and}
+use Rattle.std.specs.{Int.bit_at, Prelude.slice_get, Prelude.slice_index, Prelude.slice_set, Prelude.◌≢◌, Prelude.◌==◌, Prelude.if◌then◌else◌, List.All, List.range_with_len}
 use Rattle.std.proofs.Math.Nat.{pow-suc}
-use Rattle.std.specs.Int.{bit_at}
-use Rattle.std.specs.Prelude.{slice_get, slice_index, slice_set, ◌≢◌, ◌==◌, if◌then◌else◌}
-use Rattle.std.specs.List.{All, range_with_len}
-use Rattle.oat_bits.specs.Packed.{digits, octets, packed}
-use Rattle.oat_bits.specs.Bits.{bit_in, bits_in}
+use Rattle.std.proofs.lemmas.{List.nil_from_length, List.ext_get_or, List.get_or-drop, List.drop-drop, List.drop-append-le, List.length-append, List.length-set, List.get_or-set_same}
+use Rattle.std.proofs.lemmas.{List.Elements.All-nil, List.Elements.All-cons, List.FromFn.length-map-range_with_len, List.FromFn.get_or-map-range_with_len, Nat.pow_pos, Nat.mod_low, Nat.shr_high}
+use Rattle.std.proofs.lemmas.{Nat.Bits.bit_at-zero, Nat.Bits.shr_and_one}
+use Rattle.oat_bits.specs.{Packed.digits, Packed.octets, Packed.packed, Bits.bit_in, Bits.bits_in}
 use Rattle.oat_bits.proofs.FieldLemmas.{low_bits}
 
 pub digits-below : (place : ℕ) (bits : List Bool) → digits place bits < 2 ^ place

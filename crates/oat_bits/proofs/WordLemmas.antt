@@ -1,12 +1,10 @@
 -- Quotients, remainders and shifts of words are words, and a remainder is what the quotient leaves.
-use Rattle.std.proofs.Common.{◌≡◌, ◌*◌, ◌/◌, ◌%◌, ◌^◌, ◌<◌, ◌≤◌, ℕ, zero, suc, Bool, true, false, cond, eqb, ℤ, pos, negsuc, ◌+ℤ◌, ◌-ℤ◌, ◌*ℤ◌, neg_ℤ, unsigned_abs, int_div, int_rem, refl, sym, ap, ◌∙◌, arith, lit<}
-use Rattle.std.proofs.lemmas.Int.{ints, of_z-to_z, wrapping_sub-bits, wrapping_mul-bits, int_wrap-sub_right, int_wrap-mul_left, quot-rem}
-use Rattle.std.proofs.lemmas.Bool.{cond_both}
-use Rattle.std.specs.Int.{w64, int_wrap, int_rem_euclid}
-use Rattle.std.specs.Int.Signed.{shr_z}
+use Rattle.std.proofs.Common.{◌≡◌, ◌*◌, ◌/◌, ◌%◌, ◌^◌, ◌<◌, ◌≤◌, ℕ, zero, suc, Bool, true, false, cond, eqb, ℤ, pos, negsuc, ◌+ℤ◌, ◌-ℤ◌, ◌*ℤ◌, neg_ℤ, unsigned_abs, int_div, int_rem, refl, sym, ap}
+use Rattle.std.proofs.Common.{◌∙◌, arith, lit<}
+use Rattle.std.specs.{Int.w64, Int.int_wrap, Int.int_rem_euclid, Int.Signed.shr_z}
+use Rattle.std.proofs.lemmas.{Int.ints, Int.of_z-to_z, Int.wrapping_sub-bits, Int.wrapping_mul-bits, Int.int_wrap-sub_right, Int.int_wrap-mul_left, Int.quot-rem, Bool.cond_both}
+use Rattle.oat_bits.specs.{Words.wrap, Words.difference, Words.signed, Words.unsigned, WordLaws.ResultsAreWords, WordLaws.SignedReadsBack, WordLaws.RemaindersAreLeft}
 use native.Mathlib.Nat.{div-add-mod', div-le_self, mod-le}
-use Rattle.oat_bits.specs.Words.{wrap, difference, signed, unsigned}
-use Rattle.oat_bits.specs.WordLaws.{ResultsAreWords, SignedReadsBack, RemaindersAreLeft}
 
 pub signed_reads_back : SignedReadsBack
 signed_reads_back value h = of_z-to_z w64 value h

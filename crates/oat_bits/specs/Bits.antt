@@ -1,10 +1,8 @@
 -- A list of bits with the room for more, and the bits that packed bytes hold (docs/FORMATS.md).
-use Rattle.std.specs.Prelude.{◌≡◌, ◌≢◌, ℕ, ◌+◌, ◌-◌, ◌/◌, ◌%◌, Bool, List, length, map, slice_index, ◌==◌}
-use Rattle.std.specs.Int.{bit_at}
-use Rattle.std.specs.List.{range_with_len}
-use Rattle.oat_bits.specs.Packed.{packed}
-use Rattle.oat_bits.specs.declared.fault.BitsFault.{BitsFault}
-use Rattle.oat_bits.specs.declared.fault.BitsFault.TheVariants.{Length, Padding, Memory}
+use Rattle.std.specs.{Prelude.◌≡◌, Prelude.◌≢◌, Prelude.ℕ, Prelude.◌+◌, Prelude.◌-◌, Prelude.◌/◌, Prelude.◌%◌, Prelude.Bool, Prelude.List, Prelude.length, Prelude.map, Prelude.slice_index}
+use Rattle.std.specs.{Prelude.◌==◌, Int.bit_at, List.range_with_len}
+use Rattle.oat_bits.specs.{Packed.packed, declared.fault.BitsFault.BitsFault, declared.fault.BitsFault.TheVariants.Length, declared.fault.BitsFault.TheVariants.Padding}
+use Rattle.oat_bits.specs.{declared.fault.BitsFault.TheVariants.Memory}
 
 -- the bits, and how many more there is room for
 pub record BitList : Type 0 where

@@ -1,6 +1,5 @@
 -- A bit field of a word, by the place of its lowest bit and its width, and the word with that field replaced, as the Arm A64 manual writes <high:low>.
-use Rattle.std.specs.Prelude.{◌≡◌, ℕ, ◌+◌, ◌*◌, ◌/◌, ◌%◌, ◌^◌, ◌<◌, ◌≤◌, ◌⊎◌}
-use Rattle.std.specs.Int.{bit_at}
+use Rattle.std.specs.{Prelude.◌≡◌, Prelude.ℕ, Prelude.◌+◌, Prelude.◌*◌, Prelude.◌/◌, Prelude.◌%◌, Prelude.◌^◌, Prelude.◌<◌, Prelude.◌≤◌, Prelude.◌⊎◌, Int.bit_at}
 
 -- the number that the bits of a field make
 abbrev pub field : ℕ → ℕ → ℕ → ℕ

@@ -1,7 +1,6 @@
 -- How a list of bits is kept: packed, in bytes with the capacity for the room.
 use Rattle.std.specs.Prelude.{◌≡◌, ℕ, ◌+◌, ◌/◌, ◌^◌, ◌<◌, ◌≤◌, List}
-use Rattle.oat_bits.specs.Packed.{packed}
-use Rattle.oat_bits.specs.Bits.{bits_in}
+use Rattle.oat_bits.specs.{Packed.packed, Bits.bits_in}
 
 pub record IsHeld (count spare : ℕ) (bytes : List ℕ) (capacity : ℕ) : Type 0 where
   pub form : packed (bits_in count bytes) ≡ bytes

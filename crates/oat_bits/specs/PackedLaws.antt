@@ -1,8 +1,6 @@
 -- What the packed form of bits is good for (docs/FORMATS.md).
-use Rattle.std.specs.Prelude.{◌≡◌, ℕ, ◌+◌, ◌/◌, ◌<◌, Bool, List, length}
-use Rattle.std.specs.List.{All}
-use Rattle.oat_bits.specs.Packed.{packed}
-use Rattle.oat_bits.specs.Bits.{IsPackedForm, bits_in}
+use Rattle.std.specs.{Prelude.◌≡◌, Prelude.ℕ, Prelude.◌+◌, Prelude.◌/◌, Prelude.◌<◌, Prelude.Bool, Prelude.List, Prelude.length, List.All}
+use Rattle.oat_bits.specs.{Packed.packed, Bits.IsPackedForm, Bits.bits_in}
 
 -- bytes are the packed form of at most one list of a given length
 abbrev pub OnePackedForm : Type 0

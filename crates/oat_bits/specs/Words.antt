@@ -1,6 +1,6 @@
 -- Numbers of 64 bits: sums, differences, quotients, remainders and shifts, as a processor and a program alike compute them.
-use Rattle.std.specs.Prelude.{ℕ, ◌+◌, ◌-◌, ◌*◌, ◌/◌, ◌%◌, ◌^◌, nat_eq, if◌then◌else◌, ℤ, int_div, int_rem}
-use Rattle.std.specs.Int.{w64, cast_signed, cast_unsigned, int_shr}
+use Rattle.std.specs.{Prelude.ℕ, Prelude.◌+◌, Prelude.◌-◌, Prelude.◌*◌, Prelude.◌/◌, Prelude.◌%◌, Prelude.◌^◌, Prelude.nat_eq, Prelude.if◌then◌else◌, Prelude.ℤ, Prelude.int_div, Prelude.int_rem}
+use Rattle.std.specs.{Int.w64, Int.cast_signed, Int.cast_unsigned, Int.int_shr}
 
 -- the low 64 bits of a number
 abbrev pub wrap : ℕ → ℕ

@@ -1,23 +1,16 @@
 -- A count, and as many records behind it.
-use Rattle.std.proofs.Common.{◌≡◌, ℕ, zero, suc, ◌+◌, ◌-◌, ◌*◌, ◌/◌, ◌%◌, ◌<◌, ◌≤◌, ◌^◌, Bool, false, List, [], ◌∷◌, ◌++◌, length, map, take, drop, get_or, replicate, refl, ap, sym, subst, ◌∙◌, arith, append_assoc, length-append, length-drop}
-use Rattle.std.proofs.lemmas.List.{drop-drop, get_or_past, length-replicate, length-take-le, nil_from_length, take-append-drop, take_all, take_at}
-use Rattle.std.proofs.lemmas.List.Elements.{All-append, All-cons, All-drop, All-nil, All-replicate, All-take}
-use Rattle.std.proofs.lemmas.Nat.{be_bytes_8}
+use Rattle.std.proofs.Common.{◌≡◌, ℕ, zero, suc, ◌+◌, ◌-◌, ◌*◌, ◌/◌, ◌%◌, ◌<◌, ◌≤◌, ◌^◌, Bool, false, List, [], ◌∷◌, ◌++◌, length, map, take, drop, get_or, replicate, refl, ap, sym, subst, ◌∙◌, arith}
+use Rattle.std.proofs.Common.{append_assoc, length-append, length-drop}
+use Rattle.std.specs.{Prelude.slice_index, Int.w32, Int.w64, Int.to_be_bytes, Int.from_be_bytes, List.All, List.flat_map, List.range_with_len}
 use Rattle.std.proofs.Math.Nat.{zero-mod}
-use Rattle.std.specs.Prelude.{slice_index}
-use Rattle.std.specs.Int.{w32, w64, to_be_bytes, from_be_bytes}
-use Rattle.std.specs.List.{All, flat_map, range_with_len}
-use Rattle.oat_bits.specs.Packed.{packed}
-use Rattle.oat_bits.specs.Bits.{bits_in}
-use Rattle.oat_bits.proofs.PackedForm.{length-bits_in, length-packed}
-use Rattle.oat_bits.proofs.Filling.{packed-bits_in, packed-filled}
-use Rattle.oat_blob.specs.Body.{AreBytes}
-use Rattle.oat_blob.specs.Parts.{AreBits, AreFewBits, AreFewTargets, AreTargets, IsBelow, IsFront, Breaks, addresses_part}
-use Rattle.oat_blob.specs.Shown.{target_in, targets_in}
-use Rattle.oat_blob.proofs.Parts.{number_part_32}
-use Rattle.oat_blob.proofs.Reading.{length-targets_in}
-use Rattle.oat_blob.proofs.Fixed.{byte_within, filled, filled_bytes, number_bound_8, wanting}
-use Rattle.oat_blob.proofs.Joined.{IsRecoded, joined_fits, joined_front, joined_part, recoded_front, recoded_stops, stops_first, stops_second}
+use Rattle.std.proofs.lemmas.{List.drop-drop, List.get_or_past, List.length-replicate, List.length-take-le, List.nil_from_length, List.take-append-drop, List.take_all, List.take_at}
+use Rattle.std.proofs.lemmas.{List.Elements.All-append, List.Elements.All-cons, List.Elements.All-drop, List.Elements.All-nil, List.Elements.All-replicate, List.Elements.All-take, Nat.be_bytes_8}
+use Rattle.oat_bits.specs.{Packed.packed, Bits.bits_in}
+use Rattle.oat_bits.proofs.{PackedForm.length-bits_in, PackedForm.length-packed, Filling.packed-bits_in, Filling.packed-filled}
+use Rattle.oat_blob.specs.{Body.AreBytes, Parts.AreBits, Parts.AreFewBits, Parts.AreFewTargets, Parts.AreTargets, Parts.IsBelow, Parts.IsFront, Parts.Breaks, Parts.addresses_part, Shown.target_in}
+use Rattle.oat_blob.specs.{Shown.targets_in}
+use Rattle.oat_blob.proofs.{Parts.number_part_32, Reading.length-targets_in, Fixed.byte_within, Fixed.filled, Fixed.filled_bytes, Fixed.number_bound_8, Fixed.wanting, Joined.IsRecoded}
+use Rattle.oat_blob.proofs.{Joined.joined_fits, Joined.joined_front, Joined.joined_part, Joined.recoded_front, Joined.recoded_stops, Joined.stops_first, Joined.stops_second}
 
 -- ---- packed bits
 

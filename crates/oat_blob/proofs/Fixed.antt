@@ -1,17 +1,14 @@
 -- Parts of a fixed length: arrays, numbers, the magic and a violation.
-use Rattle.std.proofs.Common.{◌≡◌, ℕ, zero, suc, ◌+◌, ◌-◌, ◌<◌, ◌≤◌, ◌^◌, ◌/◌, Bool, true, false, List, [], ◌∷◌, ◌++◌, Option, Some, None, length, take, drop, get_or, replicate, refl, ap, sym, ◌∙◌, arith, length-append, append_assoc, Fits, w8}
-use Rattle.std.proofs.lemmas.List.{append-nil, append_cancel_left, take_more, length-replicate, length-take-le, take-append-drop, take_all, take_at}
-use Rattle.std.proofs.lemmas.List.Elements.{All-append, All-cons, All-same, All-from_get_or, All-head, All-nil, All-replicate, All-tail, All-take}
-use Rattle.std.proofs.lemmas.Bool.{false≢true}
-use Rattle.std.proofs.lemmas.Nat.{be_bytes_2, be_bytes_4, be_bytes_8, mod_below}
-use Rattle.std.specs.Int.{w16, w32, w64, to_be_bytes, from_be_bytes, byte_at, bytes_high_first}
-use Rattle.std.specs.List.{All}
-use Rattle.oat_blob.specs.declared.body.Violation.{Violation}
-use Rattle.oat_blob.specs.Body.{AreBytes, IsViolation}
-use Rattle.oat_blob.specs.Layout.{magic, serial_part, version_part, violation_part}
-use Rattle.oat_blob.specs.Parts.{IfViolation, IsBelow, IsCut, IsFront, IsMagic, IsSerial, IsVersion, Breaks, plain_part, violation_fields}
-use Rattle.oat_blob.proofs.Parts.{number_part_32, number_part_64}
-use Rattle.oat_blob.proofs.Joined.{IsRecoded, joined_fits, joined_front, joined_part, recoded_front, recoded_stops, stops_first, stops_second}
+use Rattle.std.proofs.Common.{◌≡◌, ℕ, zero, suc, ◌+◌, ◌-◌, ◌<◌, ◌≤◌, ◌^◌, ◌/◌, Bool, true, false, List, [], ◌∷◌, ◌++◌, Option, Some, None, length, take, drop, get_or, replicate, refl, ap, sym, ◌∙◌}
+use Rattle.std.proofs.Common.{arith, length-append, append_assoc, Fits, w8}
+use Rattle.std.specs.{Int.w16, Int.w32, Int.w64, Int.to_be_bytes, Int.from_be_bytes, Int.byte_at, Int.bytes_high_first, List.All}
+use Rattle.std.proofs.lemmas.{List.append-nil, List.append_cancel_left, List.take_more, List.length-replicate, List.length-take-le, List.take-append-drop, List.take_all, List.take_at}
+use Rattle.std.proofs.lemmas.{List.Elements.All-append, List.Elements.All-cons, List.Elements.All-same, List.Elements.All-from_get_or, List.Elements.All-head, List.Elements.All-nil}
+use Rattle.std.proofs.lemmas.{List.Elements.All-replicate, List.Elements.All-tail, List.Elements.All-take, Bool.false≢true, Nat.be_bytes_2, Nat.be_bytes_4, Nat.be_bytes_8, Nat.mod_below}
+use Rattle.oat_blob.specs.{declared.body.Violation.Violation, Body.AreBytes, Body.IsViolation, Layout.magic, Layout.serial_part, Layout.version_part, Layout.violation_part, Parts.IfViolation}
+use Rattle.oat_blob.specs.{Parts.IsBelow, Parts.IsCut, Parts.IsFront, Parts.IsMagic, Parts.IsSerial, Parts.IsVersion, Parts.Breaks, Parts.plain_part, Parts.violation_fields}
+use Rattle.oat_blob.proofs.{Parts.number_part_32, Parts.number_part_64, Joined.IsRecoded, Joined.joined_fits, Joined.joined_front, Joined.joined_part, Joined.recoded_front, Joined.recoded_stops}
+use Rattle.oat_blob.proofs.{Joined.stops_first, Joined.stops_second}
 
 -- a slice of bytes holds bytes
 pub all_bytes : (bytes : List ℕ) → ((i : ℕ) → Fits w8 (get_or bytes i 0)) → All (λ byte. byte < 256) bytes

@@ -1,21 +1,19 @@
 -- Where a blob stops, part by part, and the offset that this is.
-use Rattle.std.proofs.Common.{◌≡◌, ℕ, zero, suc, ◌+◌, ◌-◌, ◌<◌, ◌≤◌, ◌^◌, Bool, true, false, List, [], ◌++◌, Option, Some, None, length, take, drop, refl, ap, sym, subst, ◌∙◌, arith, append_assoc, length-append, length-drop}
-use Rattle.std.proofs.lemmas.List.{append-nil, nil_from_length, length-take-le, take-append-drop, take-append-le, take-take, take_at}
-use Rattle.std.proofs.lemmas.List.Elements.{All-nil}
-use Rattle.std.proofs.lemmas.Bool.{eqb-true, false≢true}
-use Rattle.std.specs.Prelude.{◌==◌}
-use Rattle.std.specs.Int.{w16, to_be_bytes}
-use Rattle.oat_blob.specs.declared.body.BodyHead.{BodyHead}
-use Rattle.oat_blob.specs.declared.body.Violation.{Violation}
-use Rattle.oat_blob.specs.Body.{AreBytes, Body}
-use Rattle.oat_blob.specs.Layout.{IsBlob, bits_part, covered_of, magic, serial_part, targets_part, version_part, violation_part}
-use Rattle.oat_blob.specs.Faults.{BeginsBlob, IsFormOffset}
-use Rattle.oat_blob.specs.Parts.{AreFewBits, AreFewTargets, IfViolation, IsBelow, IsFront, IsHead, IsMagic, IsSerial, IsVersion, Breaks, head_part, plain_part}
-use Rattle.oat_blob.specs.Shown.{IsWhole, Shown, blob_part}
-use Rattle.oat_blob.proofs.Parts.{bytes_part, number_part_16}
-use Rattle.oat_blob.proofs.Fixed.{filled, filled_bytes}
-use Rattle.oat_blob.proofs.Joined.{joined_front, recoded_front, recoded_stops, stops_first, stops_second}
-use Rattle.oat_blob.proofs.OneLayout.{DigestFits, EndFits, FieldsFit, HashFits, NonceFits, OpFits, PiecesFit, RecordsFit, SerialFits, VersionFits, bits_one, blob_pieces, digest_part, end_part, fields_of, fields_part, hash_part, head_fields, head_of, head_one, nonce_part, no_proper_prefix, op_part, opening_one, pieces_of, pieces_part, records_part, serial_fields, serial_one, shown_of, targets_one, version_fields, version_one}
+use Rattle.std.proofs.Common.{◌≡◌, ℕ, zero, suc, ◌+◌, ◌-◌, ◌<◌, ◌≤◌, ◌^◌, Bool, true, false, List, [], ◌++◌, Option, Some, None, length, take, drop, refl, ap, sym, subst, ◌∙◌, arith, append_assoc}
+use Rattle.std.proofs.Common.{length-append, length-drop}
+use Rattle.std.specs.{Prelude.◌==◌, Int.w16, Int.to_be_bytes}
+use Rattle.std.proofs.lemmas.{List.append-nil, List.nil_from_length, List.length-take-le, List.take-append-drop, List.take-append-le, List.take-take, List.take_at, List.Elements.All-nil}
+use Rattle.std.proofs.lemmas.{Bool.eqb-true, Bool.false≢true}
+use Rattle.oat_blob.specs.{declared.body.BodyHead.BodyHead, declared.body.Violation.Violation, Body.AreBytes, Body.Body, Layout.IsBlob, Layout.bits_part, Layout.covered_of, Layout.magic}
+use Rattle.oat_blob.specs.{Layout.serial_part, Layout.targets_part, Layout.version_part, Layout.violation_part, Faults.BeginsBlob, Faults.IsFormOffset, Parts.AreFewBits, Parts.AreFewTargets}
+use Rattle.oat_blob.specs.{Parts.IfViolation, Parts.IsBelow, Parts.IsFront, Parts.IsHead, Parts.IsMagic, Parts.IsSerial, Parts.IsVersion, Parts.Breaks, Parts.head_part, Parts.plain_part}
+use Rattle.oat_blob.specs.{Shown.IsWhole, Shown.Shown, Shown.blob_part}
+use Rattle.oat_blob.proofs.{Parts.bytes_part, Parts.number_part_16, Fixed.filled, Fixed.filled_bytes, Joined.joined_front, Joined.recoded_front, Joined.recoded_stops, Joined.stops_first}
+use Rattle.oat_blob.proofs.{Joined.stops_second, OneLayout.DigestFits, OneLayout.EndFits, OneLayout.FieldsFit, OneLayout.HashFits, OneLayout.NonceFits, OneLayout.OpFits, OneLayout.PiecesFit}
+use Rattle.oat_blob.proofs.{OneLayout.RecordsFit, OneLayout.SerialFits, OneLayout.VersionFits, OneLayout.bits_one, OneLayout.blob_pieces, OneLayout.digest_part, OneLayout.end_part}
+use Rattle.oat_blob.proofs.{OneLayout.fields_of, OneLayout.fields_part, OneLayout.hash_part, OneLayout.head_fields, OneLayout.head_of, OneLayout.head_one, OneLayout.nonce_part}
+use Rattle.oat_blob.proofs.{OneLayout.no_proper_prefix, OneLayout.op_part, OneLayout.opening_one, OneLayout.pieces_of, OneLayout.pieces_part, OneLayout.records_part, OneLayout.serial_fields}
+use Rattle.oat_blob.proofs.{OneLayout.serial_one, OneLayout.shown_of, OneLayout.targets_one, OneLayout.version_fields, OneLayout.version_one}
 
 zeros : (n : ℕ) → AreBytes (suc n) (filled (suc n) [])
 zeros n = filled_bytes (suc n) [] (All-nil (λ byte. byte < 256)) (omega arith)

@@ -1,21 +1,14 @@
 -- The layout of a blob determines its body and its MAC, whatever stands behind it.
 use Rattle.std.proofs.Common.{◌≡◌, ℕ, ◌<◌, ◌^◌, Bool, true, false, List, [], ◌++◌, Option, Some, None, length, drop, get_or, refl, ap, sym, ◌∙◌, arith, append_assoc}
-use Rattle.std.proofs.lemmas.Bool.{false≢true}
-use Rattle.std.proofs.lemmas.List.{append-nil}
-use Rattle.std.specs.Prelude.{IfSome, is_some}
-use Rattle.std.specs.Int.{w16, w32, w64, to_be_bytes}
-use Rattle.std.specs.List.{flat_map}
-use Rattle.oat_blob.specs.declared.body.BodyHead.{BodyHead}
-use Rattle.oat_blob.specs.declared.body.Violation.{Violation}
-use Rattle.oat_blob.specs.Body.{AreBytes, IsViolation}
+use Rattle.std.specs.{Prelude.IfSome, Prelude.is_some, Int.w16, Int.w32, Int.w64, Int.to_be_bytes, List.flat_map}
+use Rattle.std.proofs.lemmas.{Bool.false≢true, List.append-nil}
 use Rattle.oat_bits.specs.Packed.{packed}
 use Rattle.oat_bits.proofs.OnePackedForm.{packed-one}
-use Rattle.oat_blob.specs.Layout.{bits_part, covered_of, magic, serial_part, targets_part, version_part, violation_part}
-use Rattle.oat_blob.specs.Laws.{NoProperPrefix, OneBody}
-use Rattle.oat_blob.specs.Parts.{AreFewBits, AreFewTargets, IfViolation, IsBelow, IsHead, IsMagic, IsSerial, IsVersion, head_part, plain_part}
-use Rattle.oat_blob.specs.Shown.{IsWhole, Shown, blob_part}
-use Rattle.oat_blob.proofs.Parts.{IsPart, behind, bytes_part, fixed_part, listed_parts, number_part_16, number_part_32, number_part_64}
-use Rattle.oat_blob.proofs.Joined.{IsRecoded, joined_fits, joined_one, joined_part}
+use Rattle.oat_blob.specs.{declared.body.BodyHead.BodyHead, declared.body.Violation.Violation, Body.AreBytes, Body.IsViolation, Layout.bits_part, Layout.covered_of, Layout.magic, Layout.serial_part}
+use Rattle.oat_blob.specs.{Layout.targets_part, Layout.version_part, Layout.violation_part, Laws.NoProperPrefix, Laws.OneBody, Parts.AreFewBits, Parts.AreFewTargets, Parts.IfViolation, Parts.IsBelow}
+use Rattle.oat_blob.specs.{Parts.IsHead, Parts.IsMagic, Parts.IsSerial, Parts.IsVersion, Parts.head_part, Parts.plain_part, Shown.IsWhole, Shown.Shown, Shown.blob_part}
+use Rattle.oat_blob.proofs.{Parts.IsPart, Parts.behind, Parts.bytes_part, Parts.fixed_part, Parts.listed_parts, Parts.number_part_16, Parts.number_part_32, Parts.number_part_64, Joined.IsRecoded}
+use Rattle.oat_blob.proofs.{Joined.joined_fits, Joined.joined_one, Joined.joined_part}
 
 violation-one : (x y : Option Violation) (r s : List ℕ) → IfSome x IsViolation → IfSome y IsViolation → violation_part x ++ r ≡ violation_part y ++ s → (x ≡ y) × (r ≡ s)
 violation-one None None r s of_x of_y same = (refl, ap (drop 1) same)

@@ -1,10 +1,8 @@
 -- Parts of the layout, each of which can be told from what stands behind it.
 use Rattle.std.proofs.Common.{◌≡◌, ℕ, ◌<◌, ◌^◌, List, [], ◌∷◌, ◌++◌, length, take, drop, refl, ap, sym, ◌∙◌, arith, append_assoc}
-use Rattle.std.proofs.lemmas.List.{drop_at, take_at}
-use Rattle.std.proofs.lemmas.List.Elements.{All-head, All-tail}
-use Rattle.std.proofs.lemmas.Nat.{from_be_bytes-to_be_bytes_2, from_be_bytes-to_be_bytes_4, from_be_bytes-to_be_bytes_8}
-use Rattle.std.specs.Int.{w16, w32, w64, to_be_bytes, from_be_bytes}
-use Rattle.std.specs.List.{All, flat_map}
+use Rattle.std.specs.{Int.w16, Int.w32, Int.w64, Int.to_be_bytes, Int.from_be_bytes, List.All, List.flat_map}
+use Rattle.std.proofs.lemmas.{List.drop_at, List.take_at, List.Elements.All-head, List.Elements.All-tail, Nat.from_be_bytes-to_be_bytes_2, Nat.from_be_bytes-to_be_bytes_4}
+use Rattle.std.proofs.lemmas.{Nat.from_be_bytes-to_be_bytes_8}
 use Rattle.oat_blob.specs.Body.{AreBytes}
 
 -- two values spelled alike, with anything behind them, are one, and so is what stands behind them

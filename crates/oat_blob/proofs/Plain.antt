@@ -1,11 +1,9 @@
 -- The bytes of a blob without violation and records.
 use Rattle.std.proofs.Common.{◌≡◌, ℕ, zero, suc, ◌+◌, List, [], ◌∷◌, ◌++◌, Some, None, length, replicate, refl, ap, sym, ◌∙◌, arith, append_assoc, length-append}
-use Rattle.std.specs.Prelude.{Option, is_some, slice_get}
-use Rattle.std.specs.Int.{w16, to_be_bytes}
-use Rattle.oat_blob.specs.Body.{Body, IsBody, IsPlain}
+use Rattle.std.specs.{Prelude.Option, Prelude.is_some, Prelude.slice_get, Int.w16, Int.to_be_bytes}
 use Rattle.oat_bits.specs.Packed.{octets, packed}
-use Rattle.oat_blob.specs.Layout.{IsBlob, bits_part, covered_of, magic, serial_part, targets_part, version_part, violation_part}
-use Rattle.oat_blob.specs.Laws.{PlainLength, flag_place, shortest_length}
+use Rattle.oat_blob.specs.{Body.Body, Body.IsBody, Body.IsPlain, Layout.IsBlob, Layout.bits_part, Layout.covered_of, Layout.magic, Layout.serial_part, Layout.targets_part, Layout.version_part}
+use Rattle.oat_blob.specs.{Layout.violation_part, Laws.PlainLength, Laws.flag_place, Laws.shortest_length}
 
 -- all before the flag
 abbrev pub front_of : Body → List ℕ

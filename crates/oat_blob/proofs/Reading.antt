@@ -1,7 +1,7 @@
 -- Targets at their places in the bytes.
 use Rattle.std.proofs.Common.{◌≡◌, ℕ, ◌<◌, List, length, Some, arith}
-use Rattle.std.proofs.lemmas.List.FromFn.{length-map-range_with_len}
 use Rattle.std.specs.Prelude.{slice_get}
+use Rattle.std.proofs.lemmas.List.FromFn.{length-map-range_with_len}
 use Rattle.oat_bits.proofs.PackedForm.{slice_get-map-range}
 use Rattle.oat_blob.specs.Shown.{target_in, targets_in}
 

@@ -1,15 +1,11 @@
 -- The bytes before the MAC, put one behind the other, and the MAC.
 use Rattle.std.proofs.Common.{◌≡◌, ℕ, ◌<◌, ◌^◌, Bool, List, ◌++◌, length, ap, ◌∙◌, append_assoc}
-use Rattle.std.specs.Prelude.{is_some}
-use Rattle.std.specs.Int.{w16, to_be_bytes}
-use Rattle.std.specs.List.{All}
+use Rattle.std.specs.{Prelude.is_some, Int.w16, Int.to_be_bytes, List.All}
 use Rattle.sha2.specs.Sha256.{sha256}
 use Rattle.sha2.proofs.Facts256.{length-sha256}
 use Rattle.oat_hmac.specs.Hmac.{hmac, key_block, masked}
-use Rattle.oat_blob.specs.declared.body.BodyHead.{BodyHead}
-use Rattle.oat_blob.specs.Body.{Body}
-use Rattle.oat_blob.specs.Layout.{IsBlobOf, bits_part, covered_of, magic, serial_part, targets_part, version_part, violation_part}
-use Rattle.oat_blob.specs.Parts.{IsHead, head_part}
+use Rattle.oat_blob.specs.{declared.body.BodyHead.BodyHead, Body.Body, Layout.IsBlobOf, Layout.bits_part, Layout.covered_of, Layout.magic, Layout.serial_part, Layout.targets_part, Layout.version_part}
+use Rattle.oat_blob.specs.{Layout.violation_part, Parts.IsHead, Parts.head_part}
 
 regrouped : (a b c d e f g h i j : List ℕ) → ((a ++ (b ++ (c ++ (d ++ (e ++ (f ++ (g ++ h))))))) ++ i) ++ j ≡ a ++ (b ++ (c ++ (d ++ (e ++ (f ++ (g ++ (h ++ (i ++ j))))))))
 regrouped a b c d e f g h i j = simp append_assoc

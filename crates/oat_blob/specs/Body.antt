@@ -1,8 +1,6 @@
 -- What a blob says about one window: docs/FORMATS.md.
-use Rattle.std.specs.Prelude.{◌≡◌, ℕ, ◌<◌, ◌^◌, Bool, List, [], length, None, IfSome}
-use Rattle.std.specs.List.{All}
-use Rattle.oat_blob.specs.declared.body.BodyHead.{BodyHead}
-use Rattle.oat_blob.specs.declared.body.Violation.{Violation}
+use Rattle.std.specs.{Prelude.◌≡◌, Prelude.ℕ, Prelude.◌<◌, Prelude.◌^◌, Prelude.Bool, Prelude.List, Prelude.[], Prelude.length, Prelude.None, Prelude.IfSome, List.All}
+use Rattle.oat_blob.specs.{declared.body.BodyHead.BodyHead, declared.body.Violation.Violation}
 
 -- a head, the branch bits and the indirect targets of the window
 pub record Body : Type 0 where

@@ -1,7 +1,6 @@
 -- Where bytes stop being a blob (docs/FORMATS.md).
 use Rattle.std.specs.Prelude.{ℕ, ◌<◌, ◌≤◌, List, ◌++◌, length, take}
-use Rattle.oat_blob.specs.Body.{Body}
-use Rattle.oat_blob.specs.Layout.{IsBlob}
+use Rattle.oat_blob.specs.{Body.Body, Layout.IsBlob}
 
 -- some blob has these bytes in front
 abbrev pub BeginsBlob : List ℕ → Type 0

@@ -1,7 +1,6 @@
 -- What the layout of blobs is good for: docs/FORMATS.md.
 use Rattle.std.specs.Prelude.{◌≡◌, ℕ, Bool, true, false, List, [], ◌++◌, length, slice_get, Some, is_some}
-use Rattle.oat_blob.specs.Body.{Body, IsPlain}
-use Rattle.oat_blob.specs.Layout.{IsBlob}
+use Rattle.oat_blob.specs.{Body.Body, Body.IsPlain, Layout.IsBlob}
 
 -- no blob is a proper prefix of another
 abbrev pub NoProperPrefix : Type 0

@@ -1,12 +1,10 @@
 -- The layout of a blob, without and with a serial number: docs/FORMATS.md. Numbers stand with the
 -- high byte first.
-use Rattle.std.specs.Prelude.{◌≡◌, ℕ, Bool, true, false, List, [], ◌∷◌, ◌++◌, length, Option, Some, None, is_some}
-use Rattle.std.specs.Int.{w16, w32, w64, to_be_bytes}
-use Rattle.std.specs.List.{flat_map}
-use Rattle.oat_hmac.specs.Hmac.{hmac}
-use Rattle.oat_blob.specs.declared.body.Violation.{Violation}
-use Rattle.oat_blob.specs.Body.{AreBytes, Body, IsBody}
+use Rattle.std.specs.{Prelude.◌≡◌, Prelude.ℕ, Prelude.Bool, Prelude.true, Prelude.false, Prelude.List, Prelude.[], Prelude.◌∷◌, Prelude.◌++◌, Prelude.length, Prelude.Option, Prelude.Some}
+use Rattle.std.specs.{Prelude.None, Prelude.is_some, Int.w16, Int.w32, Int.w64, Int.to_be_bytes, List.flat_map}
 use Rattle.oat_bits.specs.Packed.{packed}
+use Rattle.oat_hmac.specs.Hmac.{hmac}
+use Rattle.oat_blob.specs.{declared.body.Violation.Violation, Body.AreBytes, Body.Body, Body.IsBody}
 
 -- 'OATB'
 abbrev pub magic : List ℕ

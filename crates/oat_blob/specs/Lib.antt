@@ -1,3 +1,4 @@
+unfoldable pub use Rattle.oat_hmac.specs.Hmac.{hmac}
 pub mod Body
 pub mod Layout
 pub mod Parts

@@ -1,12 +1,9 @@
 -- Parts of the layout: which bytes begin with a whole part, and where bytes stop being one
 -- (docs/FORMATS.md). A part is told by how its values are spelled, and which values fit.
-use Rattle.std.specs.Prelude.{◌≡◌, ℕ, suc, ◌<◌, ◌^◌, Bool, List, ◌++◌, length, take, Option, IfSome, is_some, ⊤}
-use Rattle.std.specs.Int.{w16, w32, w64, to_be_bytes}
-use Rattle.std.specs.List.{All, flat_map}
-use Rattle.oat_blob.specs.declared.body.BodyHead.{BodyHead}
-use Rattle.oat_blob.specs.declared.body.Violation.{Violation}
-use Rattle.oat_blob.specs.Body.{AreBytes, IsViolation}
-use Rattle.oat_blob.specs.Layout.{magic, version_part, serial_part, violation_part}
+use Rattle.std.specs.{Prelude.◌≡◌, Prelude.ℕ, Prelude.suc, Prelude.◌<◌, Prelude.◌^◌, Prelude.Bool, Prelude.List, Prelude.◌++◌, Prelude.length, Prelude.take, Prelude.Option, Prelude.IfSome}
+use Rattle.std.specs.{Prelude.is_some, Prelude.⊤, Int.w16, Int.w32, Int.w64, Int.to_be_bytes, List.All, List.flat_map}
+use Rattle.oat_blob.specs.{declared.body.BodyHead.BodyHead, declared.body.Violation.Violation, Body.AreBytes, Body.IsViolation, Layout.magic, Layout.version_part, Layout.serial_part}
+use Rattle.oat_blob.specs.{Layout.violation_part}
 
 -- the bytes are the part with this value, and the rest
 pub record IsFront {X : Type 0} (spell : X → List ℕ) (fits : X → Type 0) (bytes : List ℕ) (value : X) (rest : List ℕ) : Type 0 where

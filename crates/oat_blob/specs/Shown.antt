@@ -1,12 +1,9 @@
 -- What a blob that was read shows, and where in its bytes it stands (docs/FORMATS.md).
-use Rattle.std.specs.Prelude.{◌≡◌, ℕ, ◌+◌, ◌*◌, ◌/◌, List, ◌++◌, length, take, drop, map}
-use Rattle.std.specs.Int.{w64, from_be_bytes}
-use Rattle.std.specs.List.{range_with_len}
-use Rattle.oat_blob.specs.Body.{AreBytes, Body, IsBody}
-use Rattle.oat_bits.specs.Bits.{bits_in}
-use Rattle.oat_bits.specs.Packed.{packed}
-use Rattle.oat_blob.specs.Layout.{covered_of, bits_part, targets_part}
-use Rattle.oat_blob.specs.Parts.{IsFront, AreBits, AreFewBits, AreTargets, AreFewTargets, addresses_part}
+use Rattle.std.specs.{Prelude.◌≡◌, Prelude.ℕ, Prelude.◌+◌, Prelude.◌*◌, Prelude.◌/◌, Prelude.List, Prelude.◌++◌, Prelude.length, Prelude.take, Prelude.drop, Prelude.map, Int.w64, Int.from_be_bytes}
+use Rattle.std.specs.{List.range_with_len}
+use Rattle.oat_bits.specs.{Bits.bits_in, Packed.packed}
+use Rattle.oat_blob.specs.{Body.AreBytes, Body.Body, Body.IsBody, Layout.covered_of, Layout.bits_part, Layout.targets_part, Parts.IsFront, Parts.AreBits, Parts.AreFewBits, Parts.AreTargets}
+use Rattle.oat_blob.specs.{Parts.AreFewTargets, Parts.addresses_part}
 
 -- the body, and the MAC that the bytes carry
 pub record Shown : Type 0 where

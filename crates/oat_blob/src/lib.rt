@@ -15,4 +15,6 @@ pub use decoding::{BlobRef, decode};
 pub use encoding::encode;
 pub use fault::FormFault;
 pub use laws::{no_proper_prefix, one_body, plain_length};
+pub use oat_bits::PackedBits;
+pub use oat_hmac::Mac;
 pub use records::Records;

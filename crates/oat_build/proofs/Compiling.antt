@@ -1,49 +1,20 @@
 -- The image that is built of a checked program has all that a compiled program's image has to have.
-use Rattle.std.proofs.Common.{◌≡◌, ◌+◌, ◌*◌, ◌^◌, ◌<◌, ◌≤◌, ◌&&◌, ◌||◌, ℕ, zero, suc, Bool, true, false, cond, List, [], ◌∷◌, ◌++◌, length, map, take, Option, Some, None, refl, sym, ap, subst, ◌∙◌, arith, eqb}
-use Rattle.std.specs.Prelude.{slice_get, Contains}
-use Rattle.std.specs.List.{flat_map, list_any}
+use Rattle.std.proofs.Common.{◌≡◌, ◌+◌, ◌*◌, ◌^◌, ◌<◌, ◌≤◌, ◌&&◌, ◌||◌, ℕ, zero, suc, Bool, true, false, cond, List, [], ◌∷◌, ◌++◌, length, map, take, Option, Some, None, refl, sym, ap, subst, ◌∙◌}
+use Rattle.std.proofs.Common.{arith, eqb}
+use Rattle.std.specs.{Prelude.slice_get, Prelude.Contains, List.flat_map, List.list_any}
 use Rattle.std.proofs.lemmas.Bool.{and_from, eq-eqb}
-use Rattle.oat_a64.specs.Step.{code_base}
-use Rattle.oat_map.specs.declared.map.Function.{Function}
-use Rattle.oat_map.specs.Rows.{is_called_at}
-use Rattle.oat_image.specs.declared.image.Image.{Image}
-use Rattle.oat_asm.specs.declared.item.Item.{Item}
-use Rattle.oat_asm.specs.Items.{code_limit, words_needed}
-use Rattle.oat_asm.specs.Expansion.{expansion}
-use Rattle.oat_asm.specs.Standing.{ItemsStand}
-use Rattle.oat_ir.specs.declared.program.Program.{Program}
-use Rattle.oat_ir.specs.declared.func.Func.{Func}
-use Rattle.oat_ir.specs.declared.func.BlockIr.{BlockIr}
-use Rattle.oat_ir.specs.Indices.{IsInstr}
-use Rattle.oat_ir.specs.WellFormed.{IsBlockIr, IsFunc}
-use Rattle.oat_check.specs.Keeping.{is_referenced}
-use Rattle.oat_check.specs.Rules.{IsChecked}
-use Rattle.oat_check.specs.Runs.{main_number}
-use Rattle.oat_check.specs.Steps.{operation_number}
-use Rattle.oat_check.proofs.Checking.{each_at}
-use Rattle.oat_parts.specs.Symbols.{FunctionSymbol, function_at, functions_of}
-use Rattle.oat_parts.specs.Making.{words_become}
-use Rattle.oat_parts.specs.Built.{built_address, built_image}
 use Rattle.oat_parts.proofs.Lists.{map_get, map_length}
-use Rattle.oat_symbols.specs.Programs.{block_names, label_of_block, main_at, symbols_of, HasValidNames}
-use Rattle.oat_symbols.specs.Codes.{CodesStand, FunctionStands, IsBuiltWhole, codes_of}
-use Rattle.oat_frames.specs.Frames.{World, IsLow}
-use Rattle.oat_frames.specs.Lines.{IsBlockAt, lines_code}
-use Rattle.oat_frames.specs.Calls.{prologue_end}
-use Rattle.oat_frames.specs.Leaves.{is_leaf}
+use Rattle.oat_check.proofs.Checking.{each_at}
 use Rattle.oat_frames.proofs.FrameLaws.{low-code}
-use Rattle.oat_globals.specs.Operations.{start_code, role_words}
 use Rattle.oat_globals.proofs.GlobalLaws.{words_of_global_lines}
-use Rattle.oat_gen.specs.Code.{block_code, expanded_lines, function_code, program_items}
-use Rattle.oat_gen.specs.GlobalPlaces.{global_places, GlobalsHaveTheirPlaces}
-use Rattle.oat_gen.specs.Laws.{BlocksExpandByLine, FittingProgramsAreBuilt, MarkedCodeExpands, OtherCodeStays}
-use Rattle.oat_match.specs.Code.{block_items}
-use Rattle.oat_match.specs.Compiled.{FunctionBegins, IsCompiled, ProgramsHaveWorlds, WorldIsOf, world_of}
+use Rattle.oat_match.specs.{code_base, Function, is_called_at, Image, Item, code_limit, words_needed, expansion, ItemsStand, Program, Func, BlockIr, IsInstr, IsBlockIr, IsFunc, is_referenced}
+use Rattle.oat_match.specs.{IsChecked, main_number, operation_number, FunctionSymbol, function_at, functions_of, words_become, built_address, built_image, block_names, label_of_block, main_at}
+use Rattle.oat_match.specs.{symbols_of, HasValidNames, CodesStand, FunctionStands, IsBuiltWhole, codes_of, World, IsLow, IsBlockAt, lines_code, prologue_end, is_leaf, start_code, role_words}
+use Rattle.oat_match.specs.{Code.block_items, Compiled.FunctionBegins, Compiled.IsCompiled, Compiled.ProgramsHaveWorlds, Compiled.WorldIsOf, Compiled.world_of}
+use Rattle.oat_gen.specs.{Code.block_code, Code.expanded_lines, Code.function_code, Code.program_items, GlobalPlaces.global_places, GlobalPlaces.GlobalsHaveTheirPlaces, Laws.BlocksExpandByLine}
+use Rattle.oat_gen.specs.{Laws.FittingProgramsAreBuilt, Laws.MarkedCodeExpands, Laws.OtherCodeStays}
 use Rattle.oat_build.specs.Built.{program_image, program_label, program_world, BuiltProgramsAreCompiled}
-use Rattle.oat_build.proofs.LineCode.{block_same}
-use Rattle.oat_build.proofs.MainFirst.{function_stands_at, own_symbol, StandAlike}
-use Rattle.oat_build.proofs.Mains.{main_is, main_within}
-use Rattle.oat_build.proofs.StartWords.{start_words}
+use Rattle.oat_build.proofs.{LineCode.block_same, MainFirst.function_stands_at, MainFirst.own_symbol, MainFirst.StandAlike, Mains.main_is, Mains.main_within, StartWords.start_words}
 
 -- ---- an indirect call finds its function
 

@@ -2,8 +2,7 @@
 use Rattle.std.proofs.Common.{◌≡◌, ◌+◌, ◌<◌, ◌≤◌, ℕ, zero, suc, List, [], ◌∷◌, ◌++◌, length, get_or, drop, map, refl, sym, ap, ◌∙◌, arith, append_assoc, drop-cons}
 use Rattle.std.specs.List.{range_with_len, sum_by}
 use Rattle.std.proofs.lemmas.List.Sums.{sum_by-cons}
-use Rattle.oat_ir.specs.declared.program.GlobalItem.{GlobalItem}
-use Rattle.oat_check.specs.Globals.{cell_words, size_in_cells, size_in_words}
+use Rattle.oat_match.specs.{GlobalItem, cell_words, size_in_cells, size_in_words}
 
 range_moved : (first a b n : ℕ) → first + a ≡ b → map (λ (word : ℕ). first + word) (range_with_len a n) ≡ range_with_len b n
 range_moved first a b zero is = refl

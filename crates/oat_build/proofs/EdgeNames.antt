@@ -1,64 +1,30 @@
 -- In the map of a built image each edge of the program has the name that it has in the source.
-use Rattle.std.proofs.Common.{◌≡◌, ◌+◌, ◌-◌, ◌*◌, ◌%◌, ◌^◌, ◌<◌, ◌≤◌, ℕ, zero, suc, pos, Bool, true, false, cond, List, [], ◌∷◌, ◌++◌, length, map, take, drop, get_or, Option, Some, None, refl, sym, ap, subst, ◌∙◌, arith, append_assoc, length-append}
-use Rattle.std.specs.Prelude.{slice_get, All, Contains, nat_eq, nat_lt, unwrap_or}
-use Rattle.std.specs.Option.{option_map, option_and_then}
-use Rattle.std.specs.List.{count_by}
+use Rattle.std.proofs.Common.{◌≡◌, ◌+◌, ◌-◌, ◌*◌, ◌%◌, ◌^◌, ◌<◌, ◌≤◌, ℕ, zero, suc, pos, Bool, true, false, cond, List, [], ◌∷◌, ◌++◌, length, map, take, drop, get_or, Option, Some, None, refl, sym}
+use Rattle.std.proofs.Common.{ap, subst, ◌∙◌, arith, append_assoc, length-append}
+use Rattle.std.specs.{Prelude.slice_get, Prelude.All, Prelude.Contains, Prelude.nat_eq, Prelude.nat_lt, Prelude.unwrap_or, Option.option_map, Option.option_and_then, List.count_by}
 use Rattle.std.proofs.lemmas.Option.{slice_get-get_or}
-use Rattle.oat_a64.specs.Step.{code_base}
-use Rattle.oat_a64.specs.declared.inst.Inst.TheVariants.{AddImm, Blr, Brk, Cbnz, Ldr, Svc}
-use Rattle.oat_map.specs.declared.map.Map.{Map}
-use Rattle.oat_map.specs.declared.row.Row.{Row}
+use Rattle.oat_asm.proofs.StandingItems.{stand_in_two, words_of_two}
+use Rattle.oat_parts.proofs.{Lists.all_in, Lists.map_get, Lists.map_length, Making.words_add}
+use Rattle.oat_check.proofs.Checking.{each_at}
+use Rattle.oat_frames.proofs.FrameLaws.{lines-stand, found-contains}
+use Rattle.oat_match.specs.{code_base, AddImm, Blr, Brk, Cbnz, Ldr, Svc, Map, Row, EdgeName, PlaceName, Site, branch, call, icall, jump, return, place_name, site, call_site, name_of, address_of}
+use Rattle.oat_match.specs.{after, is_call, is_over, IsRow, IsWellFormedImage, Bl, Item, Mark, words_needed, expansion, IsOver, ItemsStand, Program, Func, BlockIr, Instr, Const, Copy, Binary, Load}
+use Rattle.oat_match.specs.{Store, LoadX, StoreX, RefTo, Call, ICall, Input, Output, Term, Jump, Branch, Ret, SourceSite, IsInstr, IsTerm, IsBlockIr, IsFunc, CodeLine, instruction, terminator}
+use Rattle.oat_match.specs.{line_in, is_calling, instrs_of, site_of_line, source_site, source_site_name, source_block_name, source_func_name, line_edge_name, IsChecked, LineEdge, LinePlace, jumps}
+use Rattle.oat_match.specs.{branches, calls, icalls, returns, finishes, operation_number, operation_of, AreCodes, words_become, label_of_block, symbols_of, HasValidNames, CodesAreOfTheProgram}
+use Rattle.oat_match.specs.{IsBuiltWhole, IsCodeOf, codes_of, CallSitesAreFound, HasSourceNames, PlacesAreNamedBySource, SitesAreNamedBySource, is_site_item, World, slot, home_of, frame_size}
+use Rattle.oat_match.specs.{return_address, is_leaf, home_load, argument_loads, behind_call, depth_tested, icall_code, IsBlockAt, IsLineAt, lines_code, words_before_line, role_words, Code.block_items}
+use Rattle.oat_match.specs.{Code.instruction_items, Code.terminator_items, Compiled.IsCompiled, Compiled.ProgramsHaveWorlds, Compiled.world_of, Placed.EdgesAreNamed, Placed.IsLineEdge}
+use Rattle.oat_match.specs.{Placed.address_of_line, Placed.call_arguments, Placed.code_line_at, Placed.edge_in_image, Placed.frame_at}
+use Rattle.oat_gen.specs.{Code.block_code, Code.code_lines, Code.expanded_lines, Code.function_code, Code.line_code, Code.program_items, Marked.marked_return, GlobalPlaces.global_places}
+use Rattle.oat_gen.specs.{GlobalPlaces.GlobalsHaveTheirPlaces, Laws.BlocksHaveTheirLines, Laws.FittingProgramsAreBuilt, Laws.FunctionsHaveTheirCode, Laws.MarkedCodeExpands, Laws.OtherCodeStays}
+use Rattle.oat_build.specs.Built.{program_image, program_label, program_world, BuiltEdgesAreNamed, BuiltProgramsAreCompiled}
+use Rattle.oat_build.proofs.{LineCode.block_same, SiteCode.before_call, SiteCode.before_call_sites, SiteCode.front_is, SiteCode.sites, SiteCode.sites_join, SiteCode.loads_have_none}
+use Rattle.oat_build.proofs.{SiteCode.sites_before, SiteCode.words_before, SiteCode.split_lines, SiteCode.line_is_there, SiteCode.line_inside}
 use Rattle.oat_map.specs.declared.row.Row.TheVariants as row
-use Rattle.oat_map.specs.EdgeName.{EdgeName, PlaceName, Site, branch, call, icall, jump, return, place_name, site, call_site, name_of}
-use Rattle.oat_map.specs.Rows.{address_of, after, is_call, is_over}
-use Rattle.oat_image.specs.Grammar.{IsRow, IsWellFormedImage}
-use Rattle.oat_asm.specs.declared.branch_form.BranchForm.TheVariants.{Bl}
-use Rattle.oat_asm.specs.declared.item.Item.{Item}
 use Rattle.oat_asm.specs.declared.item.Item.TheVariants as item
-use Rattle.oat_asm.specs.declared.mark.Mark.{Mark}
 use Rattle.oat_asm.specs.declared.mark.Mark.TheVariants as mark
 use Rattle.oat_asm.specs.declared.note.Note.TheVariants as note
-use Rattle.oat_asm.specs.Items.{words_needed}
-use Rattle.oat_asm.specs.Expansion.{expansion}
-use Rattle.oat_asm.specs.Standing.{IsOver, ItemsStand}
-use Rattle.oat_asm.proofs.StandingItems.{stand_in_two, words_of_two}
-use Rattle.oat_ir.specs.declared.program.Program.{Program}
-use Rattle.oat_ir.specs.declared.func.Func.{Func}
-use Rattle.oat_ir.specs.declared.func.BlockIr.{BlockIr}
-use Rattle.oat_ir.specs.declared.instr.Instr.{Instr}
-use Rattle.oat_ir.specs.declared.instr.Instr.TheVariants.{Const, Copy, Binary, Load, Store, LoadX, StoreX, RefTo, Call, ICall, Input, Output}
-use Rattle.oat_ir.specs.declared.instr.Term.{Term}
-use Rattle.oat_ir.specs.declared.instr.Term.TheVariants.{Jump, Branch, Ret}
-use Rattle.oat_ir.specs.declared.source.SourceSite.{SourceSite}
-use Rattle.oat_ir.specs.Indices.{IsInstr, IsTerm}
-use Rattle.oat_ir.specs.WellFormed.{IsBlockIr, IsFunc}
-use Rattle.oat_check.specs.Lines.{CodeLine, instruction, terminator, line_in, is_calling}
-use Rattle.oat_check.specs.Naming.{instrs_of, site_of_line, source_site, source_site_name, source_block_name, source_func_name, line_edge_name}
-use Rattle.oat_check.specs.Rules.{IsChecked}
-use Rattle.oat_check.specs.Steps.{LineEdge, LinePlace, jumps, branches, calls, icalls, returns, finishes, operation_number, operation_of}
-use Rattle.oat_check.proofs.Checking.{each_at}
-use Rattle.oat_parts.specs.Making.{AreCodes, words_become}
-use Rattle.oat_parts.proofs.Lists.{all_in, map_get, map_length}
-use Rattle.oat_parts.proofs.Making.{words_add}
-use Rattle.oat_symbols.specs.Programs.{label_of_block, symbols_of, HasValidNames}
-use Rattle.oat_symbols.specs.Codes.{CodesAreOfTheProgram, IsBuiltWhole, IsCodeOf, codes_of}
-use Rattle.oat_symbols.specs.Names.{CallSitesAreFound, HasSourceNames, PlacesAreNamedBySource, SitesAreNamedBySource, is_site_item}
-use Rattle.oat_frames.specs.Frames.{World, slot, home_of, frame_size, return_address}
-use Rattle.oat_frames.specs.Leaves.{is_leaf}
-use Rattle.oat_frames.specs.Code.{home_load, argument_loads, behind_call, depth_tested, icall_code}
-use Rattle.oat_frames.specs.Lines.{IsBlockAt, IsLineAt, lines_code, words_before_line}
-use Rattle.oat_frames.proofs.FrameLaws.{lines-stand, found-contains}
-use Rattle.oat_globals.specs.Operations.{role_words}
-use Rattle.oat_gen.specs.Code.{block_code, code_lines, expanded_lines, function_code, line_code, program_items}
-use Rattle.oat_gen.specs.Marked.{marked_return}
-use Rattle.oat_gen.specs.GlobalPlaces.{global_places, GlobalsHaveTheirPlaces}
-use Rattle.oat_gen.specs.Laws.{BlocksHaveTheirLines, FittingProgramsAreBuilt, FunctionsHaveTheirCode, MarkedCodeExpands, OtherCodeStays}
-use Rattle.oat_match.specs.Code.{block_items, instruction_items, terminator_items}
-use Rattle.oat_match.specs.Compiled.{IsCompiled, ProgramsHaveWorlds, world_of}
-use Rattle.oat_match.specs.Placed.{EdgesAreNamed, IsLineEdge, address_of_line, call_arguments, code_line_at, edge_in_image, frame_at}
-use Rattle.oat_build.specs.Built.{program_image, program_label, program_world, BuiltEdgesAreNamed, BuiltProgramsAreCompiled}
-use Rattle.oat_build.proofs.LineCode.{block_same}
-use Rattle.oat_build.proofs.SiteCode.{before_call, before_call_sites, front_is, sites, sites_join, loads_have_none, sites_before, words_before, split_lines, line_is_there, line_inside}
 
 -- ---- a line that is there
 

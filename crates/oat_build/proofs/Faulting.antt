@@ -1,13 +1,9 @@
 -- The assembler's fault, as the compiler answers it.
 use Rattle.std.proofs.Common.{◌≡◌, ◌<◌, ℕ, Ok, Err, sym, ap, ◌∙◌, Result}
-use Rattle.std.specs.Prelude.{◌↔◌}
-use Rattle.std.specs.Result.{IsErrAnd}
-use Rattle.oat_asm.specs.declared.assembled.AsmFault.{AsmFault}
+use Rattle.std.specs.{Prelude.◌↔◌, Result.IsErrAnd}
+use Rattle.oat_match.specs.{AsmFault, code_limit}
+use Rattle.oat_build.specs.{declared.fault.BuildFault.BuildFault, declared.fault.BuildFault.TheVariants.CodeTooLarge, declared.fault.BuildFault.TheVariants.Memory, Faults.fault_of}
 use Rattle.oat_asm.specs.declared.assembled.AsmFault.TheVariants as asm
-use Rattle.oat_asm.specs.Items.{code_limit}
-use Rattle.oat_build.specs.declared.fault.BuildFault.{BuildFault}
-use Rattle.oat_build.specs.declared.fault.BuildFault.TheVariants.{CodeTooLarge, Memory}
-use Rattle.oat_build.specs.Faults.{fault_of}
 
 told : {A : Type 0} (a : Result A AsmFault) (fault : AsmFault) (needed words : ℕ) → a ≡ Err fault → ((n : ℕ) → (a ≡ Err (asm.CodeTooLarge n)) ↔ ((n ≡ needed) × (code_limit < n)))
     → fault_of fault ≡ CodeTooLarge words → (words ≡ needed) × (code_limit < words)

@@ -2,25 +2,10 @@
 use Rattle.std.proofs.Common.{◌≡◌, ◌+◌, ◌<◌, ◌≤◌, ℕ, List, [], ◌∷◌, ◌++◌, length, get_or, take, map, refl, sym, ap, subst, ◌∙◌, inl, inr}
 use Rattle.std.specs.Prelude.{Contains, ◌⊎◌}
 use Rattle.std.proofs.Math.Path.{fun_ext}
-use Rattle.std.proofs.lemmas.List.{take_all}
-use Rattle.std.proofs.lemmas.List.Elements.{Contains-append_cases}
-use Rattle.oat_a64.specs.Step.{code_base}
-use Rattle.oat_map.specs.declared.map.Map.{Map}
-use Rattle.oat_map.specs.declared.map.Function.{Function}
-use Rattle.oat_map.specs.declared.map.Block.{Block}
-use Rattle.oat_map.specs.declared.row.Row.{Row}
-use Rattle.oat_image.specs.declared.image.Image.{Image}
-use Rattle.oat_image.specs.declared.image.InitWord.{InitWord}
-use Rattle.oat_asm.specs.declared.item.Item.{Item}
-use Rattle.oat_asm.specs.declared.assembled.Assembled.{Assembled}
-use Rattle.oat_asm.specs.declared.assembled.NoteAt.{NoteAt}
-use Rattle.oat_asm.specs.Expansion.{expansion}
-use Rattle.oat_asm.specs.Layout.{layout}
-use Rattle.oat_asm.specs.NoteRows.{row_of}
-use Rattle.oat_asm.specs.StandingLaws.{label_address}
-use Rattle.oat_parts.specs.Symbols.{SymbolTable, functions_of, blocks_of}
-use Rattle.oat_parts.specs.Built.{built_address, built_image}
+use Rattle.std.proofs.lemmas.{List.take_all, List.Elements.Contains-append_cases}
 use Rattle.oat_parts.proofs.Lists.{cons_cases, not_in_none}
+use Rattle.oat_match.specs.{code_base, Map, Function, Block, Row, Image, InitWord, Item, Assembled, NoteAt, expansion, layout, row_of, label_address, SymbolTable, functions_of, blocks_of}
+use Rattle.oat_match.specs.{built_address, built_image}
 use Rattle.oat_build.proofs.SymbolLists.{take_next}
 
 -- ---- each thing of a list

@@ -1,18 +1,11 @@
 -- A map of listed labels has the address of each label.
 use Rattle.std.proofs.Common.{◌≡◌, ◌+◌, ◌≤◌, ℕ, zero, suc, Bool, true, false, cond, List, [], ◌∷◌, length, drop, Option, Some, None, refl, sym, ap, subst, ◌∙◌, inl, inr, arith}
 use Rattle.std.specs.Prelude.{Contains, slice_get, nat_eq, unwrap_or, ◌⊎◌}
-use Rattle.std.proofs.lemmas.Bool.{eqb-true, eq-eqb, ne_eqb, true≢false}
-use Rattle.std.proofs.lemmas.List.{drop_all}
-use Rattle.oat_a64.specs.Step.{code_base}
-use Rattle.oat_asm.specs.declared.item.Item.{Item}
-use Rattle.oat_asm.specs.declared.item.Item.TheVariants as item
-use Rattle.oat_asm.specs.declared.assembled.LabelAt.{LabelAt}
-use Rattle.oat_asm.specs.Items.{address, is_label, item_words, label_place, place, words_needed}
-use Rattle.oat_asm.specs.Layout.{layout}
-use Rattle.oat_asm.specs.StandingLaws.{label_address, LabelsStandOnce}
-use Rattle.oat_asm.proofs.LayoutLaws.{label_placed, labels_listed}
-use Rattle.oat_asm.proofs.Seen.{place_of_cons}
+use Rattle.std.proofs.lemmas.{Bool.eqb-true, Bool.eq-eqb, Bool.ne_eqb, Bool.true≢false, List.drop_all}
+use Rattle.oat_asm.proofs.{LayoutLaws.label_placed, LayoutLaws.labels_listed, Seen.place_of_cons}
 use Rattle.oat_parts.proofs.Lists.{not_in_none, first_in, later_in, cons_cases, get_in}
+use Rattle.oat_match.specs.{code_base, Item, LabelAt, address, is_label, item_words, label_place, place, words_needed, layout, label_address, LabelsStandOnce}
+use Rattle.oat_asm.specs.declared.item.Item.TheVariants as item
 
 -- the address of the last entry of a label; else what was known
 abbrev pub last_known : ℕ → List LabelAt → Option ℕ → Option ℕ

@@ -1,38 +1,15 @@
 -- The code of a line is that which the line's law asks for, and the code of a block is that of its lines.
 use Rattle.std.proofs.Common.{◌≡◌, ◌+◌, ◌<◌, ◌≤◌, ℕ, zero, suc, Bool, true, false, cond, List, [], ◌∷◌, ◌++◌, length, map, Option, Some, None, refl, sym, ap, subst, ◌∙◌, arith}
-use Rattle.std.specs.Prelude.{slice_get, take, All, get_or, nat_lt}
-use Rattle.std.specs.List.{sum_by}
-use Rattle.std.proofs.lemmas.Bool.{lt-ltb}
-use Rattle.std.proofs.lemmas.Option.{slice_get-get_or}
-use Rattle.oat_asm.specs.declared.item.Item.{Item}
-use Rattle.oat_asm.specs.Expansion.{expansion}
-use Rattle.oat_ir.specs.declared.program.Program.{Program}
-use Rattle.oat_ir.specs.declared.program.GlobalItem.{GlobalItem}
-use Rattle.oat_ir.specs.declared.program.GlobalItem.TheVariants.{Scalar, FnScalar, Array, CriticalArray}
-use Rattle.oat_ir.specs.declared.func.Func.{Func}
-use Rattle.oat_ir.specs.declared.func.BlockIr.{BlockIr}
-use Rattle.oat_ir.specs.declared.instr.Instr.{Instr}
-use Rattle.oat_ir.specs.declared.instr.Instr.TheVariants.{Const, Copy, Binary, Load, Store, LoadX, StoreX, RefTo, Call, ICall, Input, Output}
-use Rattle.oat_ir.specs.declared.instr.Term.{Term}
-use Rattle.oat_ir.specs.declared.instr.Term.TheVariants.{Jump, Branch, Ret, Halt}
-use Rattle.oat_ir.specs.Indices.{IsInstr}
-use Rattle.oat_ir.specs.WellFormed.{IsGlobal, IsProgram}
-use Rattle.oat_check.specs.Globals.{of_global, size_in_words, size_in_cells, length_at, cell_number}
-use Rattle.oat_check.specs.Lines.{CodeLine, instruction, terminator}
-use Rattle.oat_check.specs.Steps.{operation_number}
+use Rattle.std.specs.{Prelude.slice_get, Prelude.take, Prelude.All, Prelude.get_or, Prelude.nat_lt, List.sum_by}
+use Rattle.std.proofs.lemmas.{Bool.lt-ltb, Option.slice_get-get_or}
 use Rattle.oat_check.proofs.Checking.{each_at}
-use Rattle.oat_symbols.specs.Programs.{label_of_block}
-use Rattle.oat_locals.specs.Code.{jump_code, branch_code}
-use Rattle.oat_globals.specs.Code.{load_code, store_code, loadx_code, storex_code, use_code, define_code, use_at_code, define_at_code}
-use Rattle.oat_gen.specs.declared.globals.GlobalPlace.{GlobalPlace}
-use Rattle.oat_gen.specs.declared.globals.GlobalPlace.TheVariants.{Ordinary, Critical}
-use Rattle.oat_gen.specs.GlobalPlaces.{placed, global_places, place_in, GlobalsHaveTheirPlaces}
-use Rattle.oat_frames.specs.Frames.{Home, home_of}
-use Rattle.oat_frames.specs.Leaves.{is_leaf}
-use Rattle.oat_gen.specs.Marked.{scalar_load, scalar_store, element_load, element_store}
-use Rattle.oat_gen.specs.Code.{instruction_code, terminator_code, line_code, code_lines, expanded_lines}
-use Rattle.oat_gen.specs.Laws.{MarkedCodeExpands, OtherCodeStays}
-use Rattle.oat_match.specs.Code.{first_word_of, by_cell, instruction_items, terminator_items, block_items}
+use Rattle.oat_match.specs.{Item, expansion, Program, GlobalItem, Scalar, FnScalar, Array, CriticalArray, Func, BlockIr, Instr, Const, Copy, Binary, Load, Store, LoadX, StoreX, RefTo, Call, ICall}
+use Rattle.oat_match.specs.{Input, Output, Term, Jump, Branch, Ret, Halt, IsInstr, IsGlobal, IsProgram, of_global, size_in_words, size_in_cells, length_at, cell_number, CodeLine, instruction}
+use Rattle.oat_match.specs.{terminator, operation_number, label_of_block, jump_code, branch_code, load_code, store_code, loadx_code, storex_code, use_code, define_code, use_at_code, define_at_code}
+use Rattle.oat_match.specs.{Home, home_of, is_leaf, Code.first_word_of, Code.by_cell, Code.instruction_items, Code.terminator_items, Code.block_items}
+use Rattle.oat_gen.specs.{declared.globals.GlobalPlace.GlobalPlace, declared.globals.GlobalPlace.TheVariants.Ordinary, declared.globals.GlobalPlace.TheVariants.Critical, GlobalPlaces.placed}
+use Rattle.oat_gen.specs.{GlobalPlaces.global_places, GlobalPlaces.place_in, GlobalPlaces.GlobalsHaveTheirPlaces, Marked.scalar_load, Marked.scalar_store, Marked.element_load, Marked.element_store}
+use Rattle.oat_gen.specs.{Code.instruction_code, Code.terminator_code, Code.line_code, Code.code_lines, Code.expanded_lines, Laws.MarkedCodeExpands, Laws.OtherCodeStays}
 
 -- ---- globals: the two ways to say whether one is critical
 

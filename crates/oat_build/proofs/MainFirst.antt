@@ -1,17 +1,10 @@
 -- Where the code and the symbol of a function stand in the order of code, `main` first.
 use Rattle.std.proofs.Common.{◌≡◌, ◌+◌, ◌-◌, ◌<◌, ◌≤◌, ℕ, zero, suc, List, [], ◌∷◌, ◌++◌, length, get_or, take, drop, Some, refl, sym, ap, subst, ◌∙◌, inl, inr, arith, length-take-le, length-append}
-use Rattle.std.specs.Prelude.{slice_get, ◌⊎◌}
-use Rattle.std.specs.List.{flat_map}
-use Rattle.std.proofs.lemmas.Bool.{cases_lt}
-use Rattle.std.proofs.lemmas.Option.{slice_get-get_or, slice_get_within}
+use Rattle.std.specs.{Prelude.slice_get, Prelude.◌⊎◌, List.flat_map}
+use Rattle.std.proofs.lemmas.{Bool.cases_lt, Option.slice_get-get_or, Option.slice_get_within}
 use Rattle.oat_asm.proofs.Giving.{get_right}
-use Rattle.oat_ir.specs.declared.program.Program.{Program}
-use Rattle.oat_ir.specs.declared.func.Func.{Func}
-use Rattle.oat_parts.specs.Symbols.{FunctionSymbol}
-use Rattle.oat_parts.specs.Making.{FunctionCode}
 use Rattle.oat_parts.proofs.Lists.{get_before}
-use Rattle.oat_symbols.specs.Programs.{block_names, symbol_for, symbols_from, symbols_of, all_symbols, main_at, with_first}
-use Rattle.oat_symbols.specs.Codes.{codes_from, codes_of}
+use Rattle.oat_match.specs.{Program, Func, FunctionSymbol, FunctionCode, block_names, symbol_for, symbols_from, symbols_of, all_symbols, main_at, with_first, codes_from, codes_of}
 
 -- ---- any list
 

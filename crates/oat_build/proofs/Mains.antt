@@ -1,18 +1,10 @@
 -- Where `main` is among the functions of a checked program, and how many functions and blocks it has.
-use Rattle.std.proofs.Common.{◌≡◌, ◌+◌, ◌-◌, ◌^◌, ◌<◌, ◌≤◌, ◌||◌, ℕ, zero, suc, Bool, true, false, cond, List, [], ◌∷◌, ◌++◌, length, get_or, take, drop, Option, Some, None, refl, sym, ap, ◌∙◌, arith, length-append}
-use Rattle.std.specs.Prelude.{position, nat_lt, slice_get}
-use Rattle.std.specs.List.{flat_map, list_any, position_or_len, sum_by}
-use Rattle.std.proofs.lemmas.Bool.{lt-ltb}
-use Rattle.std.proofs.lemmas.List.Recursion.{is_position_or_len}
-use Rattle.std.proofs.lemmas.List.Sums.{sum_by-cons}
-use Rattle.oat_ir.specs.declared.program.Program.{Program}
-use Rattle.oat_ir.specs.declared.func.Func.{Func}
-use Rattle.oat_ir.specs.declared.func.BlockIr.{BlockIr}
-use Rattle.oat_ir.specs.Size.{block_size, func_size}
-use Rattle.oat_check.specs.Rules.{IsChecked, is_main}
-use Rattle.oat_check.specs.Runs.{main_number}
+use Rattle.std.proofs.Common.{◌≡◌, ◌+◌, ◌-◌, ◌^◌, ◌<◌, ◌≤◌, ◌||◌, ℕ, zero, suc, Bool, true, false, cond, List, [], ◌∷◌, ◌++◌, length, get_or, take, drop, Option, Some, None, refl, sym, ap, ◌∙◌, arith}
+use Rattle.std.proofs.Common.{length-append}
+use Rattle.std.specs.{Prelude.position, Prelude.nat_lt, Prelude.slice_get, List.flat_map, List.list_any, List.position_or_len, List.sum_by}
+use Rattle.std.proofs.lemmas.{Bool.lt-ltb, List.Recursion.is_position_or_len, List.Sums.sum_by-cons}
 use Rattle.oat_check.proofs.Checking.{keeps_rules}
-use Rattle.oat_symbols.specs.Programs.{block_names, main_at}
+use Rattle.oat_match.specs.{Program, Func, BlockIr, block_size, func_size, IsChecked, is_main, main_number, block_names, main_at}
 use Rattle.oat_build.proofs.SymbolLists.{count_more, count_least, count_back}
 
 pub main_is : (funcs : List Func) → main_number funcs ≡ position_or_len is_main funcs

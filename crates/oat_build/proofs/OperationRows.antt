@@ -1,37 +1,20 @@
 -- The operations of a built image are the program's, and each begins where the placement says.
-use Rattle.std.proofs.Common.{◌≡◌, ◌+◌, ◌*◌, ◌<◌, ◌≤◌, ◌||◌, ℕ, zero, suc, Bool, true, false, List, [], ◌∷◌, ◌++◌, length, get_or, take, drop, Option, Some, None, refl, sym, ap, subst, ◌∙◌, inl, inr, arith, eqb-true, eq-eqb}
-use Rattle.std.specs.Prelude.{slice_get, Contains, ◌⊎◌, ◌↔◌}
-use Rattle.std.specs.List.{flat_map, list_any, position_or_len}
-use Rattle.std.specs.Option.{option_to_list}
+use Rattle.std.proofs.Common.{◌≡◌, ◌+◌, ◌*◌, ◌<◌, ◌≤◌, ◌||◌, ℕ, zero, suc, Bool, true, false, List, [], ◌∷◌, ◌++◌, length, get_or, take, drop, Option, Some, None, refl, sym, ap, subst, ◌∙◌, inl, inr}
+use Rattle.std.proofs.Common.{arith, eqb-true, eq-eqb}
+use Rattle.std.specs.{Prelude.slice_get, Prelude.Contains, Prelude.◌⊎◌, Prelude.◌↔◌, List.flat_map, List.list_any, List.position_or_len, Option.option_to_list}
 use Rattle.std.proofs.lemmas.List.Elements.{Contains-append_cases}
+use Rattle.oat_asm.proofs.StandingItems.{stand_in_two}
+use Rattle.oat_parts.proofs.Lists.{not_in_none, cons_cases, first_in, get_in, of_flat_map, later_in}
+use Rattle.oat_frames.proofs.FrameLaws.{found-contains}
+use Rattle.oat_globals.proofs.GlobalLaws.{prologue_words}
+use Rattle.oat_match.specs.{BeginsAt, IsOperation, is_over, OperationsOpenOnce, words_needed, ItemsStand, Program, Func, Role, Main, Operation, Plain, IsChecked, has_operation, is_operation_of}
+use Rattle.oat_match.specs.{operation_number, FunctionSymbol, operations_in, ProgramsHaveTheirLabels, block_names, symbols_from, symbols_of, all_symbols, main_at, with_first, IsBuiltWhole, prologue}
+use Rattle.oat_match.specs.{prologue_end, is_leaf, begin_code, start_code, Compiled.FunctionBegins, Compiled.IsCompiled, Placed.function_of_operation, Placed.placement}
+use Rattle.oat_gen.specs.Code.{program_items}
+use Rattle.oat_build.specs.Built.{program_image, program_label, program_world, HasOperationsOf}
 use Rattle.oat_map.specs.declared.row.Row.TheVariants as row
-use Rattle.oat_map.specs.Rows.{BeginsAt, IsOperation, is_over}
-use Rattle.oat_shape.specs.Laid.{OperationsOpenOnce}
 use Rattle.oat_asm.specs.declared.item.Item.TheVariants as item
 use Rattle.oat_asm.specs.declared.note.Note.TheVariants as note
-use Rattle.oat_asm.specs.Items.{words_needed}
-use Rattle.oat_asm.specs.Standing.{ItemsStand}
-use Rattle.oat_asm.proofs.StandingItems.{stand_in_two}
-use Rattle.oat_ir.specs.declared.program.Program.{Program}
-use Rattle.oat_ir.specs.declared.func.Func.{Func}
-use Rattle.oat_ir.specs.declared.func.Role.{Role}
-use Rattle.oat_ir.specs.declared.func.Role.TheVariants.{Main, Operation, Plain}
-use Rattle.oat_check.specs.Rules.{IsChecked, has_operation, is_operation_of}
-use Rattle.oat_check.specs.Steps.{operation_number}
-use Rattle.oat_parts.specs.Symbols.{FunctionSymbol, operations_in}
-use Rattle.oat_parts.proofs.Lists.{not_in_none, cons_cases, first_in, get_in, of_flat_map, later_in}
-use Rattle.oat_symbols.specs.Programs.{ProgramsHaveTheirLabels, block_names, symbols_from, symbols_of, all_symbols, main_at, with_first}
-use Rattle.oat_symbols.specs.Codes.{IsBuiltWhole}
-use Rattle.oat_frames.specs.Code.{prologue}
-use Rattle.oat_frames.specs.Calls.{prologue_end}
-use Rattle.oat_frames.specs.Leaves.{is_leaf}
-use Rattle.oat_frames.proofs.FrameLaws.{found-contains}
-use Rattle.oat_globals.specs.Operations.{begin_code, start_code}
-use Rattle.oat_globals.proofs.GlobalLaws.{prologue_words}
-use Rattle.oat_gen.specs.Code.{program_items}
-use Rattle.oat_match.specs.Compiled.{FunctionBegins, IsCompiled}
-use Rattle.oat_match.specs.Placed.{function_of_operation, placement}
-use Rattle.oat_build.specs.Built.{program_image, program_label, program_world, HasOperationsOf}
 
 -- ---- roles and their numbers
 

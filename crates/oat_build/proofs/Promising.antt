@@ -1,21 +1,10 @@
 -- What is promised of the image of a checked program whose code fits.
 use Rattle.std.proofs.Common.{◌≡◌, ◌≤◌, ℕ, List, length, ap, subst, sym, ◌∙◌, arith}
-use Rattle.oat_asm.specs.Items.{code_limit}
-use Rattle.oat_asm.specs.Expansion.{expansion}
-use Rattle.oat_asm.specs.StandingLaws.{CanBeAssembled}
-use Rattle.oat_asm.proofs.ExpansionProofs.{leaves_no_mark, stays_in_range, uses_once}
-use Rattle.oat_asm.proofs.StandingItems.{laid_words_encode}
-use Rattle.oat_shape.specs.Laid.{OperationsOpenOnce}
-use Rattle.oat_ir.specs.declared.program.Program.{Program}
-use Rattle.oat_parts.specs.Built.{CanBeExpanded}
-use Rattle.oat_parts.proofs.Making.{codes_are_in_parts}
-use Rattle.oat_parts.proofs.Assembling.{parts_have_the_labels}
-use Rattle.oat_symbols.specs.Programs.{ProgramsHaveSymbols, ProgramsHaveTheirLabels, symbols_of}
-use Rattle.oat_symbols.specs.Codes.{CodesAreOfTheProgram, IsBuiltWhole, codes_of}
-use Rattle.oat_gen.specs.Code.{function_code, program_items}
-use Rattle.oat_gen.specs.Laws.{FittingProgramsAreBuilt, FunctionsHaveTheirCode, ProgramItemsCanBeExpanded, ProgramsHaveFewWords}
-use Rattle.oat_match.specs.Following.{CompiledProgramsMean, CompiledProgramsRun, CompiledWindowsGoBack}
-use Rattle.oat_match.specs.Placed.{placement}
+use Rattle.oat_asm.proofs.{ExpansionProofs.leaves_no_mark, ExpansionProofs.stays_in_range, ExpansionProofs.uses_once, StandingItems.laid_words_encode}
+use Rattle.oat_parts.proofs.{Making.codes_are_in_parts, Assembling.parts_have_the_labels}
+use Rattle.oat_match.specs.{code_limit, expansion, CanBeAssembled, OperationsOpenOnce, Program, CanBeExpanded, ProgramsHaveSymbols, ProgramsHaveTheirLabels, symbols_of, CodesAreOfTheProgram}
+use Rattle.oat_match.specs.{IsBuiltWhole, codes_of, Following.CompiledProgramsMean, Following.CompiledProgramsRun, Following.CompiledWindowsGoBack, Placed.placement}
+use Rattle.oat_gen.specs.{Code.function_code, Code.program_items, Laws.FittingProgramsAreBuilt, Laws.FunctionsHaveTheirCode, Laws.ProgramItemsCanBeExpanded, Laws.ProgramsHaveFewWords}
 use Rattle.oat_build.specs.Built.{program_words, program_image, program_world, BuiltEdgesAreNamed, BuiltImagesAreOfPrograms, BuiltProgramsAreCompiled, CanBeBuilt, ProgramsCanBeBuilt}
 use Rattle.oat_build.proofs.OperationRows.{operations_are, begins_are}
 

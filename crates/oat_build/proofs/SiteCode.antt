@@ -1,38 +1,17 @@
 -- The sites in the code of a program's lines, and where the mark of a line's transfer stands.
-use Rattle.std.proofs.Common.{◌≡◌, ◌+◌, ◌*◌, ◌<◌, ◌≤◌, ℕ, zero, suc, Bool, true, false, cond, List, [], ◌∷◌, ◌++◌, length, map, take, drop, Option, Some, None, refl, sym, ap, subst, ◌∙◌, arith, append_assoc}
-use Rattle.std.specs.Prelude.{slice_get, nat_lt, nat_eq}
-use Rattle.std.specs.Option.{option_map}
-use Rattle.std.specs.List.{count_by}
-use Rattle.std.proofs.lemmas.Bool.{ltb-true, ltb-false, eqb-true}
-use Rattle.std.proofs.lemmas.Grind.{flat_map-append}
-use Rattle.std.proofs.lemmas.List.Sums.{sum_by-cons, sum_by-append}
-use Rattle.std.proofs.lemmas.Option.{slice_get-map, slice_get_within}
-use Rattle.oat_asm.specs.declared.item.Item.{Item}
-use Rattle.oat_asm.specs.declared.item.Item.TheVariants as item
-use Rattle.oat_asm.specs.Items.{words_needed}
-use Rattle.oat_asm.specs.Expansion.{expanded, expansion}
+use Rattle.std.proofs.Common.{◌≡◌, ◌+◌, ◌*◌, ◌<◌, ◌≤◌, ℕ, zero, suc, Bool, true, false, cond, List, [], ◌∷◌, ◌++◌, length, map, take, drop, Option, Some, None, refl, sym, ap, subst, ◌∙◌, arith}
+use Rattle.std.proofs.Common.{append_assoc}
+use Rattle.std.specs.{Prelude.slice_get, Prelude.nat_lt, Prelude.nat_eq, Option.option_map, List.count_by}
+use Rattle.std.proofs.lemmas.{Bool.ltb-true, Bool.ltb-false, Bool.eqb-true, Grind.flat_map-append, List.Sums.sum_by-cons, List.Sums.sum_by-append, Option.slice_get-map, Option.slice_get_within}
 use Rattle.oat_asm.proofs.Giving.{get_right}
-use Rattle.oat_ir.specs.declared.func.Func.{Func}
-use Rattle.oat_ir.specs.declared.func.BlockIr.{BlockIr}
-use Rattle.oat_ir.specs.declared.instr.Instr.{Instr}
-use Rattle.oat_ir.specs.declared.instr.Instr.TheVariants.{Const, Copy, Binary, Load, Store, LoadX, StoreX, RefTo, Call, ICall, Input, Output}
-use Rattle.oat_ir.specs.declared.instr.BinOp.{BinOp}
-use Rattle.oat_ir.specs.declared.instr.BinOp.TheVariants.{Add, Sub, Mul, And, Or, Xor, Shl, Shr, Sar, Eq, Ne, Lt, Le, Ltu, Leu, Div, Rem, Divu, Remu}
-use Rattle.oat_ir.specs.declared.instr.Term.{Term}
-use Rattle.oat_check.specs.Lines.{CodeLine, instruction, terminator, line_in, is_calling}
-use Rattle.oat_parts.specs.Making.{words_become}
 use Rattle.oat_parts.proofs.Lists.{get_before, map_length}
-use Rattle.oat_symbols.specs.Names.{is_site_item}
-use Rattle.oat_frames.specs.Code.{argument_loads, depth_tested}
-use Rattle.oat_frames.specs.Lines.{lines_code, words_before_line}
-use Rattle.oat_locals.specs.Code.{operand_in, operand_load, operand_store, operation_code, binary_code}
-use Rattle.oat_gen.specs.declared.globals.GlobalPlace.{GlobalPlace}
-use Rattle.oat_gen.specs.declared.globals.GlobalPlace.TheVariants.{Ordinary, Critical}
-use Rattle.oat_gen.specs.GlobalPlaces.{place_in}
-use Rattle.oat_gen.specs.Marked.{marked_call, marked_icall, scalar_load, scalar_store, element_load, element_store}
-use Rattle.oat_frames.specs.Frames.{Home, slot, register, home_of}
-use Rattle.oat_frames.specs.Leaves.{is_leaf}
-use Rattle.oat_gen.specs.Code.{instruction_code, line_code, code_lines, expanded_lines}
+use Rattle.oat_match.specs.{Item, words_needed, expanded, expansion, Func, BlockIr, Instr, Const, Copy, Binary, Load, Store, LoadX, StoreX, RefTo, Call, ICall, Input, Output, BinOp, Add, Sub, Mul}
+use Rattle.oat_match.specs.{And, Or, Xor, Shl, Shr, Sar, Eq, Ne, Lt, Le, Ltu, Leu, Div, Rem, Divu, Remu, Term, CodeLine, instruction, terminator, line_in, is_calling, words_become, is_site_item}
+use Rattle.oat_match.specs.{argument_loads, depth_tested, lines_code, words_before_line, operand_in, operand_load, operand_store, operation_code, binary_code, Home, slot, register, home_of, is_leaf}
+use Rattle.oat_gen.specs.{declared.globals.GlobalPlace.GlobalPlace, declared.globals.GlobalPlace.TheVariants.Ordinary, declared.globals.GlobalPlace.TheVariants.Critical, GlobalPlaces.place_in}
+use Rattle.oat_gen.specs.{Marked.marked_call, Marked.marked_icall, Marked.scalar_load, Marked.scalar_store, Marked.element_load, Marked.element_store, Code.instruction_code, Code.line_code}
+use Rattle.oat_gen.specs.{Code.code_lines, Code.expanded_lines}
+use Rattle.oat_asm.specs.declared.item.Item.TheVariants as item
 
 -- ---- how many sites an instruction has
 

@@ -1,20 +1,10 @@
 -- What each word of global data is where the run of a built image starts: what its global is at the start.
 use Rattle.std.proofs.Common.{◌≡◌, ◌+◌, ◌-◌, ◌*◌, ◌%◌, ◌^◌, ◌<◌, ◌≤◌, ℕ, zero, suc, Bool, true, false, cond, List, [], ◌∷◌, ◌++◌, Some, None, refl, sym, ap, subst, ◌∙◌, inl, inr, arith}
-use Rattle.std.specs.Prelude.{slice_get, nat_eq, nat_lt, ◌⊎◌}
-use Rattle.std.specs.List.{fold}
-use Rattle.std.proofs.lemmas.Bool.{ltb-true, ltb-false, eqb-true, le-ltb}
-use Rattle.std.proofs.lemmas.List.Sums.{fold-append}
-use Rattle.oat_bits.specs.Words.{wrap, unsigned}
-use Rattle.oat_mem.specs.DataMemory.{word_in, with_word, global_address}
+use Rattle.std.specs.{Prelude.slice_get, Prelude.nat_eq, Prelude.nat_lt, Prelude.◌⊎◌, List.fold}
+use Rattle.std.proofs.lemmas.{Bool.ltb-true, Bool.ltb-false, Bool.eqb-true, Bool.le-ltb, List.Sums.fold-append}
 use Rattle.oat_mem.proofs.Words.{words_read_back, other_words_stay}
-use Rattle.oat_image.specs.declared.image.InitWord.{InitWord}
-use Rattle.oat_journal.specs.Run.{start_memory}
-use Rattle.oat_ir.specs.declared.program.Program.{Program}
-use Rattle.oat_ir.specs.declared.program.GlobalItem.{GlobalItem}
-use Rattle.oat_ir.specs.declared.program.GlobalItem.TheVariants.{Scalar, FnScalar, Array, CriticalArray}
-use Rattle.oat_check.specs.Globals.{first_values, of_global, size_in_words, start_of, word_values}
-use Rattle.oat_check.specs.Operators.{number}
-use Rattle.oat_symbols.specs.Programs.{word_at_start, words_from}
+use Rattle.oat_match.specs.{wrap, unsigned, word_in, with_word, global_address, InitWord, start_memory, Program, GlobalItem, Scalar, FnScalar, Array, CriticalArray, first_values, of_global}
+use Rattle.oat_match.specs.{size_in_words, start_of, word_values, number, word_at_start, words_from}
 
 -- memory with one of the words put into it
 abbrev lay : (ℕ → ℕ) → InitWord → (ℕ → ℕ)

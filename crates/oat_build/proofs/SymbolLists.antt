@@ -1,15 +1,10 @@
 -- Functions and blocks listed one by one, and `main` first.
-use Rattle.std.proofs.Common.{◌≡◌, ◌+◌, ◌-◌, ◌<◌, ◌≤◌, ℕ, zero, suc, List, [], ◌∷◌, ◌++◌, length, get_or, take, drop, map, refl, sym, ap, ◌∙◌, arith, append_assoc, length-append, length-drop, length-take-le}
+use Rattle.std.proofs.Common.{◌≡◌, ◌+◌, ◌-◌, ◌<◌, ◌≤◌, ℕ, zero, suc, List, [], ◌∷◌, ◌++◌, length, get_or, take, drop, map, refl, sym, ap, ◌∙◌, arith, append_assoc, length-append, length-drop}
+use Rattle.std.proofs.Common.{length-take-le}
 use Rattle.std.specs.List.{flat_map}
-use Rattle.std.proofs.lemmas.List.{map-append, take_all, take_more}
-use Rattle.std.proofs.lemmas.Grind.{flat_map-append}
-use Rattle.oat_map.specs.declared.map.Function.{Function}
-use Rattle.oat_map.specs.declared.map.Block.{Block}
-use Rattle.oat_ir.specs.declared.program.Program.{Program}
-use Rattle.oat_ir.specs.declared.func.Func.{Func}
-use Rattle.oat_ir.specs.declared.func.BlockIr.{BlockIr}
-use Rattle.oat_parts.specs.Symbols.{FunctionSymbol, function_at, functions_of, blocks_from, blocks_of}
-use Rattle.oat_symbols.specs.Programs.{block_names, symbol_for, symbols_from, symbols_of, all_symbols, main_at, with_first}
+use Rattle.std.proofs.lemmas.{List.map-append, List.take_all, List.take_more, Grind.flat_map-append}
+use Rattle.oat_match.specs.{Function, Block, Program, Func, BlockIr, FunctionSymbol, function_at, functions_of, blocks_from, blocks_of, block_names, symbol_for, symbols_from, symbols_of, all_symbols}
+use Rattle.oat_match.specs.{main_at, with_first}
 
 -- ---- one more
 

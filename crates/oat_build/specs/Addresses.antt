@@ -1,7 +1,5 @@
 -- The address of a label among those that are known.
-use Rattle.std.specs.Prelude.{ℕ, unwrap_or}
-use Rattle.std.specs.Ordering.{nat_cmp}
-use Rattle.std.specs.BTreeMap.{get}
+use Rattle.std.specs.{Prelude.ℕ, Prelude.unwrap_or, Ordering.nat_cmp, BTreeMap.get}
 use Rattle.oat_build.specs.declared.addresses.LabelAddresses.{LabelAddresses}
 
 -- where it isn't known, the address behind all code

@@ -1,33 +1,11 @@
 -- The image of a program: its code is that of the program's items. Where these fit, the image has the shape, is compiled, and names the program's edges as the source does.
-use Rattle.std.specs.Prelude.{◌≡◌, ◌≤◌, ◌↔◌, ℕ, ℤ, FitsSigned, true, List, [], length, map}
-use Rattle.std.specs.Int.{w64}
-use Rattle.std.specs.List.{AllByRecursion}
-use Rattle.oat_asm.specs.Items.{words_needed, code_limit, AddressesHaveRegisters, BranchesAreInRange, InstructionsAreInRange, NoMarkIsLeft, UsedLabelsStandOnce}
-use Rattle.oat_asm.specs.Expansion.{expansion}
-use Rattle.oat_asm.specs.ExpansionLaws.{MarksAreInRange}
-use Rattle.oat_asm.specs.StandingLaws.{LabelsStandOnce}
-use Rattle.oat_image.specs.declared.image.Image.{Image}
-use Rattle.oat_image.specs.Grammar.{IsWellFormedImage}
-use Rattle.oat_shape.specs.Shape.{IsShaped}
-use Rattle.oat_ir.specs.declared.program.Program.{Program}
-use Rattle.oat_ir.specs.Size.{most_words}
-use Rattle.oat_blob.specs.Body.{Body}
-use Rattle.oat_map.specs.Rows.{BeginsAt, IsOperation}
-use Rattle.oat_map.specs.Turns.{GoesBack, turn_of}
-use Rattle.oat_journal.specs.Measured.{HasBody, dev, window_of}
-use Rattle.oat_journal.specs.Window.{executed_path}
-use Rattle.oat_measure.specs.declared.opening.Opening.{Opening}
-use Rattle.oat_check.specs.Rules.{IsChecked, has_operation}
-use Rattle.oat_check.specs.Runs.{source_of}
-use Rattle.oat_check.specs.Steps.{LineEdge}
-use Rattle.oat_follow.specs.Following.{Means, RunsAs}
-use Rattle.oat_follow.specs.Placement.{Placement}
-use Rattle.oat_parts.specs.Built.{built_address, built_image, in_map, in_table}
-use Rattle.oat_symbols.specs.Programs.{symbols_of, HasValidNames}
-use Rattle.oat_frames.specs.Frames.{World}
+use Rattle.std.specs.{Prelude.◌≡◌, Prelude.◌≤◌, Prelude.◌↔◌, Prelude.ℕ, Prelude.ℤ, Prelude.FitsSigned, Prelude.true, Prelude.List, Prelude.[], Prelude.length, Prelude.map, Int.w64}
+use Rattle.std.specs.{List.AllByRecursion}
+use Rattle.oat_match.specs.{words_needed, code_limit, AddressesHaveRegisters, BranchesAreInRange, InstructionsAreInRange, NoMarkIsLeft, UsedLabelsStandOnce, expansion, MarksAreInRange}
+use Rattle.oat_match.specs.{LabelsStandOnce, Image, IsWellFormedImage, IsShaped, Program, most_words, Body, BeginsAt, IsOperation, GoesBack, turn_of, HasBody, dev, window_of, executed_path, Opening}
+use Rattle.oat_match.specs.{IsChecked, has_operation, source_of, LineEdge, Means, RunsAs, Placement, built_address, built_image, in_map, in_table, symbols_of, HasValidNames, World}
+use Rattle.oat_match.specs.{Compiled.IsCompiled, Compiled.world_of, Placed.EdgesAreNamed}
 use Rattle.oat_gen.specs.Code.{program_items}
-use Rattle.oat_match.specs.Compiled.{IsCompiled, world_of}
-use Rattle.oat_match.specs.Placed.{EdgesAreNamed}
 
 -- the words that the code of a program needs
 abbrev pub program_words : Program → ℕ

@@ -1,8 +1,7 @@
 -- A fault of the assembler as one of the compiler.
-use Rattle.oat_asm.specs.declared.assembled.AsmFault.{AsmFault}
+use Rattle.oat_match.specs.{AsmFault}
+use Rattle.oat_build.specs.{declared.fault.BuildFault.BuildFault, declared.fault.BuildFault.TheVariants.CodeTooLarge, declared.fault.BuildFault.TheVariants.Memory}
 use Rattle.oat_asm.specs.declared.assembled.AsmFault.TheVariants as asm
-use Rattle.oat_build.specs.declared.fault.BuildFault.{BuildFault}
-use Rattle.oat_build.specs.declared.fault.BuildFault.TheVariants.{CodeTooLarge, Memory}
 
 abbrev pub fault_of : AsmFault → BuildFault
 fault_of (asm.CodeTooLarge words) = CodeTooLarge words

@@ -1,14 +1,7 @@
 -- What the functions of a program are listed by, and the symbols of a run of them.
 use Rattle.std.specs.Prelude.{◌≡◌, ◌-◌, ◌<◌, ◌^◌, ℕ, List, false, drop, get_or, length, take}
-use Rattle.oat_ir.specs.declared.func.Func.{Func}
-use Rattle.oat_ir.specs.declared.program.Program.{Program}
-use Rattle.oat_check.specs.Keeping.{is_referenced}
-use Rattle.oat_map.specs.declared.map.Block.{Block}
-use Rattle.oat_map.specs.declared.map.Function.{Function}
-use Rattle.oat_parts.specs.Symbols.{FunctionSymbol, blocks_of, functions_of}
-use Rattle.oat_symbols.specs.Programs.{symbol_for, symbols_from}
-use Rattle.oat_build.specs.Addresses.{address_in}
-use Rattle.oat_build.specs.declared.symbols.Lister.{Lister}
+use Rattle.oat_match.specs.{Func, Program, is_referenced, Block, Function, FunctionSymbol, blocks_of, functions_of, symbol_for, symbols_from}
+use Rattle.oat_build.specs.{Addresses.address_in, declared.symbols.Lister.Lister}
 
 -- there is a flag for each function, which says whether a `ref` names it
 pub record CanList (lister : Lister) : Type 0 where

@@ -2,13 +2,11 @@
 ghost use Rattle.std.specs.Prelude.{◌≡◌, ℕ, IfOk, OnOk, nat_eq, if◌then◌else◌, Some};
 ghost use Rattle.std.specs.Ordering.{nat_cmp};
 ghost use Rattle.std.specs.BTreeMap.{get};
-ghost use Rattle.oat_a64.specs.Step.{code_base};
-ghost use Rattle.oat_asm.specs.Layout.{layout};
-ghost use Rattle.oat_asm.specs.StandingLaws.{label_address, CanBeAssembled, LabelsStandOnce};
+ghost use Rattle.oat_match.specs.{code_base, layout, label_address, CanBeAssembled, LabelsStandOnce};
 ghost use Rattle.oat_build.specs.Addresses.{address_in};
 
-use oat_a64::CODE_BASE;
 use oat_asm::{Assembled, Items, LabelAt};
+use oat_shape::CODE_BASE;
 use std::alloc::{AllocError, Global};
 use std::collections::BTreeMap;
 

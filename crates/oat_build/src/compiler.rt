@@ -1,12 +1,6 @@
 //! From a checked program to its image.
 ghost use Rattle.std.specs.Prelude.{◌≡◌, ℕ, ◌<◌, ◌≤◌, Err, IfErr, IfOk, OnOk, length};
-ghost use Rattle.oat_asm.specs.Items.{code_limit};
-ghost use Rattle.oat_asm.specs.Expansion.{expansion};
-ghost use Rattle.oat_check.specs.Rules.{IsChecked};
-ghost use Rattle.oat_ir.specs.Size.{most_words};
-ghost use Rattle.oat_image.specs.Grammar.{IsWellFormedImage};
-ghost use Rattle.oat_shape.specs.Shape.{IsShaped};
-ghost use Rattle.oat_symbols.specs.Programs.{HasValidNames};
+ghost use Rattle.oat_match.specs.{code_limit, expansion, IsChecked, most_words, IsWellFormedImage, IsShaped, HasValidNames};
 ghost use Rattle.oat_gen.specs.Code.{program_items};
 ghost use Rattle.oat_build.specs.declared.fault.BuildFault.TheVariants.{CodeTooLarge, Memory};
 ghost use Rattle.oat_build.specs.Built.{
@@ -20,7 +14,6 @@ use crate::fault::BuildFault;
 use crate::image::image_of;
 use crate::laws::{built_images_are_of_programs, programs_can_be_built};
 use crate::names::look_at_names;
-use oat_a64::CODE_BASE;
 use oat_asm::{Items, assemble};
 use oat_check::Checked;
 use oat_gen::generate;
@@ -28,7 +21,7 @@ use oat_gen::laws::programs_have_few_words;
 use oat_image::Image;
 use oat_instr::instrument;
 use oat_shape::laws::shape_is_decided;
-use oat_shape::{ShapeFault, Shaped, check_shape};
+use oat_shape::{CODE_BASE, ShapeFault, Shaped, check_shape};
 use std::alloc::Global;
 
 /// The image of a checked program.

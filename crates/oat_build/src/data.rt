@@ -1,8 +1,7 @@
 //! Global data: the words that aren't zero, and the cells.
 ghost use Rattle.std.specs.Prelude.{◌≡◌, ◌++◌, ◌≤◌, ◌<◌, ◌+◌, IfOk, OnOk, map};
 ghost use Rattle.std.specs.List.{sum_by, range_with_len};
-ghost use Rattle.oat_check.specs.Globals.{cell_words, size_in_cells, size_in_words, start_of};
-ghost use Rattle.oat_symbols.specs.Programs.{word_at_start, words_from};
+ghost use Rattle.oat_match.specs.{cell_words, size_in_cells, size_in_words, start_of, word_at_start, words_from};
 
 use oat_image::InitWord;
 use oat_ir::GlobalItem;

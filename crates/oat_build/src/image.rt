@@ -1,13 +1,6 @@
 //! The image of items that were assembled.
 ghost use Rattle.std.specs.Prelude.{◌≡◌, IfOk, List};
-ghost use Rattle.oat_a64.specs.Step.{code_base};
-ghost use Rattle.oat_asm.specs.declared.item.Item.{Item};
-ghost use Rattle.oat_asm.specs.Expansion.{expansion};
-ghost use Rattle.oat_asm.specs.Layout.{layout};
-ghost use Rattle.oat_asm.specs.StandingLaws.{CanBeAssembled, LabelsStandOnce};
-ghost use Rattle.oat_check.specs.Rules.{IsChecked};
-ghost use Rattle.oat_parts.specs.Built.{built_image};
-ghost use Rattle.oat_symbols.specs.Programs.{symbols_of};
+ghost use Rattle.oat_match.specs.{code_base, Item, expansion, layout, CanBeAssembled, LabelsStandOnce, IsChecked, built_image, symbols_of};
 
 use crate::addresses::LabelAddresses;
 use crate::data::{cell_words, words_at_start};

@@ -14,3 +14,7 @@ mod symbols;
 
 pub use compiler::build;
 pub use fault::BuildFault;
+pub use oat_ir::{BlockIr, Func, Instr, Program, Role};
+pub use oat_list::Listed;
+pub use oat_map::Name;
+pub use oat_shape::Shaped;

@@ -1,6 +1,5 @@
 //! The names of a program, as its types have them.
-ghost use Rattle.oat_map.specs.Name.{IsName};
-ghost use Rattle.oat_symbols.specs.Programs.{HasValidNames};
+ghost use Rattle.oat_match.specs.{IsName, HasValidNames};
 ghost use Rattle.oat_build.specs.Naming.{HasNames};
 
 use oat_ir::{BlockIr, Func, Program};

@@ -1,7 +1,7 @@
 //! Which functions a `ref` names.
 ghost use Rattle.std.specs.Prelude.{◌≡◌, ◌<◌, ◌||◌, ℕ, IfOk, false, get_or, length};
 ghost use Rattle.std.specs.List.{list_any};
-ghost use Rattle.oat_check.specs.Keeping.{is_referenced, refers_to};
+ghost use Rattle.oat_match.specs.{is_referenced, refers_to};
 
 use oat_ir::{BlockIr, Func, Instr, Program};
 use std::alloc::{AllocError, Global};

@@ -1,6 +1,6 @@
 //! The rows of notes.
 ghost use Rattle.std.specs.Prelude.{◌≡◌, ◌++◌, [], ◌∷◌, IfOk, OnOk, map};
-ghost use Rattle.oat_asm.specs.NoteRows.{row_of};
+ghost use Rattle.oat_match.specs.{row_of};
 ghost use Rattle.oat_build.specs.Addresses.{address_in};
 
 use crate::addresses::LabelAddresses;

@@ -1,10 +1,19 @@
 //! The functions and blocks of a program, each at the address of its label.
 ghost use Rattle.std.specs.Prelude.{◌≡◌, ◌++◌, [], ◌∷◌, ◌<◌, ◌≤◌, ◌+◌, ◌-◌, ◌^◌, ℕ, false, IfOk, OnOk, get_or, length, map, position, take, drop};
 ghost use Rattle.std.specs.List.{flat_map};
-ghost use Rattle.oat_check.specs.Keeping.{is_referenced};
-ghost use Rattle.oat_check.specs.Rules.{IsChecked, is_main};
-ghost use Rattle.oat_parts.specs.Symbols.{blocks_from, blocks_of, function_at, functions_of};
-ghost use Rattle.oat_symbols.specs.Programs.{block_names, symbol_for, symbols_from, symbols_of};
+ghost use Rattle.oat_match.specs.{
+  is_referenced,
+  IsChecked,
+  is_main,
+  blocks_from,
+  blocks_of,
+  function_at,
+  functions_of,
+  block_names,
+  symbol_for,
+  symbols_from,
+  symbols_of,
+};
 ghost use Rattle.oat_build.specs.Addresses.{address_in};
 ghost use Rattle.oat_build.specs.Listing.{CanList, blocks_between, funcs_between, functions_between, symbol_in};
 

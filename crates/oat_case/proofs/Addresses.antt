@@ -1,10 +1,8 @@
 -- An address of 1 to 16 digits of either case fits 64 bits.
 use Rattle.std.proofs.Common.{◌≡◌, ℕ, ◌^◌, ◌<◌, ◌≤◌, true, List, [], ◌∷◌, length, Some, refl, arith}
-use Rattle.std.specs.List.{list_all}
-use Rattle.std.specs.Str.Parse.{digits_value, AllDigits}
-use Rattle.std.proofs.lemmas.Bool.{le-leb, ltb-true, and_parts}
-use Rattle.std.proofs.lemmas.Int.Digits.{digits_value-lt}
+use Rattle.std.specs.{List.list_all, Str.Parse.digits_value, Str.Parse.AllDigits}
 use Rattle.std.proofs.Math.Nat.{pow-le-pow_right}
+use Rattle.std.proofs.lemmas.{Bool.le-leb, Bool.ltb-true, Bool.and_parts, Int.Digits.digits_value-lt}
 use Rattle.oat_lines.specs.Decimal.{capped}
 use Rattle.oat_case.specs.Grammar.{is_hex_digit, address_numeral}
 

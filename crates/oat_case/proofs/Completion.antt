@@ -1,22 +1,18 @@
 -- A statement that completes what the lines above have given is taken from its line.
 use Rattle.std.proofs.Common.{◌≡◌, ℕ, ◌-◌, ◌^◌, ◌<◌, ◌≤◌, true, leb, ltb, List, [], ◌∷◌, length, Some, Ok, ℤ, refl, ◌∙◌, append_assoc, arith}
-use Rattle.std.specs.Prelude.{is_none, codes}
-use Rattle.std.specs.List.{filter_map}
+use Rattle.std.specs.{Prelude.is_none, Prelude.codes, List.filter_map}
 use Rattle.std.proofs.lemmas.Bool.{and_parts, leb-true, ltb-true, eq-eqb}
 use Rattle.hex.specs.Hex.{decode_of}
-use Rattle.oat_lines.specs.Lines.{TextWord}
-use Rattle.oat_lines.specs.Decimal.{numeral_of}
-use Rattle.oat_lines.specs.Integer.{integer_of, is_i64}
-use Rattle.oat_lines.specs.Reading.{between}
 use Rattle.oat_mem.specs.DataMemory.{fits}
-use Rattle.oat_case.specs.Limits.{key_fits, operation_fits, steps_fit, calls_fit, write_fits}
-use Rattle.oat_case.specs.Grammar.{Statement, KeyIs, NonceIs, OperationIs, StepsAre, CallsAre, InputIs, WriteIs, SaysStatement, address_numeral, key_in, nonce_in, operation_in, steps_in, calls_in, input_in, write_in}
-use Rattle.oat_case.specs.Reading.{Gathered, bytes_at, numeral_at, key_line, nonce_line, operation_line, steps_line, calls_line, input_line, write_of, add_write, write_line, statement_line}
-use Rattle.oat_case.specs.declared.case.Write.{Write}
-use Rattle.oat_case.specs.declared.case.Case.{Case}
+use Rattle.oat_lines.specs.{Lines.TextWord, Decimal.numeral_of, Integer.integer_of, Integer.is_i64, Reading.between}
 use Rattle.oat_lines.proofs.Integers.{integer_again}
-use Rattle.oat_case.proofs.OneLine.{number_again, one_again, once_back}
-use Rattle.oat_case.proofs.Statements.{Gathers, any, nonce_fits, with_key, with_nonce, with_operation, with_steps, with_calls, with_input, with_write}
+use Rattle.oat_case.specs.{Limits.key_fits, Limits.operation_fits, Limits.steps_fit, Limits.calls_fit, Limits.write_fits, Grammar.Statement, Grammar.KeyIs, Grammar.NonceIs, Grammar.OperationIs}
+use Rattle.oat_case.specs.{Grammar.StepsAre, Grammar.CallsAre, Grammar.InputIs, Grammar.WriteIs, Grammar.SaysStatement, Grammar.address_numeral, Grammar.key_in, Grammar.nonce_in, Grammar.operation_in}
+use Rattle.oat_case.specs.{Grammar.steps_in, Grammar.calls_in, Grammar.input_in, Grammar.write_in, Reading.Gathered, Reading.bytes_at, Reading.numeral_at, Reading.key_line, Reading.nonce_line}
+use Rattle.oat_case.specs.{Reading.operation_line, Reading.steps_line, Reading.calls_line, Reading.input_line, Reading.write_of, Reading.add_write, Reading.write_line, Reading.statement_line}
+use Rattle.oat_case.specs.{declared.case.Write.Write, declared.case.Case.Case}
+use Rattle.oat_case.proofs.{OneLine.number_again, OneLine.one_again, OneLine.once_back, Statements.Gathers, Statements.any, Statements.nonce_fits, Statements.with_key, Statements.with_nonce}
+use Rattle.oat_case.proofs.{Statements.with_operation, Statements.with_steps, Statements.with_calls, Statements.with_input, Statements.with_write}
 
 -- the line is taken, and completes what the lines above have given
 pub record Goes (n : ℕ) (g : Gathered) (keyword : TextWord) (words : List TextWord) (statements : List Statement) (c : Case) : Type 0 where

@@ -1,28 +1,18 @@
 -- Reading gives a case exactly where the text stands for it.
 use Rattle.std.proofs.Common.{◌≡◌, ℕ, ◌+◌, Bool, true, false, cond, ◌&&◌, List, [], ◌∷◌, Option, Some, None, Result, Ok, Err, refl, sym, ap, subst, ◌∙◌, inl, inr}
-use Rattle.std.specs.Prelude.{IsTrue, IfOk, IfSome, not, map, filter, codes}
-use Rattle.std.specs.List.{AllByRecursion, filter_map}
-use Rattle.std.specs.Option.{ok_or, option_to_list}
-use Rattle.std.specs.Str.{bytes_eq}
-use Rattle.std.proofs.lemmas.Bool.{cases_Bool, and_parts}
-use Rattle.std.proofs.lemmas.List.{append-nil}
-use Rattle.std.proofs.lemmas.Slice.Eq.{bytes_eq-Decides}
-use Rattle.oat_lines.specs.declared.fault.Fault.{Fault}
-use Rattle.oat_lines.specs.declared.fault.Fault.TheVariants.{At}
-use Rattle.oat_lines.specs.Lines.{TextWord, lines_of, words_of, is_comment, is_skipped, sole}
-use Rattle.oat_lines.specs.Reading.{◌>>=◌, guard}
-use Rattle.oat_lines.specs.Faults.{Gives}
-use Rattle.oat_case.specs.Limits.{key_fits, operation_fits, steps_fit, calls_fit, IsInLimits, RisesFrom, IsWellFormedCase}
-use Rattle.oat_case.specs.Grammar.{Statement, SaysStatement, SayStatements, key_in, nonce_in, operation_in, steps_in, calls_in, header, IsCaseText}
-use Rattle.oat_case.specs.Reading.{Gathered, nothing_yet, statement_line, header_line, line_of, session_of, whole, case_from, case_of}
-use Rattle.oat_case.specs.declared.case.Session.{Session}
-use Rattle.oat_case.specs.declared.case.Case.{Case}
-use Rattle.oat_case.specs.declared.fault.CaseFaultKind.{CaseFaultKind}
-use Rattle.oat_case.specs.declared.fault.CaseFaultKind.TheVariants.{Token, Missing}
+use Rattle.std.specs.{Prelude.IsTrue, Prelude.IfOk, Prelude.IfSome, Prelude.not, Prelude.map, Prelude.filter, Prelude.codes, List.AllByRecursion, List.filter_map, Option.ok_or, Option.option_to_list}
+use Rattle.std.specs.{Str.bytes_eq}
+use Rattle.std.proofs.lemmas.{Bool.cases_Bool, Bool.and_parts, List.append-nil, Slice.Eq.bytes_eq-Decides}
+use Rattle.oat_lines.specs.{declared.fault.Fault.Fault, declared.fault.Fault.TheVariants.At, Lines.TextWord, Lines.lines_of, Lines.words_of, Lines.is_comment, Lines.is_skipped, Lines.sole}
+use Rattle.oat_lines.specs.{Reading.◌>>=◌, Reading.guard, Faults.Gives}
 use Rattle.oat_lines.proofs.Steps.{ok_is, bind_ok, guarded_ok, or_ok}
-use Rattle.oat_case.proofs.OneLine.{done, sole_is, Once, once_last}
-use Rattle.oat_case.proofs.Statements.{Gathers, Adds, any, statement_adds}
-use Rattle.oat_case.proofs.Completion.{Goes, statement_goes}
+use Rattle.oat_case.specs.{Limits.key_fits, Limits.operation_fits, Limits.steps_fit, Limits.calls_fit, Limits.IsInLimits, Limits.RisesFrom, Limits.IsWellFormedCase, Grammar.Statement}
+use Rattle.oat_case.specs.{Grammar.SaysStatement, Grammar.SayStatements, Grammar.key_in, Grammar.nonce_in, Grammar.operation_in, Grammar.steps_in, Grammar.calls_in, Grammar.header, Grammar.IsCaseText}
+use Rattle.oat_case.specs.{Reading.Gathered, Reading.nothing_yet, Reading.statement_line, Reading.header_line, Reading.line_of, Reading.session_of, Reading.whole, Reading.case_from, Reading.case_of}
+use Rattle.oat_case.specs.{declared.case.Session.Session, declared.case.Case.Case, declared.fault.CaseFaultKind.CaseFaultKind, declared.fault.CaseFaultKind.TheVariants.Token}
+use Rattle.oat_case.specs.{declared.fault.CaseFaultKind.TheVariants.Missing}
+use Rattle.oat_case.proofs.{OneLine.done, OneLine.sole_is, OneLine.Once, OneLine.once_last, Statements.Gathers, Statements.Adds, Statements.any, Statements.statement_adds, Completion.Goes}
+use Rattle.oat_case.proofs.{Completion.statement_goes}
 
 abbrev counts : List TextWord → Bool
 counts words = not (is_skipped words)

@@ -1,12 +1,8 @@
 -- Reading line by line, as a loop does.
 use Rattle.std.proofs.Common.{◌≡◌, ℕ, ◌+◌, ◌≤◌, List, [], ◌∷◌, length, Result, Ok, Err, refl, sym, ◌∙◌, arith}
-use Rattle.oat_lines.specs.Lines.{lines_of, words_of}
-use Rattle.oat_lines.specs.declared.fault.Fault.{Fault}
-use Rattle.oat_lines.specs.Faults.{Fails, Gives}
+use Rattle.oat_lines.specs.{Lines.lines_of, Lines.words_of, declared.fault.Fault.Fault, Faults.Fails, Faults.Gives}
 use Rattle.oat_lines.proofs.Steps.{fails_as, gives_same}
-use Rattle.oat_case.specs.Reading.{Gathered, line_of, whole, case_from, case_of}
-use Rattle.oat_case.specs.declared.case.Case.{Case}
-use Rattle.oat_case.specs.declared.fault.CaseFaultKind.{CaseFaultKind}
+use Rattle.oat_case.specs.{Reading.Gathered, Reading.line_of, Reading.whole, Reading.case_from, Reading.case_of, declared.case.Case.Case, declared.fault.CaseFaultKind.CaseFaultKind}
 
 -- what is left to read gives what the text gives
 pub record Reads (text rest : List ℕ) (number : ℕ) (g : Gathered) : Type 0 where

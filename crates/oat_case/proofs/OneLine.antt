@@ -1,20 +1,12 @@
 -- What a step that gave a value says, and the shape of the lines that stand just once.
 use Rattle.std.proofs.Common.{◌≡◌, ℕ, ◌-◌, ◌^◌, ◌<◌, Bool, true, List, [], ◌∷◌, ◌++◌, Option, Some, None, Result, Ok, Err, ℤ, refl, ap, arith}
-use Rattle.std.specs.Prelude.{is_none, option_map}
-use Rattle.std.specs.List.{AllByRecursion}
-use Rattle.std.specs.Option.{ok_or, option_to_list}
+use Rattle.std.specs.{Prelude.is_none, Prelude.option_map, List.AllByRecursion, Option.ok_or, Option.option_to_list}
 use Rattle.hex.specs.declared.error.FromHexError.{FromHexError}
-use Rattle.oat_lines.specs.declared.fault.Fault.{Fault}
-use Rattle.oat_lines.specs.declared.fault.Fault.TheVariants.{At}
-use Rattle.oat_lines.specs.declared.integer.IntegerFault.{IntegerFault}
-use Rattle.oat_lines.specs.declared.integer.IntegerFault.TheVariants.{Misspelled, OutOfRange}
-use Rattle.oat_lines.specs.Lines.{TextWord, sole, triple}
-use Rattle.oat_lines.specs.Decimal.{numeral_of, capped}
-use Rattle.oat_lines.specs.Reading.{◌>>=◌, guard}
+use Rattle.oat_lines.specs.{declared.fault.Fault.Fault, declared.fault.Fault.TheVariants.At, declared.integer.IntegerFault.IntegerFault, declared.integer.IntegerFault.TheVariants.Misspelled}
+use Rattle.oat_lines.specs.{declared.integer.IntegerFault.TheVariants.OutOfRange, Lines.TextWord, Lines.sole, Lines.triple, Decimal.numeral_of, Decimal.capped, Reading.◌>>=◌, Reading.guard}
 use Rattle.oat_lines.proofs.Steps.{ok_is, some_is, bind_ok, guarded_ok, or_ok}
-use Rattle.oat_case.specs.Reading.{Gathered, or_token, numeral_at, integer_or_fault, once_line}
-use Rattle.oat_case.specs.declared.fault.CaseFaultKind.{CaseFaultKind}
-use Rattle.oat_case.specs.declared.fault.CaseFaultKind.TheVariants.{Token, Twice, Range}
+use Rattle.oat_case.specs.{Reading.Gathered, Reading.or_token, Reading.numeral_at, Reading.integer_or_fault, Reading.once_line, declared.fault.CaseFaultKind.CaseFaultKind}
+use Rattle.oat_case.specs.{declared.fault.CaseFaultKind.TheVariants.Token, declared.fault.CaseFaultKind.TheVariants.Twice, declared.fault.CaseFaultKind.TheVariants.Range}
 
 abbrev pub Step : Type 0 → Type 0
 Step X = Result X (Fault CaseFaultKind)

@@ -1,26 +1,17 @@
 -- A line that says a statement adds it to what the lines above have given.
 use Rattle.std.proofs.Common.{◌≡◌, ℕ, ◌-◌, ◌^◌, ◌<◌, ◌≤◌, Bool, true, eqb, leb, ltb, List, [], ◌∷◌, ◌++◌, length, Some, Ok, Err, ℤ, refl, sym, ap, subst, ◌∙◌, append_assoc, arith, inl, inr}
-use Rattle.std.specs.Prelude.{is_none, codes}
-use Rattle.std.specs.List.{AllByRecursion, filter_map}
-use Rattle.std.specs.Option.{ok_or}
-use Rattle.std.specs.Str.{bytes_eq}
-use Rattle.std.proofs.lemmas.Bool.{cases_Bool, and_parts, leb-true, ltb-true, eqb-true}
-use Rattle.std.proofs.lemmas.Slice.Eq.{bytes_eq-Decides}
+use Rattle.std.specs.{Prelude.is_none, Prelude.codes, List.AllByRecursion, List.filter_map, Option.ok_or, Str.bytes_eq}
+use Rattle.std.proofs.lemmas.{Bool.cases_Bool, Bool.and_parts, Bool.leb-true, Bool.ltb-true, Bool.eqb-true, Slice.Eq.bytes_eq-Decides}
 use Rattle.hex.specs.Hex.{decode_of}
-use Rattle.oat_lines.specs.declared.fault.Fault.TheVariants.{At}
-use Rattle.oat_lines.specs.Lines.{TextWord, sole, triple}
-use Rattle.oat_lines.specs.Decimal.{numeral_of}
-use Rattle.oat_lines.specs.Integer.{read_as_integer}
-use Rattle.oat_lines.specs.Reading.{◌>>=◌, guard, between}
 use Rattle.oat_mem.specs.DataMemory.{fits}
-use Rattle.oat_case.specs.Limits.{key_fits, operation_fits, steps_fit, calls_fit, write_fits, IsInLimits, RisesFrom}
-use Rattle.oat_case.specs.Grammar.{Statement, KeyIs, NonceIs, OperationIs, StepsAre, CallsAre, InputIs, WriteIs, SaysStatement, address_numeral, key_in, nonce_in, operation_in, steps_in, calls_in, input_in, write_in}
-use Rattle.oat_case.specs.Reading.{Gathered, bytes_at, numeral_at, integer_at, key_line, nonce_line, operation_line, steps_line, calls_line, input_line, write_of, add_write, write_line, statement_line}
-use Rattle.oat_case.specs.declared.case.Write.{Write}
-use Rattle.oat_case.specs.declared.case.Case.{Case}
-use Rattle.oat_case.specs.declared.fault.CaseFaultKind.TheVariants.{Token, Range, OutsideData, Order}
-use Rattle.oat_lines.proofs.Integers.{integer_takes}
-use Rattle.oat_lines.proofs.Steps.{ok_is, bind_ok, guarded_ok, or_ok}
+use Rattle.oat_lines.specs.{declared.fault.Fault.TheVariants.At, Lines.TextWord, Lines.sole, Lines.triple, Decimal.numeral_of, Integer.read_as_integer, Reading.◌>>=◌, Reading.guard, Reading.between}
+use Rattle.oat_lines.proofs.{Integers.integer_takes, Steps.ok_is, Steps.bind_ok, Steps.guarded_ok, Steps.or_ok}
+use Rattle.oat_case.specs.{Limits.key_fits, Limits.operation_fits, Limits.steps_fit, Limits.calls_fit, Limits.write_fits, Limits.IsInLimits, Limits.RisesFrom, Grammar.Statement, Grammar.KeyIs}
+use Rattle.oat_case.specs.{Grammar.NonceIs, Grammar.OperationIs, Grammar.StepsAre, Grammar.CallsAre, Grammar.InputIs, Grammar.WriteIs, Grammar.SaysStatement, Grammar.address_numeral, Grammar.key_in}
+use Rattle.oat_case.specs.{Grammar.nonce_in, Grammar.operation_in, Grammar.steps_in, Grammar.calls_in, Grammar.input_in, Grammar.write_in, Reading.Gathered, Reading.bytes_at, Reading.numeral_at}
+use Rattle.oat_case.specs.{Reading.integer_at, Reading.key_line, Reading.nonce_line, Reading.operation_line, Reading.steps_line, Reading.calls_line, Reading.input_line, Reading.write_of}
+use Rattle.oat_case.specs.{Reading.add_write, Reading.write_line, Reading.statement_line, declared.case.Write.Write, declared.case.Case.Case, declared.fault.CaseFaultKind.TheVariants.Token}
+use Rattle.oat_case.specs.{declared.fault.CaseFaultKind.TheVariants.Range, declared.fault.CaseFaultKind.TheVariants.OutsideData, declared.fault.CaseFaultKind.TheVariants.Order}
 use Rattle.oat_case.proofs.OneLine.{done, or_token_ok, integer_ok, sole_is, triple_is, number_takes, none_of, Takes, one_takes, Once, once_step}
 
 abbrev pub any : {X : Type 0} → X → Bool

@@ -1,13 +1,10 @@
 -- The test of all writes, and what it says of each.
 use Rattle.std.proofs.Common.{◌≡◌, ℕ, Bool, true, ◌&&◌, leb, List, [], ◌∷◌, Option, Some, None, length, refl, sym, ◌∙◌}
-use Rattle.std.specs.Prelude.{IsTrue, IfSome, ◌↔◌}
-use Rattle.std.specs.Option.{option_map_or}
-use Rattle.std.specs.List.{AllByRecursion}
+use Rattle.std.specs.{Prelude.IsTrue, Prelude.IfSome, Prelude.◌↔◌, Option.option_map_or, List.AllByRecursion}
 use Rattle.std.proofs.lemmas.Bool.{and_parts, and_from}
 use Rattle.oat_mem.specs.DataMemory.{fits}
-use Rattle.oat_case.specs.Limits.{key_fits, operation_fits, steps_fit, calls_fit, write_fits, writes_fit, case_fits, IsInLimits, RisesFrom, IsWellFormedCase}
-use Rattle.oat_case.specs.declared.case.Write.{Write}
-use Rattle.oat_case.specs.declared.case.Case.{Case}
+use Rattle.oat_case.specs.{Limits.key_fits, Limits.operation_fits, Limits.steps_fit, Limits.calls_fit, Limits.write_fits, Limits.writes_fit, Limits.case_fits, Limits.IsInLimits, Limits.RisesFrom}
+use Rattle.oat_case.specs.{Limits.IsWellFormedCase, declared.case.Write.Write, declared.case.Case.Case}
 
 writes_pass : (least : ℕ) (writes : List Write) → writes_fit least writes ≡ true → AllByRecursion IsInLimits writes × RisesFrom least writes
 writes_pass least [] e = (tt, tt)

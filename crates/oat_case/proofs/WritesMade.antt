@@ -1,14 +1,9 @@
 -- The writes of a well-formed case lie in data memory, and their places never fall.
 use Rattle.std.proofs.Common.{ℕ, zero, suc, ◌≤◌, ◌<◌, List, [], ◌∷◌, length, get_or, map, arith}
-use Rattle.std.specs.Prelude.{IsTrue}
-use Rattle.std.specs.List.{All, AllByRecursion}
-use Rattle.std.specs.List.Sorted.{IsNonDecreasing}
-use Rattle.std.proofs.lemmas.Bool.{leb-true}
-use Rattle.std.proofs.lemmas.List.Elements.{All-from_recursion}
+use Rattle.std.specs.{Prelude.IsTrue, List.All, List.AllByRecursion, List.Sorted.IsNonDecreasing}
+use Rattle.std.proofs.lemmas.{Bool.leb-true, List.Elements.All-from_recursion}
 use Rattle.oat_mem.specs.DataMemory.{fits}
-use Rattle.oat_case.specs.declared.case.Write.{Write}
-use Rattle.oat_case.specs.declared.case.Case.{Case}
-use Rattle.oat_case.specs.Limits.{IsInLimits, RisesFrom, IsWellFormedCase}
+use Rattle.oat_case.specs.{declared.case.Write.Write, declared.case.Case.Case, Limits.IsInLimits, Limits.RisesFrom, Limits.IsWellFormedCase}
 
 abbrev IsInData : Write → Type 0
 IsInData write = IsTrue (fits write.address (length write.bytes))

@@ -1,7 +1,8 @@
 -- The words of the faults of a case text (docs/FORMATS.md, "Texts").
 use Rattle.std.specs.Prelude.{ℕ, List, codes}
-use Rattle.oat_case.specs.declared.fault.CaseFaultKind.{CaseFaultKind}
-use Rattle.oat_case.specs.declared.fault.CaseFaultKind.TheVariants.{Token, Missing, Twice, Range, Order, OutsideData}
+use Rattle.oat_case.specs.{declared.fault.CaseFaultKind.CaseFaultKind, declared.fault.CaseFaultKind.TheVariants.Token, declared.fault.CaseFaultKind.TheVariants.Missing}
+use Rattle.oat_case.specs.{declared.fault.CaseFaultKind.TheVariants.Twice, declared.fault.CaseFaultKind.TheVariants.Range, declared.fault.CaseFaultKind.TheVariants.Order}
+use Rattle.oat_case.specs.{declared.fault.CaseFaultKind.TheVariants.OutsideData}
 
 abbrev pub case_fault_word : CaseFaultKind → List ℕ
 case_fault_word Token = codes "Token"

@@ -1,17 +1,9 @@
 -- The case text, as docs/FORMATS.md has it under "Case text": which text stands for which case.
-use Rattle.std.specs.Prelude.{◌≡◌, ◌&&◌, IsTrue, ℕ, ℤ, Bool, List, [], ◌∷◌, length, nat_lt, codes, Option, Some, None, Ok, if◌then◌else◌}
-use Rattle.std.specs.List.{filter_map, list_all}
-use Rattle.std.specs.Option.{option_to_list}
-use Rattle.std.specs.Char.{digit_value}
-use Rattle.std.specs.Str.Parse.{digits_value}
+use Rattle.std.specs.{Prelude.◌≡◌, Prelude.◌&&◌, Prelude.IsTrue, Prelude.ℕ, Prelude.ℤ, Prelude.Bool, Prelude.List, Prelude.[], Prelude.◌∷◌, Prelude.length, Prelude.nat_lt, Prelude.codes}
+use Rattle.std.specs.{Prelude.Option, Prelude.Some, Prelude.None, Prelude.Ok, Prelude.if◌then◌else◌, List.filter_map, List.list_all, Option.option_to_list, Char.digit_value, Str.Parse.digits_value}
 use Rattle.hex.specs.Hex.{decode_of}
-use Rattle.oat_lines.specs.Lines.{TextWord, lines_of, counting}
-use Rattle.oat_lines.specs.Decimal.{numeral_of}
-use Rattle.oat_lines.specs.Integer.{integer_of, is_i64}
-use Rattle.oat_lines.specs.Reading.{between}
-use Rattle.oat_case.specs.Limits.{IsWellFormedCase}
-use Rattle.oat_case.specs.declared.case.Write.{Write}
-use Rattle.oat_case.specs.declared.case.Case.{Case}
+use Rattle.oat_lines.specs.{Lines.TextWord, Lines.lines_of, Lines.counting, Decimal.numeral_of, Integer.integer_of, Integer.is_i64, Reading.between}
+use Rattle.oat_case.specs.{Limits.IsWellFormedCase, declared.case.Write.Write, declared.case.Case.Case}
 
 -- a hexadecimal digit of either case
 abbrev pub is_hex_digit : ℕ → Bool

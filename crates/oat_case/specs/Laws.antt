@@ -1,10 +1,7 @@
 -- What a run needs of the case that it is given (docs/FORMATS.md, "Case text").
-use Rattle.std.specs.Prelude.{IsTrue, length, map}
-use Rattle.std.specs.List.{All}
-use Rattle.std.specs.List.Sorted.{IsNonDecreasing}
+use Rattle.std.specs.{Prelude.IsTrue, Prelude.length, Prelude.map, List.All, List.Sorted.IsNonDecreasing}
 use Rattle.oat_mem.specs.DataMemory.{fits}
-use Rattle.oat_case.specs.declared.case.Case.{Case}
-use Rattle.oat_case.specs.Limits.{IsWellFormedCase}
+use Rattle.oat_case.specs.{declared.case.Case.Case, Limits.IsWellFormedCase}
 
 -- the writes of a well-formed case can be made: their bytes lie in data memory, and their places never fall
 abbrev pub WritesCanBeMade : Type 0

@@ -1,11 +1,9 @@
 -- The limits of a case, as docs/FORMATS.md has them under "Case text": what its numbers, lengths and writes may be.
-use Rattle.std.specs.Prelude.{◌&&◌, ℕ, Bool, true, IsTrue, IfSome, List, [], ◌∷◌, length, nat_le, nat_lt}
-use Rattle.std.specs.List.{AllByRecursion}
-use Rattle.std.specs.Option.{option_map_or}
-use Rattle.oat_lines.specs.Reading.{between}
+use Rattle.std.specs.{Prelude.◌&&◌, Prelude.ℕ, Prelude.Bool, Prelude.true, Prelude.IsTrue, Prelude.IfSome, Prelude.List, Prelude.[], Prelude.◌∷◌, Prelude.length, Prelude.nat_le, Prelude.nat_lt}
+use Rattle.std.specs.{List.AllByRecursion, Option.option_map_or}
 use Rattle.oat_mem.specs.DataMemory.{fits}
-use Rattle.oat_case.specs.declared.case.Write.{Write}
-use Rattle.oat_case.specs.declared.case.Case.{Case}
+use Rattle.oat_lines.specs.Reading.{between}
+use Rattle.oat_case.specs.{declared.case.Write.Write, declared.case.Case.Case}
 
 abbrev pub key_fits : List ℕ → Bool
 key_fits key = between 1 1024 (length key)

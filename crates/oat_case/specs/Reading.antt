@@ -1,26 +1,17 @@
 -- Which case a text stands for, or else the fault of its first bad line (docs/FORMATS.md). A line is read with what the lines above it
 -- have gathered; its faults are tested in the order Token, Twice, Range, OutsideData, Order.
-use Rattle.std.specs.Prelude.{◌+◌, ◌==◌, ◌&&◌, ℕ, ℤ, Bool, true, false, List, [], ◌∷◌, ◌++◌, length, nat_le, codes, Option, Some, None, is_none, option_map, Result, Ok, Err, if◌then◌else◌}
-use Rattle.std.specs.Option.{ok_or}
-use Rattle.std.specs.Str.{bytes_eq}
-use Rattle.hex.specs.Hex.{decode_of}
-use Rattle.hex.specs.declared.error.FromHexError.{FromHexError}
-use Rattle.oat_lines.specs.declared.fault.Fault.{Fault}
-use Rattle.oat_lines.specs.declared.fault.Fault.TheVariants.{At}
-use Rattle.oat_lines.specs.declared.integer.IntegerFault.{IntegerFault}
-use Rattle.oat_lines.specs.declared.integer.IntegerFault.TheVariants.{Misspelled, OutOfRange}
-use Rattle.oat_lines.specs.Lines.{TextWord, lines_of, words_of, is_comment, sole, triple}
-use Rattle.oat_lines.specs.Decimal.{numeral_of, capped}
-use Rattle.oat_lines.specs.Integer.{read_as_integer}
-use Rattle.oat_lines.specs.Reading.{◌>>=◌, guard}
+use Rattle.std.specs.{Prelude.◌+◌, Prelude.◌==◌, Prelude.◌&&◌, Prelude.ℕ, Prelude.ℤ, Prelude.Bool, Prelude.true, Prelude.false, Prelude.List, Prelude.[], Prelude.◌∷◌, Prelude.◌++◌, Prelude.length}
+use Rattle.std.specs.{Prelude.nat_le, Prelude.codes, Prelude.Option, Prelude.Some, Prelude.None, Prelude.is_none, Prelude.option_map, Prelude.Result, Prelude.Ok, Prelude.Err, Prelude.if◌then◌else◌}
+use Rattle.std.specs.{Option.ok_or, Str.bytes_eq}
+use Rattle.hex.specs.{Hex.decode_of, declared.error.FromHexError.FromHexError}
 use Rattle.oat_mem.specs.DataMemory.{fits}
-use Rattle.oat_case.specs.Limits.{key_fits, operation_fits, steps_fit, calls_fit, write_fits}
-use Rattle.oat_case.specs.Grammar.{address_numeral}
-use Rattle.oat_case.specs.declared.case.Session.{Session}
-use Rattle.oat_case.specs.declared.case.Write.{Write}
-use Rattle.oat_case.specs.declared.case.Case.{Case}
-use Rattle.oat_case.specs.declared.fault.CaseFaultKind.{CaseFaultKind}
-use Rattle.oat_case.specs.declared.fault.CaseFaultKind.TheVariants.{Token, Missing, Twice, Range, Order, OutsideData}
+use Rattle.oat_lines.specs.{declared.fault.Fault.Fault, declared.fault.Fault.TheVariants.At, declared.integer.IntegerFault.IntegerFault, declared.integer.IntegerFault.TheVariants.Misspelled}
+use Rattle.oat_lines.specs.{declared.integer.IntegerFault.TheVariants.OutOfRange, Lines.TextWord, Lines.lines_of, Lines.words_of, Lines.is_comment, Lines.sole, Lines.triple, Decimal.numeral_of}
+use Rattle.oat_lines.specs.{Decimal.capped, Integer.read_as_integer, Reading.◌>>=◌, Reading.guard}
+use Rattle.oat_case.specs.{Limits.key_fits, Limits.operation_fits, Limits.steps_fit, Limits.calls_fit, Limits.write_fits, Grammar.address_numeral, declared.case.Session.Session}
+use Rattle.oat_case.specs.{declared.case.Write.Write, declared.case.Case.Case, declared.fault.CaseFaultKind.CaseFaultKind, declared.fault.CaseFaultKind.TheVariants.Token}
+use Rattle.oat_case.specs.{declared.fault.CaseFaultKind.TheVariants.Missing, declared.fault.CaseFaultKind.TheVariants.Twice, declared.fault.CaseFaultKind.TheVariants.Range}
+use Rattle.oat_case.specs.{declared.fault.CaseFaultKind.TheVariants.Order, declared.fault.CaseFaultKind.TheVariants.OutsideData}
 
 -- what the lines so far have gathered
 pub record Gathered : Type 0 where

@@ -1,6 +1,5 @@
 -- A case text that says no more than it must, and the case that it stands for: the worked case of docs/FORMATS.md.
-use Rattle.std.specs.Prelude.{ℕ, List, [], ◌∷◌, None, codes, replicate}
-use Rattle.std.specs.List.{flat_map}
+use Rattle.std.specs.{Prelude.ℕ, Prelude.List, Prelude.[], Prelude.◌∷◌, Prelude.None, Prelude.codes, Prelude.replicate, List.flat_map}
 use Rattle.oat_lines.specs.Fields.{ended}
 use Rattle.oat_case.specs.declared.case.Case.{Case}
 

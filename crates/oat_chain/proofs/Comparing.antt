@@ -1,12 +1,11 @@
 -- The clash of two lists while both come in: the step of one address each.
-use Rattle.std.proofs.Common.{◌≡◌, ◌≢◌, ◌<◌, ◌+◌, ◌-◌, ◌^◌, ◌↔◌, ℕ, true, false, List, [], ◌∷◌, ◌++◌, length, take, drop, get_or, All, Option, Some, None, IfSome, IfNone, IsNone, refl, sym, ap, subst, ◌∙◌, arith, length-drop}
+use Rattle.std.proofs.Common.{◌≡◌, ◌≢◌, ◌<◌, ◌+◌, ◌-◌, ◌^◌, ◌↔◌, ℕ, true, false, List, [], ◌∷◌, ◌++◌, length, take, drop, get_or, All, Option, Some, None, IfSome, IfNone, IsNone, refl, sym, ap, subst}
+use Rattle.std.proofs.Common.{◌∙◌, arith, length-drop}
 use Rattle.std.specs.Option.{option_or}
 use Rattle.std.proofs.lemmas.List.{same_from_push, take_more, get_or-drop}
-use Rattle.oat_chain.specs.declared.message.Message.{Message}
-use Rattle.oat_chain.specs.declared.message.Clash.{Clash}
-use Rattle.oat_chain.specs.Chain.{chain, link, messages, DiffersAt}
 use Rattle.sha2.specs.Sha256.{sha256}
-use Rattle.oat_chain.specs.Clash.{bytes_of, LastDiffers, IsLastClash, IsLastMessage}
+use Rattle.oat_chain.specs.{declared.message.Message.Message, declared.message.Clash.Clash, Chain.chain, Chain.link, Chain.messages, Chain.DiffersAt, Clash.bytes_of, Clash.LastDiffers}
+use Rattle.oat_chain.specs.{Clash.IsLastClash, Clash.IsLastMessage}
 use Rattle.oat_chain.proofs.Messages.{messages-push, messages-same, differ-not-same, differ-now, differ-still, same-still, same-start}
 
 -- the two messages, where they differ

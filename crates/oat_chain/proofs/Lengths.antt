@@ -1,11 +1,9 @@
 -- Lengths of digests, chains and begin records.
 use Rattle.std.proofs.Common.{◌≡◌, ℕ, List, [], ◌∷◌, ◌++◌, length, Option, Some, None, refl, arith, length-append}
-use Rattle.std.specs.Int.{w16, w32, to_be_bytes}
-use Rattle.std.specs.List.{fold}
+use Rattle.std.specs.{Int.w16, Int.w32, Int.to_be_bytes, List.fold}
 use Rattle.sha2.specs.Sha256.{sha256}
 use Rattle.sha2.proofs.Facts256.{length-sha256}
-use Rattle.oat_chain.specs.Chain.{begin_record, window_digest, chain, link}
-use Rattle.oat_chain.specs.Laws.{HeadLength, ChainLength, DigestLength}
+use Rattle.oat_chain.specs.{Chain.begin_record, Chain.window_digest, Chain.chain, Chain.link, Laws.HeadLength, Laws.ChainLength, Laws.DigestLength}
 
 pub length-digest : DigestLength
 length-digest message = length-sha256 message

@@ -1,14 +1,11 @@
 -- Chained messages: what one more return adds, that they tell lists of addresses apart, and the clash of two lists with one chain.
-use Rattle.std.proofs.Common.{◌≡◌, ◌≢◌, ℕ, ◌-◌, ◌<◌, ◌^◌, ◌⊎◌, inl, inr, Bool, true, false, List, [], ◌∷◌, ◌++◌, length, take, drop, fold, All, Decides, bytes_eq, refl, sym, ap, subst, ◌∙◌, arith, length-append, length-drop, append_assoc}
-use Rattle.std.proofs.lemmas.List.{take_at, append-nil, append_cancel_left, append_cancel_right, same_from_push, take-append-drop, length-take}
-use Rattle.std.proofs.lemmas.List.Elements.{All-head, All-tail}
-use Rattle.std.proofs.lemmas.Nat.{from_be_bytes-to_be_bytes_8}
-use Rattle.std.proofs.lemmas.Slice.Eq.{bytes_eq-Decides}
+use Rattle.std.proofs.Common.{◌≡◌, ◌≢◌, ℕ, ◌-◌, ◌<◌, ◌^◌, ◌⊎◌, inl, inr, Bool, true, false, List, [], ◌∷◌, ◌++◌, length, take, drop, fold, All, Decides, bytes_eq, refl, sym, ap, subst, ◌∙◌, arith}
+use Rattle.std.proofs.Common.{length-append, length-drop, append_assoc}
 use Rattle.std.specs.Int.{w64, to_be_bytes, from_be_bytes}
+use Rattle.std.proofs.lemmas.{List.take_at, List.append-nil, List.append_cancel_left, List.append_cancel_right, List.same_from_push, List.take-append-drop, List.length-take, List.Elements.All-head}
+use Rattle.std.proofs.lemmas.{List.Elements.All-tail, Nat.from_be_bytes-to_be_bytes_8, Slice.Eq.bytes_eq-Decides}
 use Rattle.sha2.specs.Sha256.{sha256}
-use Rattle.oat_chain.specs.Chain.{chain, link, links_from, messages, DiffersAt}
-use Rattle.oat_chain.specs.Clash.{LastDiffers, IsLastMessage}
-use Rattle.oat_chain.specs.Laws.{HasClash, ClashExists}
+use Rattle.oat_chain.specs.{Chain.chain, Chain.link, Chain.links_from, Chain.messages, Chain.DiffersAt, Clash.LastDiffers, Clash.IsLastMessage, Laws.HasClash, Laws.ClashExists}
 use Rattle.oat_chain.proofs.Lengths.{length-chain, chain-push}
 
 -- ---- one more return

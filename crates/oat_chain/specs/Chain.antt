@@ -1,8 +1,7 @@
 -- The begin record, the return chain and the messages that it hashes: docs/FORMATS.md, over the
 -- SHA-256 of FIPS 180-4. Numbers stand with the high byte first.
-use Rattle.std.specs.Prelude.{◌≡◌, ◌≢◌, ℕ, List, [], ◌∷◌, ◌++◌, Option, Some, None}
-use Rattle.std.specs.Int.{w16, w32, w64, to_be_bytes}
-use Rattle.std.specs.List.{fold}
+use Rattle.std.specs.{Prelude.◌≡◌, Prelude.◌≢◌, Prelude.ℕ, Prelude.List, Prelude.[], Prelude.◌∷◌, Prelude.◌++◌, Prelude.Option, Prelude.Some, Prelude.None, Int.w16, Int.w32, Int.w64, Int.to_be_bytes}
+use Rattle.std.specs.{List.fold}
 use Rattle.sha2.specs.Sha256.{sha256}
 
 -- a nonce, the number of an operation, and a digest

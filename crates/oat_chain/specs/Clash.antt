@@ -1,10 +1,8 @@
 -- The clash of two lists of returns: the bytes of its messages, and what is known of it while both lists come in from their fronts (docs/DEFINITIONS.md, "Clash").
 use Rattle.std.specs.Prelude.{◌≡◌, ◌<◌, ℕ, List, [], ◌∷◌, ◌++◌, Option, Some, None, length}
 use Rattle.sha2.specs.Sha256.{sha256}
-use Rattle.oat_chain.specs.declared.message.Message.{Message}
-use Rattle.oat_chain.specs.declared.message.Message.TheVariants.{Begin, Link}
-use Rattle.oat_chain.specs.declared.message.Clash.{Clash}
-use Rattle.oat_chain.specs.Chain.{chain, messages, DiffersAt}
+use Rattle.oat_chain.specs.{declared.message.Message.Message, declared.message.Message.TheVariants.Begin, declared.message.Message.TheVariants.Link, declared.message.Clash.Clash, Chain.chain}
+use Rattle.oat_chain.specs.{Chain.messages, Chain.DiffersAt}
 
 abbrev pub bytes_of : Message → List ℕ
 bytes_of (Begin bytes) = bytes

@@ -1,7 +1,6 @@
 -- The lengths that tell a begin record from a link: a digest of FIPS 180-4's SHA-256 has 32 bytes, a
 -- link 40 and a begin record 50. And what follows where different lists have one chain.
-use Rattle.std.specs.Prelude.{◌≡◌, ◌≢◌, ◌<◌, ◌^◌, ℕ, List, length, Option}
-use Rattle.std.specs.List.{All}
+use Rattle.std.specs.{Prelude.◌≡◌, Prelude.◌≢◌, Prelude.◌<◌, Prelude.◌^◌, Prelude.ℕ, Prelude.List, Prelude.length, Prelude.Option, List.All}
 use Rattle.sha2.specs.Sha256.{sha256}
 use Rattle.oat_chain.specs.Chain.{window_head, chain, messages, DiffersAt}
 

@@ -1,10 +1,6 @@
 -- The begin record and the addresses for which a Chain, a Chained and a Comparison stand while addresses come in one by one (docs/DEFINITIONS.md).
 use Rattle.std.specs.Prelude.{◌≡◌, ℕ, List}
-use Rattle.oat_chain.specs.declared.Chain.{Chain}
-use Rattle.oat_chain.specs.declared.comparison.Chained.{Chained}
-use Rattle.oat_chain.specs.declared.comparison.Comparison.{Comparison}
-use Rattle.oat_chain.specs.Chain.{chain}
-use Rattle.oat_chain.specs.Clash.{bytes_of, IsLastMessage, IsLastClash}
+use Rattle.oat_chain.specs.{declared.Chain.Chain, declared.comparison.Chained.Chained, declared.comparison.Comparison.Comparison, Chain.chain, Clash.bytes_of, Clash.IsLastMessage, Clash.IsLastClash}
 
 pub record StandsFor (running : Chain) (head addresses : List ℕ) : Type 0 where
   pub digest : running.value ≡ chain head addresses

@@ -1,18 +1,15 @@
 -- Cells are what the elements of critical globals hold.
-use Rattle.std.proofs.Common.{◌++◌, ◌≡◌, ◌+◌, ◌-◌, ◌<◌, ◌≤◌, ℕ, zero, suc, Bool, true, false, cond, ◌&&◌, List, [], ◌∷◌, take, Option, Some, None, refl, sym, ap, subst, ◌∙◌, arith, eqb, ltb, length, inl, inr, option_map, map}
+use Rattle.std.proofs.Common.{◌++◌, ◌≡◌, ◌+◌, ◌-◌, ◌<◌, ◌≤◌, ℕ, zero, suc, Bool, true, false, cond, ◌&&◌, List, [], ◌∷◌, take, Option, Some, None, refl, sym, ap, subst, ◌∙◌, arith, eqb, ltb, length}
+use Rattle.std.proofs.Common.{inl, inr, option_map, map}
+use Rattle.std.specs.{Prelude.slice_get, Prelude.is_some, List.sum_by, List.range_with_len, Option.option_and_then}
 use Rattle.std.proofs.Math.Path.{fun_ext}
-use Rattle.std.proofs.lemmas.Option.{cond_some, same_Some, slice_get-map}
-use Rattle.std.proofs.lemmas.Bool.{ltb-true, ltb-false, lt-ltb, le-ltb, ne_eqb, eq-eqb, eqb-true, eqb-false, cases_lt}
-use Rattle.std.specs.Prelude.{slice_get, is_some}
-use Rattle.std.specs.List.{sum_by, range_with_len}
-use Rattle.std.proofs.lemmas.List.Sums.{sum_by-cons}
-use Rattle.oat_ir.specs.declared.program.GlobalItem.{GlobalItem}
-use Rattle.oat_ir.specs.declared.program.GlobalItem.TheVariants.{Scalar, FnScalar, Array, CriticalArray}
-use Rattle.std.specs.Option.{option_and_then}
-use Rattle.std.proofs.lemmas.List.FromFn.{length-range_with_len}
-use Rattle.oat_check.specs.Globals.{Values, cell_words, cell_values, element_number, element_values, of_global, put, size_in_cells, size_in_words, word_number, word_values}
-use Rattle.oat_check.specs.RunLaws.{CellWordsAreThere, CellsAreWords, CellsHaveWords, ElementsAreNumbered}
+use Rattle.std.proofs.lemmas.{Option.cond_some, Option.same_Some, Option.slice_get-map, Bool.ltb-true, Bool.ltb-false, Bool.lt-ltb, Bool.le-ltb, Bool.ne_eqb, Bool.eq-eqb, Bool.eqb-true}
+use Rattle.std.proofs.lemmas.{Bool.eqb-false, Bool.cases_lt, List.Sums.sum_by-cons, List.FromFn.length-range_with_len}
 use Rattle.oat_events.specs.Cells.{defined}
+use Rattle.oat_ir.specs.{declared.program.GlobalItem.GlobalItem, declared.program.GlobalItem.TheVariants.Scalar, declared.program.GlobalItem.TheVariants.FnScalar}
+use Rattle.oat_ir.specs.{declared.program.GlobalItem.TheVariants.Array, declared.program.GlobalItem.TheVariants.CriticalArray}
+use Rattle.oat_check.specs.{Globals.Values, Globals.cell_words, Globals.cell_values, Globals.element_number, Globals.element_values, Globals.of_global, Globals.put, Globals.size_in_cells}
+use Rattle.oat_check.specs.{Globals.size_in_words, Globals.word_number, Globals.word_values, RunLaws.CellWordsAreThere, RunLaws.CellsAreWords, RunLaws.CellsHaveWords, RunLaws.ElementsAreNumbered}
 
 behind : (count : GlobalItem → ℕ) (x : GlobalItem) (xs : List GlobalItem) (g i : ℕ) → sum_by count (take (suc g) (x ∷ xs)) + i ≡ count x + (sum_by count (take g xs) + i)
 behind count x xs g i = let e : sum_by count (take (suc g) (x ∷ xs)) ≡ count x + sum_by count (take g xs) = sum_by-cons count x (take g xs) in omega arith

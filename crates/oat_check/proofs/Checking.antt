@@ -1,24 +1,15 @@
 -- What a checked program is known by, at each of its lines.
 use Rattle.std.proofs.Common.{◌≡◌, ◌<◌, ℕ, zero, suc, Bool, true, false, not, cond, ◌||◌, List, [], ◌∷◌, length, Option, option_map, Some, None, refl, sym, ap, subst, ◌∙◌, arith, ltb}
-use Rattle.std.specs.Prelude.{slice_get, All}
-use Rattle.std.specs.Option.{option_or}
-use Rattle.std.specs.List.{list_any, sum_by}
-use Rattle.std.proofs.lemmas.List.Elements.{All-cons, All-nil}
-use Rattle.std.proofs.lemmas.Bool.{not-false, not_from_true, eqb-true, ltb-false, le-ltb}
-use Rattle.std.proofs.lemmas.Option.{slice_get_within, get_or_from_slice_get}
-use Rattle.oat_ir.specs.declared.program.Program.{Program}
-use Rattle.oat_ir.specs.declared.func.Func.{Func}
-use Rattle.oat_ir.specs.declared.func.BlockIr.{BlockIr}
-use Rattle.oat_ir.specs.declared.func.Ty.{Ty}
-use Rattle.oat_ir.specs.declared.func.Ty.TheVariants.{I64, Fn}
-use Rattle.oat_ir.specs.declared.instr.Instr.{Instr}
-use Rattle.oat_ir.specs.WellFormed.{IsFunc, IsBlockIr}
-use Rattle.oat_ir.specs.Indices.{IsTerm}
-use Rattle.oat_check.specs.declared.fault.CheckKind.TheVariants.{CallsMain, OperationCall, RefKind, Arity, Kind, MainRet}
-use Rattle.oat_check.specs.Globals.{size_in_words}
-use Rattle.oat_check.specs.Lines.{CodeLine, instruction, terminator}
-use Rattle.oat_check.specs.RuleLaws.{AcceptedExactly, BlockKeepsRules, FuncKeepsRules, IsAllowed, KeepsRules}
-use Rattle.oat_check.specs.Rules.{IsChecked, are_alike, broken_by, calls_main, calls_operation, counts_amiss, fault_at, fault_in_block, fault_in_func, fault_in_line, first_in, first_fault, has_types, is_main, never_ends, one_ty, refers_amiss, returns_from_main}
+use Rattle.std.specs.{Prelude.slice_get, Prelude.All, Option.option_or, List.list_any, List.sum_by}
+use Rattle.std.proofs.lemmas.{List.Elements.All-cons, List.Elements.All-nil, Bool.not-false, Bool.not_from_true, Bool.eqb-true, Bool.ltb-false, Bool.le-ltb, Option.slice_get_within}
+use Rattle.std.proofs.lemmas.{Option.get_or_from_slice_get}
+use Rattle.oat_ir.specs.{declared.program.Program.Program, declared.func.Func.Func, declared.func.BlockIr.BlockIr, declared.func.Ty.Ty, declared.func.Ty.TheVariants.I64}
+use Rattle.oat_ir.specs.{declared.func.Ty.TheVariants.Fn, declared.instr.Instr.Instr, WellFormed.IsFunc, WellFormed.IsBlockIr, Indices.IsTerm}
+use Rattle.oat_check.specs.{declared.fault.CheckKind.TheVariants.CallsMain, declared.fault.CheckKind.TheVariants.OperationCall, declared.fault.CheckKind.TheVariants.RefKind}
+use Rattle.oat_check.specs.{declared.fault.CheckKind.TheVariants.Arity, declared.fault.CheckKind.TheVariants.Kind, declared.fault.CheckKind.TheVariants.MainRet, Globals.size_in_words, Lines.CodeLine}
+use Rattle.oat_check.specs.{Lines.instruction, Lines.terminator, RuleLaws.AcceptedExactly, RuleLaws.BlockKeepsRules, RuleLaws.FuncKeepsRules, RuleLaws.IsAllowed, RuleLaws.KeepsRules, Rules.IsChecked}
+use Rattle.oat_check.specs.{Rules.are_alike, Rules.broken_by, Rules.calls_main, Rules.calls_operation, Rules.counts_amiss, Rules.fault_at, Rules.fault_in_block, Rules.fault_in_func}
+use Rattle.oat_check.specs.{Rules.fault_in_line, Rules.first_in, Rules.first_fault, Rules.has_types, Rules.is_main, Rules.never_ends, Rules.one_ty, Rules.refers_amiss, Rules.returns_from_main}
 
 pub each_at : {X : Type 0} (P : X → Type 0) (xs : List X) (i : ℕ) (x : X) → All P xs → slice_get xs i ≡ Some x → P x
 each_at P xs i x each is = subst P (get_or_from_slice_get xs i x x is) (each i x (slice_get_within xs i x is))

@@ -1,7 +1,7 @@
 -- What is found first in a list, as a loop over its items comes to it.
 use Rattle.std.proofs.Common.{◌≡◌, ◌+◌, ◌<◌, ◌≤◌, ℕ, suc, List, length, drop, get_or, Option, Some, None, sym, ap, ◌∙◌, arith, drop-cons}
-use Rattle.std.proofs.Math.ListN.{drop_of_length-le}
 use Rattle.std.specs.Option.{option_or}
+use Rattle.std.proofs.Math.ListN.{drop_of_length-le}
 use Rattle.oat_check.specs.Rules.{first_in}
 
 -- nothing was found in the first n items

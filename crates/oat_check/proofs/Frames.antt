@@ -1,32 +1,19 @@
 -- Frames at their lines, and the parts of steps that lead from line to line.
 use Rattle.std.proofs.Common.{◌≡◌, ◌+◌, ◌<◌, ◌≤◌, ℕ, zero, suc, Bool, true, false, cond, List, [], ◌∷◌, length, get_or, map, Option, option_map, Some, None, refl, ap, ◌∙◌, arith, eqb, ltb, leb}
-use Rattle.std.specs.Prelude.{slice_get}
-use Rattle.std.specs.Option.{option_and_then}
-use Rattle.std.proofs.lemmas.Bool.{lt-ltb, le-ltb, eq-eqb, leb-false}
-use Rattle.std.proofs.lemmas.Option.{slice_get_within}
-use Rattle.oat_map.specs.declared.trap.TrapKind.TheVariants.{Index, Depth}
-use Rattle.oat_ir.specs.declared.program.Program.{Program}
-use Rattle.oat_ir.specs.declared.program.GlobalItem.{GlobalItem}
-use Rattle.oat_ir.specs.declared.func.Func.{Func}
-use Rattle.oat_ir.specs.declared.func.BlockIr.{BlockIr}
-use Rattle.oat_ir.specs.declared.func.Ty.{Ty}
-use Rattle.oat_ir.specs.declared.instr.Instr.{Instr}
-use Rattle.oat_ir.specs.WellFormed.{IsFunc}
-use Rattle.oat_check.specs.Active.{active_of, cells_at, line_turn, operation_active}
-use Rattle.oat_check.specs.Globals.{cell_number, cell_values, length_at, put, size_in_cells}
-use Rattle.oat_check.specs.Keeping.{AreLocals, IsCaller, IsConsistent, IsFrame, IsLawful, IsValue, MayCall, item_ty}
-use Rattle.oat_check.specs.Lines.{instruction, line_in, terminator}
-use Rattle.oat_check.specs.Rules.{IsChecked, are_as, local_ty, parameters}
-use Rattle.oat_check.specs.Steps.{Frame, LineEdge, Next, SourceState, assigned, current_line, ends_by, entered, goes_to, in_array, line_place, onward, operation_of, reads, runs, sets, shows, silent, traps_by, writes}
-use Rattle.oat_events.specs.Cells.{defined}
+use Rattle.std.specs.{Prelude.slice_get, Option.option_and_then}
+use Rattle.std.proofs.lemmas.{Bool.lt-ltb, Bool.le-ltb, Bool.eq-eqb, Bool.leb-false, Option.slice_get_within}
+use Rattle.oat_events.specs.{Index, Depth, Cells.defined, Events.Passes, Events.SourceEvent, Events.Stacks, Source.Finish, Source.trapped}
+use Rattle.oat_ir.specs.{declared.program.Program.Program, declared.program.GlobalItem.GlobalItem, declared.func.Func.Func, declared.func.BlockIr.BlockIr, declared.func.Ty.Ty}
+use Rattle.oat_ir.specs.{declared.instr.Instr.Instr, WellFormed.IsFunc}
+use Rattle.oat_check.specs.{Active.active_of, Active.cells_at, Active.line_turn, Active.operation_active, Globals.cell_number, Globals.cell_values, Globals.length_at, Globals.put}
+use Rattle.oat_check.specs.{Globals.size_in_cells, Keeping.AreLocals, Keeping.IsCaller, Keeping.IsConsistent, Keeping.IsFrame, Keeping.IsLawful, Keeping.IsValue, Keeping.MayCall, Keeping.item_ty}
+use Rattle.oat_check.specs.{Lines.instruction, Lines.line_in, Lines.terminator, Rules.IsChecked, Rules.are_as, Rules.local_ty, Rules.parameters, Steps.Frame, Steps.LineEdge, Steps.Next}
+use Rattle.oat_check.specs.{Steps.SourceState, Steps.assigned, Steps.current_line, Steps.ends_by, Steps.entered, Steps.goes_to, Steps.in_array, Steps.line_place, Steps.onward, Steps.operation_of}
+use Rattle.oat_check.specs.{Steps.reads, Steps.runs, Steps.sets, Steps.shows, Steps.silent, Steps.traps_by, Steps.writes}
+use Rattle.oat_check.proofs.{Checking.func_formed, Cells.element_told, Cells.element_stored, Cells.elements_stay, Locals.locals_assigned, Locals.globals_put, Locals.locals_entered, Turning.Turns}
+use Rattle.oat_check.proofs.{Turning.call_turns, Turning.stay_turns}
 use Rattle.oat_events.specs.Events as event
-use Rattle.oat_map.specs.Turns as turn
-use Rattle.oat_events.specs.Events.{Passes, SourceEvent, Stacks}
-use Rattle.oat_events.specs.Source.{Finish, trapped}
-use Rattle.oat_check.proofs.Checking.{func_formed}
-use Rattle.oat_check.proofs.Cells.{element_told, element_stored, elements_stay}
-use Rattle.oat_check.proofs.Locals.{locals_assigned, globals_put, locals_entered}
-use Rattle.oat_check.proofs.Turning.{Turns, call_turns, stay_turns}
+use Rattle.oat_events.specs.turn as turn
 
 -- ---- lines
 

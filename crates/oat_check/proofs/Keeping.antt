@@ -1,28 +1,12 @@
 -- Runs start good, so each of their steps is lawful: the programs are a source as the end to end promise wants it.
-use Rattle.std.proofs.Common.{◌≡◌, ℕ, suc, Bool, true, false, cond, ◌||◌, List, [], ◌∷◌, Some, refl, ap, arith}
-use Rattle.std.specs.Prelude.{slice_get, is_some}
-use Rattle.std.specs.List.{list_any}
-use Rattle.oat_ir.specs.declared.program.Program.{Program}
-use Rattle.oat_ir.specs.declared.func.Func.{Func}
-use Rattle.oat_ir.specs.declared.func.Role.TheVariants.{Main}
-use Rattle.oat_ir.specs.declared.program.GlobalItem.{GlobalItem}
-use Rattle.std.specs.Prelude.{◌+◌, ◌<◌, ◌≤◌, take, get_or, Option, Some, None}
-use Rattle.std.proofs.Common.{ltb}
-use Rattle.std.specs.List.{sum_by}
-use Rattle.std.proofs.lemmas.Bool.{ltb-true}
-use Rattle.std.proofs.lemmas.List.Sums.{sum_by_more_le}
-use Rattle.std.proofs.lemmas.Option.{cond_some, slice_get_within, get_or_from_slice_get}
-use Rattle.oat_check.specs.Globals.{of_global, size_in_words}
-use Rattle.oat_check.specs.Keeping.{RunsStartConsistent, StepsAreLawful}
-use Rattle.oat_check.specs.Rules.{is_main}
-use Rattle.oat_check.specs.RunLaws.{WordsAreFew}
-use Rattle.oat_check.specs.Runs.{main_number}
-use Rattle.oat_check.specs.Steps.{SourceState, at_line, current_line, silent, source_step}
+use Rattle.std.proofs.Common.{◌≡◌, ℕ, suc, Bool, true, false, cond, ◌||◌, List, [], ◌∷◌, Some, refl, ap, arith, ltb}
+use Rattle.std.specs.{Prelude.slice_get, Prelude.is_some, List.list_any, Prelude.◌+◌, Prelude.◌<◌, Prelude.◌≤◌, Prelude.take, Prelude.get_or, Prelude.Option, Prelude.Some, Prelude.None, List.sum_by}
+use Rattle.std.proofs.lemmas.{Bool.ltb-true, List.Sums.sum_by_more_le, Option.cond_some, Option.slice_get_within, Option.get_or_from_slice_get}
 use Rattle.oat_events.specs.Source.{Finish}
-use Rattle.oat_check.proofs.Checking.{has_main, func_formed, keeps_rules}
-use Rattle.oat_check.proofs.Locals.{zero_value, first_globals}
-use Rattle.oat_check.proofs.Frames.{there}
-use Rattle.oat_check.proofs.Lines.{role_is, main_role, step_lawful}
+use Rattle.oat_ir.specs.{declared.program.Program.Program, declared.func.Func.Func, declared.func.Role.TheVariants.Main, declared.program.GlobalItem.GlobalItem}
+use Rattle.oat_check.specs.{Globals.of_global, Globals.size_in_words, Keeping.RunsStartConsistent, Keeping.StepsAreLawful, Rules.is_main, RunLaws.WordsAreFew, Runs.main_number, Steps.SourceState}
+use Rattle.oat_check.specs.{Steps.at_line, Steps.current_line, Steps.silent, Steps.source_step}
+use Rattle.oat_check.proofs.{Checking.has_main, Checking.func_formed, Checking.keeps_rules, Locals.zero_value, Locals.first_globals, Frames.there, Lines.role_is, Lines.main_role, Lines.step_lawful}
 
 pub record IsMain (p : Program) (n : ℕ) (fs : List Func) : Type 0 where
   pub func : Func

@@ -1,13 +1,9 @@
 -- A checked program, as a source, keeps its operations and cells.
 use Rattle.std.proofs.Common.{List, ap, ℤ, refl}
-use Rattle.oat_ir.specs.declared.program.Program.{Program}
 use Rattle.oat_events.specs.Source.{SourceKeeps}
-use Rattle.oat_check.specs.Active.{cells_at, first_cells, operation_active}
-use Rattle.oat_check.specs.Keeping.{IsConsistent}
-use Rattle.oat_check.specs.Rules.{IsChecked}
-use Rattle.oat_check.specs.Runs.{source_of}
-use Rattle.oat_check.proofs.Keeping.{ended_step, runs_start_consistent}
-use Rattle.oat_check.proofs.Lines.{step_lawful}
+use Rattle.oat_ir.specs.declared.program.Program.{Program}
+use Rattle.oat_check.specs.{Active.cells_at, Active.first_cells, Active.operation_active, Keeping.IsConsistent, Rules.IsChecked, Runs.source_of}
+use Rattle.oat_check.proofs.{Keeping.ended_step, Keeping.runs_start_consistent, Lines.step_lawful}
 
 abbrev pub keeps : (p : Program) → IsChecked p → (inputs : List ℤ) → SourceKeeps (source_of p inputs) (first_cells p)
 keeps p ok inputs = record {

@@ -1,37 +1,28 @@
 -- One law for each line: its step from a good state leads to one, and its events keep the rules.
-use Rattle.std.proofs.Common.{◌≡◌, ◌+◌, ◌-◌, ◌^◌, ◌<◌, ◌≤◌, ℕ, suc, Bool, true, false, not, cond, ◌&&◌, ◌||◌, List, [], ◌∷◌, length, inl, inr, Option, option_map, Some, None, refl, sym, ap, subst, ◌∙◌, arith, eqb, ℤ}
-use Rattle.std.specs.Prelude.{slice_get, is_some}
-use Rattle.std.specs.List.{list_any}
-use Rattle.std.proofs.lemmas.Bool.{and_parts, or_parts, not-false, eqb-true, eqb-false, eq-eqb, cases_lt, both_ways}
-use Rattle.std.proofs.lemmas.Option.{slice_get_within}
-use Rattle.oat_map.specs.declared.trap.TrapKind.TheVariants.{DivZero, NullCall, InputEnd}
-use Rattle.oat_ir.specs.declared.program.Program.{Program}
-use Rattle.oat_ir.specs.declared.program.GlobalItem.{GlobalItem}
-use Rattle.oat_ir.specs.declared.program.GlobalItem.TheVariants.{Scalar, FnScalar, Array, CriticalArray}
-use Rattle.oat_ir.specs.declared.func.Func.{Func}
-use Rattle.oat_ir.specs.declared.func.Role.{Role}
-use Rattle.oat_ir.specs.declared.func.Role.TheVariants.{Plain, Operation, Main}
-use Rattle.oat_ir.specs.declared.func.Ty.{Ty}
-use Rattle.oat_ir.specs.declared.func.Ty.TheVariants.{I64, Fn}
-use Rattle.oat_ir.specs.declared.instr.Instr.{Instr}
-use Rattle.oat_ir.specs.declared.instr.Instr.TheVariants.{Const, Copy, Binary, Load, Store, LoadX, StoreX, RefTo, Call, ICall, Input, Output}
-use Rattle.oat_ir.specs.declared.instr.Term.{Term}
-use Rattle.oat_ir.specs.declared.instr.Term.TheVariants.{Jump, Branch, Ret, Halt}
-use Rattle.oat_ir.specs.Indices.{IsTerm}
-use Rattle.oat_check.specs.Active.{active_in, cells_at, line_turn}
-use Rattle.oat_check.specs.Keeping.{AreCallers, ConsistentStatesGoOn, GoesOn, IsCaller, IsConsistent, IsFrame, IsLawful, IsTarget, IsValue, MayCall, item_ty, refers_to, role_at}
-use Rattle.oat_check.specs.Lines.{CodeLine, instruction, is_calling, terminator}
-use Rattle.oat_check.specs.Operators.{number, result_of}
-use Rattle.oat_check.specs.RuleLaws.{IsAllowed}
-use Rattle.oat_check.specs.Rules.{IsChecked, are_alike, are_as, hold_numbers, holds_number, is_array, is_main, is_main_role, is_operation, is_operation_role, local_ty, parameters, passes, refers_with, returns_from_main, scalar_ty, takes_numbers}
-use Rattle.oat_check.specs.Steps.{Frame, SourceState, assigned, at_line, branches, calls, closes, computes, current_line, does, gives, goes_to, icalls, jumps, line_place, result_at, runs, silent, source_step, takes_in, traps_by}
-use Rattle.oat_events.specs.Events.{Passes, Stacks}
-use Rattle.oat_events.specs.Source.{halted, trapped}
-use Rattle.oat_check.proofs.Checking.{instr_allowed, term_allowed, term_formed, alike, has_ty, list_any_at}
-use Rattle.oat_check.proofs.Bounds.{number_small, result_small}
-use Rattle.oat_check.proofs.Locals.{scalar_item, numbers_as, locals_assigned}
-use Rattle.oat_check.proofs.Turning.{return_turns, op_of}
-use Rattle.oat_check.proofs.Frames.{there, line_is, instr_is, term_is, to_line, same_lawful, ends_lawful, onward_good, sets_lawful, reads_lawful, writes_lawful, in_array_lawful, runs_lawful, goes_lawful}
+use Rattle.std.proofs.Common.{◌≡◌, ◌+◌, ◌-◌, ◌^◌, ◌<◌, ◌≤◌, ℕ, suc, Bool, true, false, not, cond, ◌&&◌, ◌||◌, List, [], ◌∷◌, length, inl, inr, Option, option_map, Some, None, refl, sym, ap, subst}
+use Rattle.std.proofs.Common.{◌∙◌, arith, eqb, ℤ}
+use Rattle.std.specs.{Prelude.slice_get, Prelude.is_some, List.list_any}
+use Rattle.std.proofs.lemmas.{Bool.and_parts, Bool.or_parts, Bool.not-false, Bool.eqb-true, Bool.eqb-false, Bool.eq-eqb, Bool.cases_lt, Bool.both_ways, Option.slice_get_within}
+use Rattle.oat_events.specs.{DivZero, NullCall, InputEnd, Events.Passes, Events.Stacks, Source.halted, Source.trapped}
+use Rattle.oat_ir.specs.{declared.program.Program.Program, declared.program.GlobalItem.GlobalItem, declared.program.GlobalItem.TheVariants.Scalar, declared.program.GlobalItem.TheVariants.FnScalar}
+use Rattle.oat_ir.specs.{declared.program.GlobalItem.TheVariants.Array, declared.program.GlobalItem.TheVariants.CriticalArray, declared.func.Func.Func, declared.func.Role.Role}
+use Rattle.oat_ir.specs.{declared.func.Role.TheVariants.Plain, declared.func.Role.TheVariants.Operation, declared.func.Role.TheVariants.Main, declared.func.Ty.Ty, declared.func.Ty.TheVariants.I64}
+use Rattle.oat_ir.specs.{declared.func.Ty.TheVariants.Fn, declared.instr.Instr.Instr, declared.instr.Instr.TheVariants.Const, declared.instr.Instr.TheVariants.Copy}
+use Rattle.oat_ir.specs.{declared.instr.Instr.TheVariants.Binary, declared.instr.Instr.TheVariants.Load, declared.instr.Instr.TheVariants.Store, declared.instr.Instr.TheVariants.LoadX}
+use Rattle.oat_ir.specs.{declared.instr.Instr.TheVariants.StoreX, declared.instr.Instr.TheVariants.RefTo, declared.instr.Instr.TheVariants.Call, declared.instr.Instr.TheVariants.ICall}
+use Rattle.oat_ir.specs.{declared.instr.Instr.TheVariants.Input, declared.instr.Instr.TheVariants.Output, declared.instr.Term.Term, declared.instr.Term.TheVariants.Jump}
+use Rattle.oat_ir.specs.{declared.instr.Term.TheVariants.Branch, declared.instr.Term.TheVariants.Ret, declared.instr.Term.TheVariants.Halt, Indices.IsTerm}
+use Rattle.oat_check.specs.{Active.active_in, Active.cells_at, Active.line_turn, Keeping.AreCallers, Keeping.ConsistentStatesGoOn, Keeping.GoesOn, Keeping.IsCaller, Keeping.IsConsistent}
+use Rattle.oat_check.specs.{Keeping.IsFrame, Keeping.IsLawful, Keeping.IsTarget, Keeping.IsValue, Keeping.MayCall, Keeping.item_ty, Keeping.refers_to, Keeping.role_at, Lines.CodeLine}
+use Rattle.oat_check.specs.{Lines.instruction, Lines.is_calling, Lines.terminator, Operators.number, Operators.result_of, RuleLaws.IsAllowed, Rules.IsChecked, Rules.are_alike, Rules.are_as}
+use Rattle.oat_check.specs.{Rules.hold_numbers, Rules.holds_number, Rules.is_array, Rules.is_main, Rules.is_main_role, Rules.is_operation, Rules.is_operation_role, Rules.local_ty, Rules.parameters}
+use Rattle.oat_check.specs.{Rules.passes, Rules.refers_with, Rules.returns_from_main, Rules.scalar_ty, Rules.takes_numbers, Steps.Frame, Steps.SourceState, Steps.assigned, Steps.at_line}
+use Rattle.oat_check.specs.{Steps.branches, Steps.calls, Steps.closes, Steps.computes, Steps.current_line, Steps.does, Steps.gives, Steps.goes_to, Steps.icalls, Steps.jumps, Steps.line_place}
+use Rattle.oat_check.specs.{Steps.result_at, Steps.runs, Steps.silent, Steps.source_step, Steps.takes_in, Steps.traps_by}
+use Rattle.oat_check.proofs.{Checking.instr_allowed, Checking.term_allowed, Checking.term_formed, Checking.alike, Checking.has_ty, Checking.list_any_at, Bounds.number_small, Bounds.result_small}
+use Rattle.oat_check.proofs.{Locals.scalar_item, Locals.numbers_as, Locals.locals_assigned, Turning.return_turns, Turning.op_of, Frames.there, Frames.line_is, Frames.instr_is, Frames.term_is}
+use Rattle.oat_check.proofs.{Frames.to_line, Frames.same_lawful, Frames.ends_lawful, Frames.onward_good, Frames.sets_lawful, Frames.reads_lawful, Frames.writes_lawful, Frames.in_array_lawful}
+use Rattle.oat_check.proofs.{Frames.runs_lawful, Frames.goes_lawful}
 
 -- ---- what is found
 

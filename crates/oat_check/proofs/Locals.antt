@@ -1,21 +1,15 @@
 -- Locals and globals have values of their types, also where one is assigned.
-use Rattle.std.proofs.Common.{◌≡◌, ◌<◌, ◌≤◌, ℕ, zero, suc, Bool, true, false, cond, ◌&&◌, List, [], ◌∷◌, length, map, get_or, take, inl, inr, Option, option_map, Some, None, refl, sym, ap, subst, ◌∙◌, arith, eqb, lit<, length-take-le, ltb, ◌-◌}
+use Rattle.std.proofs.Common.{◌≡◌, ◌<◌, ◌≤◌, ℕ, zero, suc, Bool, true, false, cond, ◌&&◌, List, [], ◌∷◌, length, map, get_or, take, inl, inr, Option, option_map, Some, None, refl, sym, ap, subst, ◌∙◌}
+use Rattle.std.proofs.Common.{arith, eqb, lit<, length-take-le, ltb, ◌-◌}
 use Rattle.std.specs.Prelude.{slice_get}
-use Rattle.std.proofs.lemmas.Bool.{and_from, eq-eqb, and_parts, eqb-true, cases_lt}
-use Rattle.std.proofs.lemmas.List.{get_or_past, length-map}
-use Rattle.oat_ir.specs.declared.program.Program.{Program}
-use Rattle.oat_ir.specs.declared.program.GlobalItem.{GlobalItem}
-use Rattle.oat_ir.specs.declared.program.GlobalItem.TheVariants.{Scalar, FnScalar, Array, CriticalArray}
-use Rattle.oat_ir.specs.declared.func.Func.{Func}
-use Rattle.oat_ir.specs.declared.func.Local.{Local}
-use Rattle.oat_ir.specs.declared.func.Ty.{Ty}
-use Rattle.oat_ir.specs.declared.func.Ty.TheVariants.{I64, Fn}
-use Rattle.oat_check.specs.Globals.{Values, first_values, of_global, put, size_in_words, start_of, word_values}
-use Rattle.oat_check.specs.Keeping.{AreGlobals, AreLocals, IsValue, ReferencesAreKnown, WordsAreTyped, item_ty, word_ty}
-use Rattle.oat_check.specs.Rules.{are_alike, are_as, hold_numbers, local_ty, parameters, passes, scalar_ty, takes_numbers}
-use Rattle.oat_check.specs.Steps.{assigned}
-use Rattle.oat_check.proofs.Checking.{same_ty, has_ty}
-use Rattle.oat_check.proofs.Bounds.{number_small}
+use Rattle.std.proofs.lemmas.{Bool.and_from, Bool.eq-eqb, Bool.and_parts, Bool.eqb-true, Bool.cases_lt, List.get_or_past, List.length-map}
+use Rattle.oat_ir.specs.{declared.program.Program.Program, declared.program.GlobalItem.GlobalItem, declared.program.GlobalItem.TheVariants.Scalar, declared.program.GlobalItem.TheVariants.FnScalar}
+use Rattle.oat_ir.specs.{declared.program.GlobalItem.TheVariants.Array, declared.program.GlobalItem.TheVariants.CriticalArray, declared.func.Func.Func, declared.func.Local.Local, declared.func.Ty.Ty}
+use Rattle.oat_ir.specs.{declared.func.Ty.TheVariants.I64, declared.func.Ty.TheVariants.Fn}
+use Rattle.oat_check.specs.{Globals.Values, Globals.first_values, Globals.of_global, Globals.put, Globals.size_in_words, Globals.start_of, Globals.word_values, Keeping.AreGlobals, Keeping.AreLocals}
+use Rattle.oat_check.specs.{Keeping.IsValue, Keeping.ReferencesAreKnown, Keeping.WordsAreTyped, Keeping.item_ty, Keeping.word_ty, Rules.are_alike, Rules.are_as, Rules.hold_numbers, Rules.local_ty}
+use Rattle.oat_check.specs.{Rules.parameters, Rules.passes, Rules.scalar_ty, Rules.takes_numbers, Steps.assigned}
+use Rattle.oat_check.proofs.{Checking.same_ty, Checking.has_ty, Bounds.number_small}
 
 pub zero_value : (p : Program) (ty : Ty) → IsValue p ty 0
 zero_value p I64 = lit< tt

@@ -2,10 +2,7 @@
 use Rattle.std.proofs.Common.{◌≡◌, ◌+◌, ◌<◌, ◌≤◌, ℕ, List, [], ◌∷◌, length, get_or, arith}
 use Rattle.std.specs.List.{sum_by}
 use Rattle.std.proofs.lemmas.List.Sums.{sum_by-cons, sum_by_more_le}
-use Rattle.oat_ir.specs.declared.program.Program.{Program}
-use Rattle.oat_ir.specs.declared.func.Func.{Func}
-use Rattle.oat_ir.specs.Size.{block_size, func_size}
-use Rattle.oat_ir.specs.WellFormed.{IsProgram}
+use Rattle.oat_ir.specs.{declared.program.Program.Program, declared.func.Func.Func, Size.block_size, Size.func_size, WellFormed.IsProgram}
 use Rattle.oat_check.specs.Places.{HasBlocks, HasFuncs}
 
 -- a list has at most as many items as they are large

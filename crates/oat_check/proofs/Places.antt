@@ -1,23 +1,14 @@
 -- Where a fault says that a rule is broken, one is.
 use Rattle.std.proofs.Common.{◌≡◌, ◌+◌, ◌<◌, ℕ, suc, Bool, true, false, not, cond, ltb, eqb, List, [], ◌∷◌, length, inl, inr, Option, option_map, Some, None, refl, sym, ap, subst, ◌∙◌, arith}
-use Rattle.std.specs.Prelude.{slice_get, ◌⊎◌}
-use Rattle.std.specs.Option.{option_or}
-use Rattle.std.specs.List.{list_any, sum_by}
+use Rattle.std.specs.{Prelude.slice_get, Prelude.◌⊎◌, Option.option_or, List.list_any, List.sum_by}
 use Rattle.std.proofs.lemmas.Bool.{ltb-true}
-use Rattle.oat_ir.specs.declared.program.Program.{Program}
-use Rattle.oat_ir.specs.declared.func.Func.{Func}
-use Rattle.oat_ir.specs.declared.func.BlockIr.{BlockIr}
-use Rattle.oat_ir.specs.declared.instr.Instr.{Instr}
-use Rattle.oat_check.specs.declared.fault.CheckKind.{CheckKind}
-use Rattle.oat_check.specs.declared.fault.CheckKind.TheVariants.{NoMain, GlobalWords, Locals, NoEnd}
-use Rattle.oat_check.specs.declared.fault.CheckFault.{CheckFault}
-use Rattle.oat_check.specs.declared.fault.CheckFault.TheVariants.{At}
-use Rattle.oat_check.specs.Globals.{size_in_words}
-use Rattle.oat_check.specs.Lines.{CodeLine, instruction, line_in, terminator}
-use Rattle.oat_check.specs.RuleLaws.{BreaksAt, BreaksInLine, FaultsStand, IsAllowed, LinesAreAllowed}
-use Rattle.oat_check.specs.Rules.{broken_by, fault_at, fault_in_block, fault_in_func, fault_in_line, first_in, is_main, never_ends}
-use Rattle.oat_check.proofs.Checking.{instr_allowed, term_allowed}
-use Rattle.oat_check.proofs.Frames.{instr_is, term_is}
+use Rattle.oat_ir.specs.{declared.program.Program.Program, declared.func.Func.Func, declared.func.BlockIr.BlockIr, declared.instr.Instr.Instr}
+use Rattle.oat_check.specs.{declared.fault.CheckKind.CheckKind, declared.fault.CheckKind.TheVariants.NoMain, declared.fault.CheckKind.TheVariants.GlobalWords}
+use Rattle.oat_check.specs.{declared.fault.CheckKind.TheVariants.Locals, declared.fault.CheckKind.TheVariants.NoEnd, declared.fault.CheckFault.CheckFault, declared.fault.CheckFault.TheVariants.At}
+use Rattle.oat_check.specs.{Globals.size_in_words, Lines.CodeLine, Lines.instruction, Lines.line_in, Lines.terminator, RuleLaws.BreaksAt, RuleLaws.BreaksInLine, RuleLaws.FaultsStand}
+use Rattle.oat_check.specs.{RuleLaws.IsAllowed, RuleLaws.LinesAreAllowed, Rules.broken_by, Rules.fault_at, Rules.fault_in_block, Rules.fault_in_func, Rules.fault_in_line, Rules.first_in}
+use Rattle.oat_check.specs.{Rules.is_main, Rules.never_ends}
+use Rattle.oat_check.proofs.{Checking.instr_allowed, Checking.term_allowed, Frames.instr_is, Frames.term_is}
 
 -- ---- faults
 

@@ -1,24 +1,19 @@
 -- How much a run shows.
-use Rattle.std.proofs.Common.{◌||◌, ◌≡◌, ◌+◌, ◌≤◌, ℕ, zero, suc, Bool, true, false, cond, eqb, ltb, leb, List, [], ◌∷◌, ◌++◌, length, Option, Some, None, refl, sym, ap, subst, ◌∙◌, inl, inr, arith, ℤ, le_trans, length-append, ◌-◌}
-use Rattle.std.specs.Prelude.{is_some}
-use Rattle.std.specs.List.{filter_map, cons_option, list_any}
-use Rattle.std.proofs.lemmas.Bool.{cases_Bool}
-use Rattle.std.proofs.lemmas.List.Elements.{filter_map-append}
-use Rattle.oat_ir.specs.declared.program.Program.{Program}
-use Rattle.oat_ir.specs.declared.instr.Instr.{Instr}
-use Rattle.oat_ir.specs.declared.instr.Instr.TheVariants.{Const, Copy, Binary, Load, Store, LoadX, StoreX, RefTo, Call, ICall, Input, Output}
-use Rattle.oat_ir.specs.declared.instr.Term.{Term}
-use Rattle.oat_ir.specs.declared.instr.Term.TheVariants.{Jump, Branch, Ret, Halt}
-use Rattle.oat_map.specs.declared.trap.TrapKind.TheVariants.{Index, NullCall, Depth}
-use Rattle.oat_check.specs.Globals.{cell_number, length_at}
-use Rattle.oat_check.specs.Lines.{CodeLine, instruction, terminator}
-use Rattle.oat_check.specs.Operators.{result_of}
-use Rattle.oat_check.specs.RunLaws.{RunsAreShort}
-use Rattle.oat_check.specs.Runs.{source_events, source_of, source_start}
-use Rattle.oat_check.specs.Steps.{Frame, LineEdge, Next, SourceState, at_line, branches, calls, closes, computes, current_line, does, entered, finishes, gives, goes_to, icalls, jumps, line_place, operation_of, reads, returns, runs, shows, silent, source_step, takes_in, traps_by, writes}
-use Rattle.oat_events.specs.Events.{SourceEvent, enters, is_entered, is_left, leaves, loads, outputs, stores, takes}
-use Rattle.oat_events.specs.Source.{edge_taken, load_in, output_in, shown_from}
-use Rattle.oat_events.specs.Windows.{beyond, inside, past, through}
+use Rattle.std.proofs.Common.{◌||◌, ◌≡◌, ◌+◌, ◌≤◌, ℕ, zero, suc, Bool, true, false, cond, eqb, ltb, leb, List, [], ◌∷◌, ◌++◌, length, Option, Some, None, refl, sym, ap, subst, ◌∙◌, inl, inr, arith, ℤ}
+use Rattle.std.proofs.Common.{le_trans, length-append, ◌-◌}
+use Rattle.std.specs.{Prelude.is_some, List.filter_map, List.cons_option, List.list_any}
+use Rattle.std.proofs.lemmas.{Bool.cases_Bool, List.Elements.filter_map-append}
+use Rattle.oat_events.specs.{Index, NullCall, Depth, Events.SourceEvent, Events.enters, Events.is_entered, Events.is_left, Events.leaves, Events.loads, Events.outputs, Events.stores, Events.takes}
+use Rattle.oat_events.specs.{Source.edge_taken, Source.load_in, Source.output_in, Source.shown_from, Windows.beyond, Windows.inside, Windows.past, Windows.through}
+use Rattle.oat_ir.specs.{declared.program.Program.Program, declared.instr.Instr.Instr, declared.instr.Instr.TheVariants.Const, declared.instr.Instr.TheVariants.Copy}
+use Rattle.oat_ir.specs.{declared.instr.Instr.TheVariants.Binary, declared.instr.Instr.TheVariants.Load, declared.instr.Instr.TheVariants.Store, declared.instr.Instr.TheVariants.LoadX}
+use Rattle.oat_ir.specs.{declared.instr.Instr.TheVariants.StoreX, declared.instr.Instr.TheVariants.RefTo, declared.instr.Instr.TheVariants.Call, declared.instr.Instr.TheVariants.ICall}
+use Rattle.oat_ir.specs.{declared.instr.Instr.TheVariants.Input, declared.instr.Instr.TheVariants.Output, declared.instr.Term.Term, declared.instr.Term.TheVariants.Jump}
+use Rattle.oat_ir.specs.{declared.instr.Term.TheVariants.Branch, declared.instr.Term.TheVariants.Ret, declared.instr.Term.TheVariants.Halt}
+use Rattle.oat_check.specs.{Globals.cell_number, Globals.length_at, Lines.CodeLine, Lines.instruction, Lines.terminator, Operators.result_of, RunLaws.RunsAreShort, Runs.source_events, Runs.source_of}
+use Rattle.oat_check.specs.{Runs.source_start, Steps.Frame, Steps.LineEdge, Steps.Next, Steps.SourceState, Steps.at_line, Steps.branches, Steps.calls, Steps.closes, Steps.computes, Steps.current_line}
+use Rattle.oat_check.specs.{Steps.does, Steps.entered, Steps.finishes, Steps.gives, Steps.goes_to, Steps.icalls, Steps.jumps, Steps.line_place, Steps.operation_of, Steps.reads, Steps.returns}
+use Rattle.oat_check.specs.{Steps.runs, Steps.shows, Steps.silent, Steps.source_step, Steps.takes_in, Steps.traps_by, Steps.writes}
 
 abbrev Es : Type 0
 Es = List (SourceEvent LineEdge)

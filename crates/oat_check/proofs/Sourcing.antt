@@ -1,16 +1,11 @@
 -- Whole runs: what each step keeps is kept by all, and the paths of calls go back as they called.
 use Rattle.std.proofs.Common.{refl, ap}
 use Rattle.oat_events.specs.Events.{is_entered, is_left}
-use Rattle.oat_events.proofs.EventLaws.{paths_go_back, completed_calls_are_first}
-use Rattle.oat_events.proofs.WindowLaws.{windows_are_cut}
+use Rattle.oat_events.proofs.{EventLaws.paths_go_back, EventLaws.completed_calls_are_first, WindowLaws.windows_are_cut}
+use Rattle.oat_check.specs.{Active.active_of, Active.first_cells, Active.line_turn, RunLaws.CallsAreCounted, RunLaws.CallsAreCut, RunLaws.CallsGoBack, RunLaws.EndedRunsStay, RunLaws.RunsAreConsistent}
+use Rattle.oat_check.specs.{RunLaws.RunsPass, RunLaws.RunsStack, Runs.source_events, Runs.source_of, Runs.source_start, Steps.finishes}
+use Rattle.oat_check.proofs.{Lines.step_lawful, Keeping.ended_step, Keeping.runs_start_consistent, Kept.keeps}
 use Rattle.oat_events.proofs.SourceLaws as source
-use Rattle.oat_check.specs.Active.{active_of, first_cells, line_turn}
-use Rattle.oat_check.specs.RunLaws.{CallsAreCounted, CallsAreCut, CallsGoBack, EndedRunsStay, RunsAreConsistent, RunsPass, RunsStack}
-use Rattle.oat_check.specs.Runs.{source_events, source_of, source_start}
-use Rattle.oat_check.specs.Steps.{finishes}
-use Rattle.oat_check.proofs.Lines.{step_lawful}
-use Rattle.oat_check.proofs.Keeping.{ended_step, runs_start_consistent}
-use Rattle.oat_check.proofs.Kept.{keeps}
 
 pub runs_are_consistent : RunsAreConsistent
 runs_are_consistent p ok inputs n = source.good_after (source_of p inputs) (first_cells p) (keeps p ok inputs) n (source_start p inputs) (runs_start_consistent p ok inputs)

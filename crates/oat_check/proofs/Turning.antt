@@ -1,17 +1,11 @@
 -- What is active, where a function is called and where it returns.
 use Rattle.std.proofs.Common.{length, ◌≡◌, ℕ, List, [], ◌∷◌, ◌++◌, inl, inr, Option, option_map, Some, None, refl, sym, ap, subst, ◌∙◌}
-use Rattle.std.specs.Prelude.{slice_get}
-use Rattle.std.specs.Option.{option_and_then}
-use Rattle.oat_ir.specs.declared.program.Program.{Program}
-use Rattle.oat_ir.specs.declared.func.Func.{Func}
-use Rattle.oat_ir.specs.declared.func.Role.{Role}
-use Rattle.oat_ir.specs.declared.func.Role.TheVariants.{Plain, Operation, Main}
-use Rattle.oat_check.specs.Active.{active_in, line_turn, with_call}
-use Rattle.oat_check.specs.Keeping.{AreCallers, MayCall, OperationsAreLow, role_at}
-use Rattle.oat_check.specs.Steps.{Frame, LineEdge, LinePlace, line_place, operation_number, operation_of, returns, shows}
-use Rattle.oat_events.specs.Cells.{Cells}
-use Rattle.oat_events.specs.Events.{Active, Passes, SourceEvent, Stacks, enters, leaves, takes}
-use Rattle.oat_map.specs.Turns.{Turn, Turned, pushes, stays}
+use Rattle.std.specs.{Prelude.slice_get, Option.option_and_then}
+use Rattle.oat_events.specs.{Cells.Cells, Events.Active, Events.Passes, Events.SourceEvent, Events.Stacks, Events.enters, Events.leaves, Events.takes, Turn, Turned, pushes, stays}
+use Rattle.oat_ir.specs.{declared.program.Program.Program, declared.func.Func.Func, declared.func.Role.Role, declared.func.Role.TheVariants.Plain, declared.func.Role.TheVariants.Operation}
+use Rattle.oat_ir.specs.{declared.func.Role.TheVariants.Main}
+use Rattle.oat_check.specs.{Active.active_in, Active.line_turn, Active.with_call, Keeping.AreCallers, Keeping.MayCall, Keeping.OperationsAreLow, Keeping.role_at, Steps.Frame, Steps.LineEdge}
+use Rattle.oat_check.specs.{Steps.LinePlace, Steps.line_place, Steps.operation_number, Steps.operation_of, Steps.returns, Steps.shows}
 
 abbrev pub op_of : Option (Active LinePlace) → Option ℕ
 op_of a = option_map (λ active. active.op) a

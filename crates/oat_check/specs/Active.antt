@@ -1,12 +1,9 @@
 -- What is active in a state, read off its frames: the operation, the calls that are open above it, and what the cells hold.
-use Rattle.std.specs.Prelude.{ℕ, List, [], ◌∷◌, ◌++◌, Option, None}
-use Rattle.std.specs.Option.{option_map}
-use Rattle.oat_map.specs.Turns.{Turn, pushes, pops, stays}
+use Rattle.std.specs.{Prelude.ℕ, Prelude.List, Prelude.[], Prelude.◌∷◌, Prelude.◌++◌, Prelude.Option, Prelude.None, Option.option_map}
+use Rattle.oat_events.specs.{Turn, pushes, pops, stays, Cells.Cells, Events.Active}
 use Rattle.oat_ir.specs.declared.program.Program.{Program}
-use Rattle.oat_events.specs.Cells.{Cells}
-use Rattle.oat_events.specs.Events.{Active}
-use Rattle.oat_check.specs.Globals.{first_values, cell_values}
-use Rattle.oat_check.specs.Steps.{LinePlace, LineEdge, calls, icalls, returns, Frame, SourceState, line_place, operation_of}
+use Rattle.oat_check.specs.{Globals.first_values, Globals.cell_values, Steps.LinePlace, Steps.LineEdge, Steps.calls, Steps.icalls, Steps.returns, Steps.Frame, Steps.SourceState, Steps.line_place}
+use Rattle.oat_check.specs.{Steps.operation_of}
 
 -- calls are told apart by their lines
 abbrev pub line_turn : LineEdge → Turn LinePlace

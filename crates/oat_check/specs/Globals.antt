@@ -1,10 +1,9 @@
 -- The globals of a program: their words and cells, and what they hold at the start (docs/FORMATS.md, "Program text"). A scalar has one element, of number 0.
-use Rattle.std.specs.Prelude.{ℕ, suc, ◌+◌, ◌-◌, nat_lt, nat_eq, ◌&&◌, if◌then◌else◌, List, [], ◌∷◌, ◌++◌, map, take, slice_get, Option, Some, None}
-use Rattle.std.specs.List.{sum_by, range_with_len}
-use Rattle.oat_ir.specs.declared.program.Program.{Program}
-use Rattle.oat_ir.specs.declared.program.GlobalItem.{GlobalItem}
-use Rattle.oat_ir.specs.declared.program.GlobalItem.TheVariants.{Scalar, FnScalar, Array, CriticalArray}
+use Rattle.std.specs.{Prelude.ℕ, Prelude.suc, Prelude.◌+◌, Prelude.◌-◌, Prelude.nat_lt, Prelude.nat_eq, Prelude.◌&&◌, Prelude.if◌then◌else◌, Prelude.List, Prelude.[], Prelude.◌∷◌, Prelude.◌++◌}
+use Rattle.std.specs.{Prelude.map, Prelude.take, Prelude.slice_get, Prelude.Option, Prelude.Some, Prelude.None, List.sum_by, List.range_with_len}
 use Rattle.oat_events.specs.Cells.{Cells}
+use Rattle.oat_ir.specs.{declared.program.Program.Program, declared.program.GlobalItem.GlobalItem, declared.program.GlobalItem.TheVariants.Scalar, declared.program.GlobalItem.TheVariants.FnScalar}
+use Rattle.oat_ir.specs.{declared.program.GlobalItem.TheVariants.Array, declared.program.GlobalItem.TheVariants.CriticalArray}
 use Rattle.oat_check.specs.Operators.{number}
 
 -- how many words a global takes

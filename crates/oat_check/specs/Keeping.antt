@@ -1,26 +1,14 @@
 -- What the runs of a checked program keep from step to step: places, types, frames, and the two rules of events.
-use Rattle.std.specs.Prelude.{◌≡◌, ℕ, ◌-◌, ◌^◌, ◌<◌, ◌≤◌, ◌⊎◌, Bool, true, false, nat_eq, nat_lt, ◌&&◌, if◌then◌else◌, List, [], ◌∷◌, length, slice_get, Option, Some, None, ℤ}
-use Rattle.std.specs.Option.{option_map}
-use Rattle.std.specs.List.{list_any}
-use Rattle.oat_ir.specs.declared.program.Program.{Program}
-use Rattle.oat_ir.specs.declared.program.GlobalItem.{GlobalItem}
-use Rattle.oat_ir.specs.declared.program.GlobalItem.TheVariants.{FnScalar}
-use Rattle.oat_ir.specs.declared.func.Func.{Func}
-use Rattle.oat_ir.specs.declared.func.Role.{Role}
-use Rattle.oat_ir.specs.declared.func.Role.TheVariants.{Plain, Operation, Main}
-use Rattle.oat_ir.specs.declared.func.Ty.{Ty}
-use Rattle.oat_ir.specs.declared.func.Ty.TheVariants.{I64, Fn}
-use Rattle.oat_ir.specs.declared.func.BlockIr.{BlockIr}
-use Rattle.oat_ir.specs.declared.instr.Instr.{Instr}
-use Rattle.oat_ir.specs.declared.instr.Instr.TheVariants.{RefTo}
-use Rattle.oat_ir.specs.declared.instr.Term.TheVariants.{Ret}
+use Rattle.std.specs.{Prelude.◌≡◌, Prelude.ℕ, Prelude.◌-◌, Prelude.◌^◌, Prelude.◌<◌, Prelude.◌≤◌, Prelude.◌⊎◌, Prelude.Bool, Prelude.true, Prelude.false, Prelude.nat_eq, Prelude.nat_lt, Prelude.◌&&◌}
+use Rattle.std.specs.{Prelude.if◌then◌else◌, Prelude.List, Prelude.[], Prelude.◌∷◌, Prelude.length, Prelude.slice_get, Prelude.Option, Prelude.Some, Prelude.None, Prelude.ℤ, Option.option_map}
+use Rattle.std.specs.{List.list_any}
 use Rattle.oat_events.specs.Events.{Passes, Stacks}
-use Rattle.oat_check.specs.Active.{line_turn, active_of, operation_active, cells_at}
-use Rattle.oat_check.specs.Globals.{Values, size_in_words, word_values}
-use Rattle.oat_check.specs.Lines.{CodeLine, terminator, is_calling}
-use Rattle.oat_check.specs.Rules.{IsChecked, is_func, local_ty, parameters, takes_numbers}
-use Rattle.oat_check.specs.Runs.{source_start}
-use Rattle.oat_check.specs.Steps.{Frame, SourceState, Next, current_line, source_step}
+use Rattle.oat_ir.specs.{declared.program.Program.Program, declared.program.GlobalItem.GlobalItem, declared.program.GlobalItem.TheVariants.FnScalar, declared.func.Func.Func, declared.func.Role.Role}
+use Rattle.oat_ir.specs.{declared.func.Role.TheVariants.Plain, declared.func.Role.TheVariants.Operation, declared.func.Role.TheVariants.Main, declared.func.Ty.Ty, declared.func.Ty.TheVariants.I64}
+use Rattle.oat_ir.specs.{declared.func.Ty.TheVariants.Fn, declared.func.BlockIr.BlockIr, declared.instr.Instr.Instr, declared.instr.Instr.TheVariants.RefTo, declared.instr.Term.TheVariants.Ret}
+use Rattle.oat_check.specs.{Active.line_turn, Active.active_of, Active.operation_active, Active.cells_at, Globals.Values, Globals.size_in_words, Globals.word_values, Lines.CodeLine, Lines.terminator}
+use Rattle.oat_check.specs.{Lines.is_calling, Rules.IsChecked, Rules.is_func, Rules.local_ty, Rules.parameters, Rules.takes_numbers, Runs.source_start, Steps.Frame, Steps.SourceState, Steps.Next}
+use Rattle.oat_check.specs.{Steps.current_line, Steps.source_step}
 
 -- ---- values
 

@@ -1,10 +1,7 @@
 -- The lines of a block: its instructions, and behind them its terminator.
-use Rattle.std.specs.Prelude.{ℕ, Bool, true, false, nat_eq, nat_lt, if◌then◌else◌, length, slice_get, Option, Some, None}
-use Rattle.std.specs.Option.{option_map}
-use Rattle.oat_ir.specs.declared.func.BlockIr.{BlockIr}
-use Rattle.oat_ir.specs.declared.instr.Instr.{Instr}
-use Rattle.oat_ir.specs.declared.instr.Instr.TheVariants.{Call, ICall}
-use Rattle.oat_ir.specs.declared.instr.Term.{Term}
+use Rattle.std.specs.{Prelude.ℕ, Prelude.Bool, Prelude.true, Prelude.false, Prelude.nat_eq, Prelude.nat_lt, Prelude.if◌then◌else◌, Prelude.length, Prelude.slice_get, Prelude.Option, Prelude.Some}
+use Rattle.std.specs.{Prelude.None, Option.option_map}
+use Rattle.oat_ir.specs.{declared.func.BlockIr.BlockIr, declared.instr.Instr.Instr, declared.instr.Instr.TheVariants.Call, declared.instr.Instr.TheVariants.ICall, declared.instr.Term.Term}
 
 pub data CodeLine : Type 0 where
   instruction : Instr → CodeLine

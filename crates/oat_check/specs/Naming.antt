@@ -1,15 +1,11 @@
 -- How the edges of a run are written, by numbers of functions and blocks, and how they are named.
-use Rattle.std.specs.Prelude.{ℕ, List, [], take, slice_get, count_by, Option, Some, None}
-use Rattle.std.specs.Option.{option_map, option_and_then, unwrap_or}
-use Rattle.oat_map.specs.EdgeName.{EdgeName, PlaceName, Site}
-use Rattle.oat_map.specs.EdgeName as name
-use Rattle.oat_ir.specs.declared.program.Program.{Program}
-use Rattle.oat_ir.specs.declared.source.SourceSite.{SourceSite}
-use Rattle.oat_ir.specs.declared.source.SourceEdge.{SourceEdge}
+use Rattle.std.specs.{Prelude.ℕ, Prelude.List, Prelude.[], Prelude.take, Prelude.slice_get, Prelude.count_by, Prelude.Option, Prelude.Some, Prelude.None, Option.option_map, Option.option_and_then}
+use Rattle.std.specs.{Option.unwrap_or}
+use Rattle.oat_events.specs.{EdgeName, PlaceName, Site}
+use Rattle.oat_ir.specs.{declared.program.Program.Program, declared.source.SourceSite.SourceSite, declared.source.SourceEdge.SourceEdge, declared.instr.Instr.Instr}
+use Rattle.oat_check.specs.{Lines.is_calling, Steps.LinePlace, Steps.LineEdge, Steps.jumps, Steps.branches, Steps.calls, Steps.icalls, Steps.returns, Steps.finishes}
+use Rattle.oat_events.specs.name as name
 use Rattle.oat_ir.specs.declared.source.SourceEdge.TheVariants as edges
-use Rattle.oat_ir.specs.declared.instr.Instr.{Instr}
-use Rattle.oat_check.specs.Lines.{is_calling}
-use Rattle.oat_check.specs.Steps.{LinePlace, LineEdge, jumps, branches, calls, icalls, returns, finishes}
 
 abbrev pub instrs_of : Program → ℕ → ℕ → List Instr
 instrs_of p f b = unwrap_or (option_and_then (λ func. option_map (λ block. block.instrs) (slice_get func.blocks b)) (slice_get p.funcs f)) []

@@ -1,8 +1,11 @@
 -- Numbers of a program, and what its operations make of them (docs/FORMATS.md, "Program text"). A number stands for the integer of 64 bits that it is in two's complement.
 use Rattle.std.specs.Prelude.{ℕ, ◌+◌, ◌*◌, ◌%◌, Bool, not, nat_eq, nat_lt, nat_le, if◌then◌else◌, Option, Some, None, ℤ, int_lt, int_le, bit_and, bit_or, bit_xor}
 use Rattle.oat_bits.specs.Words.{wrap, difference, signed, unsigned, unsigned_quotient, unsigned_remainder, signed_quotient, signed_remainder, shifted_left, shifted_right, shifted_right_signed}
-use Rattle.oat_ir.specs.declared.instr.BinOp.{BinOp}
-use Rattle.oat_ir.specs.declared.instr.BinOp.TheVariants.{Add, Sub, Mul, And, Or, Xor, Shl, Shr, Sar, Eq, Ne, Lt, Le, Ltu, Leu, Div, Rem, Divu, Remu}
+use Rattle.oat_ir.specs.{declared.instr.BinOp.BinOp, declared.instr.BinOp.TheVariants.Add, declared.instr.BinOp.TheVariants.Sub, declared.instr.BinOp.TheVariants.Mul}
+use Rattle.oat_ir.specs.{declared.instr.BinOp.TheVariants.And, declared.instr.BinOp.TheVariants.Or, declared.instr.BinOp.TheVariants.Xor, declared.instr.BinOp.TheVariants.Shl}
+use Rattle.oat_ir.specs.{declared.instr.BinOp.TheVariants.Shr, declared.instr.BinOp.TheVariants.Sar, declared.instr.BinOp.TheVariants.Eq, declared.instr.BinOp.TheVariants.Ne}
+use Rattle.oat_ir.specs.{declared.instr.BinOp.TheVariants.Lt, declared.instr.BinOp.TheVariants.Le, declared.instr.BinOp.TheVariants.Ltu, declared.instr.BinOp.TheVariants.Leu}
+use Rattle.oat_ir.specs.{declared.instr.BinOp.TheVariants.Div, declared.instr.BinOp.TheVariants.Rem, declared.instr.BinOp.TheVariants.Divu, declared.instr.BinOp.TheVariants.Remu}
 
 -- an integer of the program or of its inputs; one of more bits wraps
 abbrev pub number : ℤ → ℕ

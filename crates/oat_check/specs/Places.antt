@@ -1,8 +1,6 @@
 -- Programs whose functions, blocks and lines have numbers of 32 bits, so that a fault can tell them. Each well-formed program is one.
 use Rattle.std.specs.Prelude.{◌<◌, ◌^◌, length, All}
-use Rattle.oat_ir.specs.declared.program.Program.{Program}
-use Rattle.oat_ir.specs.declared.func.Func.{Func}
-use Rattle.oat_ir.specs.declared.func.BlockIr.{BlockIr}
+use Rattle.oat_ir.specs.{declared.program.Program.Program, declared.func.Func.Func, declared.func.BlockIr.BlockIr}
 
 abbrev pub HasLines : BlockIr → Type 0
 HasLines b = length b.instrs < 2 ^ 32

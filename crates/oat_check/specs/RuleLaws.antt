@@ -1,15 +1,11 @@
 -- The checking rules without an order, and that a fault stands where it says.
-use Rattle.std.specs.Prelude.{◌≡◌, ◌↔◌, ◌<◌, ◌≤◌, ◌⊎◌, ℕ, true, false, length, slice_get, All, Some, None}
-use Rattle.std.specs.List.{sum_by, list_any}
-use Rattle.oat_ir.specs.declared.program.Program.{Program}
-use Rattle.oat_ir.specs.declared.func.Func.{Func}
-use Rattle.oat_ir.specs.declared.func.BlockIr.{BlockIr}
-use Rattle.oat_check.specs.declared.fault.CheckKind.{CheckKind}
-use Rattle.oat_check.specs.declared.fault.CheckKind.TheVariants.{NoMain, GlobalWords, Locals, NoEnd}
-use Rattle.oat_check.specs.declared.fault.CheckFault.TheVariants.{At}
-use Rattle.oat_check.specs.Globals.{size_in_words}
-use Rattle.oat_check.specs.Lines.{CodeLine, instruction, terminator, line_in}
-use Rattle.oat_check.specs.Rules.{broken_by, is_main, calls_main, calls_operation, refers_amiss, counts_amiss, has_types, returns_from_main, never_ends, first_fault, IsChecked}
+use Rattle.std.specs.{Prelude.◌≡◌, Prelude.◌↔◌, Prelude.◌<◌, Prelude.◌≤◌, Prelude.◌⊎◌, Prelude.ℕ, Prelude.true, Prelude.false, Prelude.length, Prelude.slice_get, Prelude.All, Prelude.Some}
+use Rattle.std.specs.{Prelude.None, List.sum_by, List.list_any}
+use Rattle.oat_ir.specs.{declared.program.Program.Program, declared.func.Func.Func, declared.func.BlockIr.BlockIr}
+use Rattle.oat_check.specs.{declared.fault.CheckKind.CheckKind, declared.fault.CheckKind.TheVariants.NoMain, declared.fault.CheckKind.TheVariants.GlobalWords}
+use Rattle.oat_check.specs.{declared.fault.CheckKind.TheVariants.Locals, declared.fault.CheckKind.TheVariants.NoEnd, declared.fault.CheckFault.TheVariants.At, Globals.size_in_words, Lines.CodeLine}
+use Rattle.oat_check.specs.{Lines.instruction, Lines.terminator, Lines.line_in, Rules.broken_by, Rules.is_main, Rules.calls_main, Rules.calls_operation, Rules.refers_amiss, Rules.counts_amiss}
+use Rattle.oat_check.specs.{Rules.has_types, Rules.returns_from_main, Rules.never_ends, Rules.first_fault, Rules.IsChecked}
 
 -- a line of function f
 pub record IsAllowed (p : Program) (f : Func) (line : CodeLine) : Type 0 where

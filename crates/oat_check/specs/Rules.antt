@@ -1,27 +1,21 @@
 -- The checking rules, and the first that a program breaks, with its place (docs/FORMATS.md, "Checking").
-use Rattle.std.specs.Prelude.{◌≡◌, ℕ, suc, Bool, true, false, not, ◌&&◌, ◌||◌, nat_eq, nat_lt, if◌then◌else◌, List, [], ◌∷◌, length, take, slice_get, Option, Some, None}
-use Rattle.std.specs.Option.{option_map, option_or}
-use Rattle.std.specs.List.{sum_by, list_any, list_all, zip}
-use Rattle.oat_ir.specs.declared.program.Program.{Program}
-use Rattle.oat_ir.specs.declared.program.GlobalItem.{GlobalItem}
-use Rattle.oat_ir.specs.declared.program.GlobalItem.TheVariants.{Scalar, FnScalar, Array, CriticalArray}
-use Rattle.oat_ir.specs.declared.func.Func.{Func}
-use Rattle.oat_ir.specs.declared.func.Role.{Role}
-use Rattle.oat_ir.specs.declared.func.Role.TheVariants.{Operation, Main}
-use Rattle.oat_ir.specs.declared.func.Ty.{Ty}
-use Rattle.oat_ir.specs.declared.func.Ty.TheVariants.{I64, Fn}
-use Rattle.oat_ir.specs.declared.func.Local.{Local}
-use Rattle.oat_ir.specs.declared.func.BlockIr.{BlockIr}
-use Rattle.oat_ir.specs.declared.instr.Instr.TheVariants.{Const, Copy, Binary, Load, Store, LoadX, StoreX, RefTo, Call, ICall, Input, Output}
-use Rattle.oat_ir.specs.declared.instr.Term.{Term}
-use Rattle.oat_ir.specs.declared.instr.Term.TheVariants.{Branch, Ret}
-use Rattle.oat_ir.specs.WellFormed.{IsProgram}
-use Rattle.oat_check.specs.declared.fault.CheckKind.{CheckKind}
-use Rattle.oat_check.specs.declared.fault.CheckKind.TheVariants.{NoMain, GlobalWords, Locals, NoEnd, CallsMain, OperationCall, RefKind, Arity, Kind, MainRet}
-use Rattle.oat_check.specs.declared.fault.CheckFault.{CheckFault}
+use Rattle.std.specs.{Prelude.◌≡◌, Prelude.ℕ, Prelude.suc, Prelude.Bool, Prelude.true, Prelude.false, Prelude.not, Prelude.◌&&◌, Prelude.◌||◌, Prelude.nat_eq, Prelude.nat_lt, Prelude.if◌then◌else◌}
+use Rattle.std.specs.{Prelude.List, Prelude.[], Prelude.◌∷◌, Prelude.length, Prelude.take, Prelude.slice_get, Prelude.Option, Prelude.Some, Prelude.None, Option.option_map, Option.option_or}
+use Rattle.std.specs.{List.sum_by, List.list_any, List.list_all, List.zip}
+use Rattle.oat_ir.specs.{declared.program.Program.Program, declared.program.GlobalItem.GlobalItem, declared.program.GlobalItem.TheVariants.Scalar, declared.program.GlobalItem.TheVariants.FnScalar}
+use Rattle.oat_ir.specs.{declared.program.GlobalItem.TheVariants.Array, declared.program.GlobalItem.TheVariants.CriticalArray, declared.func.Func.Func, declared.func.Role.Role}
+use Rattle.oat_ir.specs.{declared.func.Role.TheVariants.Operation, declared.func.Role.TheVariants.Main, declared.func.Ty.Ty, declared.func.Ty.TheVariants.I64, declared.func.Ty.TheVariants.Fn}
+use Rattle.oat_ir.specs.{declared.func.Local.Local, declared.func.BlockIr.BlockIr, declared.instr.Instr.TheVariants.Const, declared.instr.Instr.TheVariants.Copy}
+use Rattle.oat_ir.specs.{declared.instr.Instr.TheVariants.Binary, declared.instr.Instr.TheVariants.Load, declared.instr.Instr.TheVariants.Store, declared.instr.Instr.TheVariants.LoadX}
+use Rattle.oat_ir.specs.{declared.instr.Instr.TheVariants.StoreX, declared.instr.Instr.TheVariants.RefTo, declared.instr.Instr.TheVariants.Call, declared.instr.Instr.TheVariants.ICall}
+use Rattle.oat_ir.specs.{declared.instr.Instr.TheVariants.Input, declared.instr.Instr.TheVariants.Output, declared.instr.Term.Term, declared.instr.Term.TheVariants.Branch}
+use Rattle.oat_ir.specs.{declared.instr.Term.TheVariants.Ret, WellFormed.IsProgram}
+use Rattle.oat_check.specs.{declared.fault.CheckKind.CheckKind, declared.fault.CheckKind.TheVariants.NoMain, declared.fault.CheckKind.TheVariants.GlobalWords}
+use Rattle.oat_check.specs.{declared.fault.CheckKind.TheVariants.Locals, declared.fault.CheckKind.TheVariants.NoEnd, declared.fault.CheckKind.TheVariants.CallsMain}
+use Rattle.oat_check.specs.{declared.fault.CheckKind.TheVariants.OperationCall, declared.fault.CheckKind.TheVariants.RefKind, declared.fault.CheckKind.TheVariants.Arity}
+use Rattle.oat_check.specs.{declared.fault.CheckKind.TheVariants.Kind, declared.fault.CheckKind.TheVariants.MainRet, declared.fault.CheckFault.CheckFault, Lines.CodeLine, Lines.instruction}
+use Rattle.oat_check.specs.{Lines.terminator, Globals.size_in_words}
 use Rattle.oat_check.specs.declared.fault.CheckFault.TheVariants as fault
-use Rattle.oat_check.specs.Lines.{CodeLine, instruction, terminator}
-use Rattle.oat_check.specs.Globals.{size_in_words}
 
 -- ---- what is asked of functions, locals and globals
 

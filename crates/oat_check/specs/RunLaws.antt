@@ -1,18 +1,12 @@
 -- Laws of source runs, for every list of inputs and every number of steps.
-use Rattle.std.specs.Prelude.{◌≡◌, ◌+◌, ◌<◌, ◌≤◌, ℕ, true, nat_lt, if◌then◌else◌, List, [], length, slice_get, Some, None, ℤ}
-use Rattle.std.specs.Option.{option_and_then}
-use Rattle.oat_map.specs.Turns.{GoesBack}
-use Rattle.oat_ir.specs.declared.program.Program.{Program}
-use Rattle.oat_ir.specs.declared.program.GlobalItem.{GlobalItem}
-use Rattle.oat_events.specs.Cells.{defined}
-use Rattle.oat_events.specs.Cuts.{cut_up}
-use Rattle.oat_events.specs.Events.{Passes, Stacks, is_entered, is_left}
-use Rattle.oat_events.specs.Source.{Finish, has_completed, calls_done, stretch, path_of_call, loads_of_call, outputs_of}
-use Rattle.oat_check.specs.Active.{line_turn, active_of, operation_active, cells_at, first_cells}
-use Rattle.oat_check.specs.Globals.{Values, put, element_number, element_values, word_number, cell_number, cell_words, word_values, cell_values}
-use Rattle.oat_check.specs.Keeping.{IsConsistent}
-use Rattle.oat_check.specs.Rules.{IsChecked}
-use Rattle.oat_check.specs.Runs.{source_of, source_run, source_events}
+use Rattle.std.specs.{Prelude.◌≡◌, Prelude.◌+◌, Prelude.◌<◌, Prelude.◌≤◌, Prelude.ℕ, Prelude.true, Prelude.nat_lt, Prelude.if◌then◌else◌, Prelude.List, Prelude.[], Prelude.length, Prelude.slice_get}
+use Rattle.std.specs.{Prelude.Some, Prelude.None, Prelude.ℤ, Option.option_and_then}
+use Rattle.oat_events.specs.{GoesBack, Cells.defined, Cuts.cut_up, Events.Passes, Events.Stacks, Events.is_entered, Events.is_left, Source.Finish, Source.has_completed, Source.calls_done}
+use Rattle.oat_events.specs.{Source.stretch, Source.path_of_call, Source.loads_of_call, Source.outputs_of}
+use Rattle.oat_ir.specs.{declared.program.Program.Program, declared.program.GlobalItem.GlobalItem}
+use Rattle.oat_check.specs.{Active.line_turn, Active.active_of, Active.operation_active, Active.cells_at, Active.first_cells, Globals.Values, Globals.put, Globals.element_number}
+use Rattle.oat_check.specs.{Globals.element_values, Globals.word_number, Globals.cell_number, Globals.cell_words, Globals.word_values, Globals.cell_values, Keeping.IsConsistent, Rules.IsChecked}
+use Rattle.oat_check.specs.{Runs.source_of, Runs.source_run, Runs.source_events}
 
 -- a run that has ended stays as it is, and shows nothing more; of any program
 abbrev pub EndedRunsStay : Type 0

@@ -1,13 +1,8 @@
 -- The source run: a program with its inputs is a source, so its events, end, outputs, paths and loads are a source's.
 use Rattle.std.specs.Prelude.{ℕ, suc, if◌then◌else◌, List, [], ◌∷◌, None, ℤ}
-use Rattle.oat_ir.specs.declared.program.Program.{Program}
-use Rattle.oat_ir.specs.declared.func.Func.{Func}
-use Rattle.oat_events.specs.Events.{SourceEvent}
-use Rattle.oat_events.specs.Source.{SourceMachine, state_after, events_after}
-use Rattle.oat_check.specs.Globals.{first_values}
-use Rattle.oat_check.specs.Rules.{is_main}
-use Rattle.oat_check.specs.Naming.{line_edge_name}
-use Rattle.oat_check.specs.Steps.{LineEdge, finishes, SourceState, source_step}
+use Rattle.oat_events.specs.{Events.SourceEvent, Source.SourceMachine, Source.state_after, Source.events_after}
+use Rattle.oat_ir.specs.{declared.program.Program.Program, declared.func.Func.Func}
+use Rattle.oat_check.specs.{Globals.first_values, Rules.is_main, Naming.line_edge_name, Steps.LineEdge, Steps.finishes, Steps.SourceState, Steps.source_step}
 
 -- the number of the main function
 abbrev pub main_number : List Func → ℕ

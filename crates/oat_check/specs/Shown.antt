@@ -1,14 +1,10 @@
 -- What a source run shows after n steps: how it ends, its outputs, and of each call of an operation its path and its critical loads.
 use Rattle.std.specs.Prelude.{ℕ, ℤ, List, Option, Some, None, map}
 use Rattle.oat_bits.specs.Words.{signed}
-use Rattle.oat_ir.specs.declared.program.Program.{Program}
-use Rattle.oat_ir.specs.declared.source.CriticalLoad.{CriticalLoad}
-use Rattle.oat_ir.specs.declared.source.SourceEdge.{SourceEdge}
-use Rattle.oat_ir.specs.declared.source.SourceEnd.{SourceEnd}
-use Rattle.oat_ir.specs.declared.source.SourceEnd.TheVariants.{Halted, Trap, OutOfSteps}
 use Rattle.oat_events.specs.Source.{Finish, halted, trapped, CellValue, outputs_of, path_of_call, loads_of_call}
-use Rattle.oat_check.specs.Naming.{written_edge}
-use Rattle.oat_check.specs.Runs.{source_of, source_run, source_events}
+use Rattle.oat_ir.specs.{declared.program.Program.Program, declared.source.CriticalLoad.CriticalLoad, declared.source.SourceEdge.SourceEdge, declared.source.SourceEnd.SourceEnd}
+use Rattle.oat_ir.specs.{declared.source.SourceEnd.TheVariants.Halted, declared.source.SourceEnd.TheVariants.Trap, declared.source.SourceEnd.TheVariants.OutOfSteps}
+use Rattle.oat_check.specs.{Naming.written_edge, Runs.source_of, Runs.source_run, Runs.source_events}
 
 -- a run that hasn't ended is out of steps
 abbrev pub written_end : Option Finish → SourceEnd

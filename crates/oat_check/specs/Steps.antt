@@ -1,24 +1,19 @@
 -- The source step: one row for each line of the language, and the events that it shows (docs/FORMATS.md, "Program text").
 --
 -- A value is a number below 2^64. A reference of function f is f + 1, and null is 0.
-use Rattle.std.specs.Prelude.{ℕ, ◌+◌, ◌-◌, Bool, true, false, nat_eq, nat_lt, nat_le, if◌then◌else◌, List, [], ◌∷◌, ◌++◌, length, map, get_or, slice_get, Option, Some, None, is_some, ℤ}
-use Rattle.std.specs.Option.{option_and_then}
+use Rattle.std.specs.{Prelude.ℕ, Prelude.◌+◌, Prelude.◌-◌, Prelude.Bool, Prelude.true, Prelude.false, Prelude.nat_eq, Prelude.nat_lt, Prelude.nat_le, Prelude.if◌then◌else◌, Prelude.List, Prelude.[]}
+use Rattle.std.specs.{Prelude.◌∷◌, Prelude.◌++◌, Prelude.length, Prelude.map, Prelude.get_or, Prelude.slice_get, Prelude.Option, Prelude.Some, Prelude.None, Prelude.is_some, Prelude.ℤ}
+use Rattle.std.specs.{Option.option_and_then}
 use Rattle.oat_bits.specs.Words.{signed}
-use Rattle.oat_map.specs.declared.trap.TrapKind.{TrapKind}
-use Rattle.oat_map.specs.declared.trap.TrapKind.TheVariants.{DivZero, Index, NullCall, Depth, InputEnd}
-use Rattle.oat_ir.specs.declared.program.Program.{Program}
-use Rattle.oat_ir.specs.declared.func.Role.{Role}
-use Rattle.oat_ir.specs.declared.func.Role.TheVariants.{Operation}
-use Rattle.oat_ir.specs.declared.instr.Instr.{Instr}
-use Rattle.oat_ir.specs.declared.instr.Instr.TheVariants.{Const, Copy, Binary, Load, Store, LoadX, StoreX, RefTo, Call, ICall, Input, Output}
-use Rattle.oat_ir.specs.declared.instr.Term.{Term}
-use Rattle.oat_ir.specs.declared.instr.Term.TheVariants.{Jump, Branch, Ret, Halt}
+use Rattle.oat_events.specs.{TrapKind, DivZero, Index, NullCall, Depth, InputEnd, Events.SourceEvent, Source.Finish, Source.halted, Source.trapped}
+use Rattle.oat_ir.specs.{declared.program.Program.Program, declared.func.Role.Role, declared.func.Role.TheVariants.Operation, declared.instr.Instr.Instr, declared.instr.Instr.TheVariants.Const}
+use Rattle.oat_ir.specs.{declared.instr.Instr.TheVariants.Copy, declared.instr.Instr.TheVariants.Binary, declared.instr.Instr.TheVariants.Load, declared.instr.Instr.TheVariants.Store}
+use Rattle.oat_ir.specs.{declared.instr.Instr.TheVariants.LoadX, declared.instr.Instr.TheVariants.StoreX, declared.instr.Instr.TheVariants.RefTo, declared.instr.Instr.TheVariants.Call}
+use Rattle.oat_ir.specs.{declared.instr.Instr.TheVariants.ICall, declared.instr.Instr.TheVariants.Input, declared.instr.Instr.TheVariants.Output, declared.instr.Term.Term}
+use Rattle.oat_ir.specs.{declared.instr.Term.TheVariants.Jump, declared.instr.Term.TheVariants.Branch, declared.instr.Term.TheVariants.Ret, declared.instr.Term.TheVariants.Halt}
+use Rattle.oat_check.specs.{Globals.Values, Globals.put, Globals.length_at, Globals.cell_number, Lines.CodeLine, Lines.instruction, Lines.terminator, Lines.line_in, Operators.number}
+use Rattle.oat_check.specs.{Operators.result_of}
 use Rattle.oat_events.specs.Events as event
-use Rattle.oat_events.specs.Events.{SourceEvent}
-use Rattle.oat_events.specs.Source.{Finish, halted, trapped}
-use Rattle.oat_check.specs.Globals.{Values, put, length_at, cell_number}
-use Rattle.oat_check.specs.Lines.{CodeLine, instruction, terminator, line_in}
-use Rattle.oat_check.specs.Operators.{number, result_of}
 
 -- ---- places, edges, states
 

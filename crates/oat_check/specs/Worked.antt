@@ -1,26 +1,24 @@
 -- The definitions computed on the worked programs: what their runs show, and which rules they break.
 use Rattle.std.specs.Prelude.{◌≡◌, ℕ, ◌-◌, ◌^◌, Bool, true, false, List, [], ◌∷◌, ◌++◌, map, Option, Some, None, ℤ, pos, codes}
-use Rattle.oat_map.specs.EdgeName.{EdgeName, PlaceName, Site}
-use Rattle.oat_map.specs.EdgeName as name
-use Rattle.oat_map.specs.declared.trap.TrapKind.TheVariants.{Index, Depth}
-use Rattle.oat_ir.specs.declared.program.Program.{Program}
-use Rattle.oat_ir.specs.declared.program.GlobalItem.TheVariants.{Scalar, Array}
-use Rattle.oat_ir.specs.declared.func.Role.TheVariants.{Plain, Operation}
-use Rattle.oat_ir.specs.declared.instr.BinOp.{BinOp}
-use Rattle.oat_ir.specs.declared.instr.BinOp.TheVariants.{Add, Sub, Mul, And, Or, Xor, Shl, Shr, Sar, Eq, Ne, Lt, Le, Ltu, Leu, Div, Rem, Divu, Remu}
-use Rattle.oat_ir.specs.declared.instr.Instr.{Instr}
-use Rattle.oat_ir.specs.declared.instr.Instr.TheVariants.{Const, Copy, Load, Store, LoadX, StoreX, RefTo, Call, ICall, Output}
-use Rattle.oat_ir.specs.declared.instr.Term.TheVariants.{Ret, Halt}
-use Rattle.oat_ir.specs.WorkedPrograms.{idle_program, loop_program}
-use Rattle.oat_events.specs.Source.{Finish, halted, trapped, CellValue, path_of_call, loads_of_call, outputs_of, calls_done, has_completed, stores_up_to_call}
-use Rattle.oat_check.specs.declared.fault.CheckKind.{CheckKind}
-use Rattle.oat_check.specs.declared.fault.CheckKind.TheVariants.{NoMain, GlobalWords, NoEnd, CallsMain, OperationCall, RefKind, Arity, Kind, MainRet}
-use Rattle.oat_check.specs.declared.fault.CheckFault.TheVariants.{At}
-use Rattle.oat_check.specs.Naming.{line_edge_name}
-use Rattle.oat_check.specs.Operators.{result_of}
-use Rattle.oat_check.specs.Rules.{first_fault}
-use Rattle.oat_check.specs.Runs.{source_of, source_run, source_events}
-use Rattle.oat_check.specs.WorkedPrograms.{idle_twice, element_program, deep_program, line_program, number_func, code_block}
+use Rattle.oat_events.specs.{EdgeName, PlaceName, Site, Index, Depth, Source.Finish, Source.halted, Source.trapped, Source.CellValue, Source.path_of_call, Source.loads_of_call, Source.outputs_of}
+use Rattle.oat_events.specs.{Source.calls_done, Source.has_completed, Source.stores_up_to_call}
+use Rattle.oat_ir.specs.{declared.program.Program.Program, declared.program.GlobalItem.TheVariants.Scalar, declared.program.GlobalItem.TheVariants.Array, declared.func.Role.TheVariants.Plain}
+use Rattle.oat_ir.specs.{declared.func.Role.TheVariants.Operation, declared.instr.BinOp.BinOp, declared.instr.BinOp.TheVariants.Add, declared.instr.BinOp.TheVariants.Sub}
+use Rattle.oat_ir.specs.{declared.instr.BinOp.TheVariants.Mul, declared.instr.BinOp.TheVariants.And, declared.instr.BinOp.TheVariants.Or, declared.instr.BinOp.TheVariants.Xor}
+use Rattle.oat_ir.specs.{declared.instr.BinOp.TheVariants.Shl, declared.instr.BinOp.TheVariants.Shr, declared.instr.BinOp.TheVariants.Sar, declared.instr.BinOp.TheVariants.Eq}
+use Rattle.oat_ir.specs.{declared.instr.BinOp.TheVariants.Ne, declared.instr.BinOp.TheVariants.Lt, declared.instr.BinOp.TheVariants.Le, declared.instr.BinOp.TheVariants.Ltu}
+use Rattle.oat_ir.specs.{declared.instr.BinOp.TheVariants.Leu, declared.instr.BinOp.TheVariants.Div, declared.instr.BinOp.TheVariants.Rem, declared.instr.BinOp.TheVariants.Divu}
+use Rattle.oat_ir.specs.{declared.instr.BinOp.TheVariants.Remu, declared.instr.Instr.Instr, declared.instr.Instr.TheVariants.Const, declared.instr.Instr.TheVariants.Copy}
+use Rattle.oat_ir.specs.{declared.instr.Instr.TheVariants.Load, declared.instr.Instr.TheVariants.Store, declared.instr.Instr.TheVariants.LoadX, declared.instr.Instr.TheVariants.StoreX}
+use Rattle.oat_ir.specs.{declared.instr.Instr.TheVariants.RefTo, declared.instr.Instr.TheVariants.Call, declared.instr.Instr.TheVariants.ICall, declared.instr.Instr.TheVariants.Output}
+use Rattle.oat_ir.specs.{declared.instr.Term.TheVariants.Ret, declared.instr.Term.TheVariants.Halt, WorkedPrograms.idle_program, WorkedPrograms.loop_program}
+use Rattle.oat_check.specs.{declared.fault.CheckKind.CheckKind, declared.fault.CheckKind.TheVariants.NoMain, declared.fault.CheckKind.TheVariants.GlobalWords}
+use Rattle.oat_check.specs.{declared.fault.CheckKind.TheVariants.NoEnd, declared.fault.CheckKind.TheVariants.CallsMain, declared.fault.CheckKind.TheVariants.OperationCall}
+use Rattle.oat_check.specs.{declared.fault.CheckKind.TheVariants.RefKind, declared.fault.CheckKind.TheVariants.Arity, declared.fault.CheckKind.TheVariants.Kind}
+use Rattle.oat_check.specs.{declared.fault.CheckKind.TheVariants.MainRet, declared.fault.CheckFault.TheVariants.At, Naming.line_edge_name, Operators.result_of, Rules.first_fault, Runs.source_of}
+use Rattle.oat_check.specs.{Runs.source_run, Runs.source_events, WorkedPrograms.idle_twice, WorkedPrograms.element_program, WorkedPrograms.deep_program, WorkedPrograms.line_program}
+use Rattle.oat_check.specs.{WorkedPrograms.number_func, WorkedPrograms.code_block}
+use Rattle.oat_events.specs.name as name
 
 abbrev pub names_of_call : Program → List ℤ → ℕ → ℕ → ℕ → List EdgeName
 names_of_call p inputs n op s = map (line_edge_name p) (path_of_call (source_of p inputs) op s (source_events p inputs n))

@@ -10,3 +10,4 @@ mod types;
 
 pub use checked::{Checked, check};
 pub use fault::{CheckFault, CheckKind, CheckRefusal};
+pub use oat_ir::{Local, Term, Ty};

@@ -1,10 +1,8 @@
 -- Shifts by 64 and more, which leave nothing of the low 64 bits.
 use Rattle.std.proofs.Common.{◌≡◌, ℕ, ◌+◌, ◌-◌, ◌*◌, ◌/◌, ◌%◌, ◌^◌, ◌<◌, ◌≤◌, arith, subst}
+use Rattle.std.proofs.Math.{Pow.pow_mono, Nat.div-eq_of_lt, Nat.mod-eq_of_lt}
 use Rattle.std.proofs.lemmas.Nat.{pow-add}
-use Rattle.std.proofs.Math.Pow.{pow_mono}
-use Rattle.std.proofs.Math.Nat.{div-eq_of_lt, mod-eq_of_lt}
-use Rattle.oat_bits.specs.Words.{shifted_left}
-use Rattle.oat_a64.specs.Step.{with_bits}
+use Rattle.oat_a64.specs.{shifted_left, Step.with_bits}
 
 shifted_left-over : (v j : ℕ) → shifted_left v (j + 64) ≡ 0
 shifted_left-over v j = rw (pow-add 2 j 64) (omega arith)

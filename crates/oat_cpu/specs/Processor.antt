@@ -1,8 +1,6 @@
 -- The machine that a processor and a memory stand for, in the words of the machine step (docs/DEFINITIONS.md).
 use Rattle.std.specs.Prelude.{slice_index}
-use Rattle.oat_mem.specs.DataMemory.{Regions, byte_at}
-use Rattle.oat_a64.specs.declared.event.Event.{Event}
-use Rattle.oat_a64.specs.Step.{Regs, Machine, Effect}
+use Rattle.oat_a64.specs.{Regions, byte_at, declared.event.Event.Event, Step.Regs, Step.Machine, Step.Effect}
 use Rattle.oat_cpu.specs.declared.cpu.Cpu.{Cpu}
 
 abbrev pub regs_of : Cpu → Regs

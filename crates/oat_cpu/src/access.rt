@@ -1,6 +1,6 @@
 // Loads and stores.
 ghost use Rattle.std.specs.Prelude.{◌≡◌, ◌+◌, ◌*◌};
-ghost use Rattle.oat_bits.specs.Words.{wrap};
+ghost use Rattle.oat_a64.specs.{wrap};
 ghost use Rattle.oat_a64.specs.Step.{loads, reg, reg_or_sp, stores};
 ghost use Rattle.oat_cpu.specs.Processor.{machine_of, effect_of, regs_of};
 

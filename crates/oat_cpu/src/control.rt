@@ -1,6 +1,6 @@
 // Where an instruction leads.
 ghost use Rattle.std.specs.Prelude.{◌≡◌, if◌then◌else◌};
-ghost use Rattle.oat_mem.specs.DataMemory.{Regions};
+ghost use Rattle.oat_a64.specs.{Regions};
 ghost use Rattle.oat_a64.specs.Step.{branch_target, calls_monitor, next_pc, traps, with_reg};
 ghost use Rattle.oat_cpu.specs.Processor.{machine_of, effect_of, regs_of};
 

@@ -6,7 +6,8 @@ mod act;
 mod control;
 mod cpu;
 mod registers;
-mod sums;mod value;
+mod sums;
+mod value;
 
 pub use cpu::Cpu;
 pub use oat_a64::{Event, FaultKind};

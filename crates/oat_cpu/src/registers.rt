@@ -1,6 +1,6 @@
 // Registers and flags as operands and results.
 ghost use Rattle.std.specs.Prelude.{◌≡◌};
-ghost use Rattle.oat_bits.specs.Words.{difference};
+ghost use Rattle.oat_a64.specs.{difference};
 ghost use Rattle.oat_a64.specs.Step.{holds, next_pc, reg, reg_or_sp, with_flags, with_reg, with_reg_or_sp};
 ghost use Rattle.oat_cpu.specs.Processor.{regs_of};
 

@@ -1,7 +1,6 @@
 // Sums and products of operands, and the choice between two.
 ghost use Rattle.std.specs.Prelude.{◌≡◌, ◌+◌, if◌then◌else◌};
-ghost use Rattle.oat_bits.specs.Words.{wrap};
-ghost use Rattle.oat_mem.specs.DataMemory.{Regions};
+ghost use Rattle.oat_a64.specs.{wrap, Regions};
 ghost use Rattle.oat_a64.specs.declared.inst.Inst.TheVariants.{AddImm, SubImm, AddReg, Madd, Msub};
 ghost use Rattle.oat_a64.specs.Step.{act, holds, reg};
 ghost use Rattle.oat_cpu.specs.Processor.{machine_of, effect_of, regs_of};

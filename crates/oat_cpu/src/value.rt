@@ -1,6 +1,6 @@
 // The numbers that instructions compute.
 ghost use Rattle.std.specs.Prelude.{◌≡◌, ◌*◌, ◌%◌};
-ghost use Rattle.oat_bits.specs.Words.{unsigned_quotient, signed_quotient, shifted_left, shifted_right_signed};
+ghost use Rattle.oat_a64.specs.{unsigned_quotient, signed_quotient, shifted_left, shifted_right_signed};
 ghost use Rattle.oat_a64.specs.Step.{with_bits};
 
 pub(crate) fn divide(dividend: u64, divisor: u64) -> u64

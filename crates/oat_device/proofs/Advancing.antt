@@ -1,36 +1,18 @@
 -- From one turn of a device to the next entry of its journal.
 use Rattle.std.proofs.Common.{◌≡◌, ◌+◌, ◌-◌, ◌<◌, ℕ, Bool, true, false, cond, eqb, eqb-true, ltb, List, [], ◌∷◌, ◌++◌, Option, Some, None, Result, Ok, Err, inr, refl, sym, ap, subst, ◌∙◌, arith}
-use Rattle.std.specs.Prelude.{IsSome}
-use Rattle.std.specs.Option.{is_some}
+use Rattle.std.specs.{Prelude.IsSome, Option.is_some}
 use Rattle.std.proofs.lemmas.Bool.{ltb-true}
 use Rattle.oat_a64.proofs.FetchLemmas.{word_from_inst}
-use Rattle.oat_a64.specs.declared.event.Event.{Event}
-use Rattle.oat_a64.specs.declared.event.Event.TheVariants as event
-use Rattle.oat_a64.specs.Step.{Machine, Regs, step, word_at}
-use Rattle.oat_a64.specs.Table.{Word}
-use Rattle.oat_case.specs.declared.case.Case.{Case}
-use Rattle.oat_case.specs.declared.case.Write.{Write}
 use Rattle.oat_cpu.specs.Processor.{regs_of}
-use Rattle.oat_image.specs.declared.image.Image.{Image}
-use Rattle.oat_measure.specs.declared.call.MonitorCall.{MonitorCall}
-use Rattle.oat_measure.specs.declared.opening.Opening.{Opening}
-use Rattle.oat_measure.specs.declared.stop.StopKind.{StopKind}
-use Rattle.oat_measure.specs.Monitor.{call_numbered}
-use Rattle.oat_measure.specs.Shelving.{Measurements, measured_on}
-use Rattle.oat_journal.specs.declared.end.DeviceEnd.{DeviceEnd}
-use Rattle.oat_journal.specs.declared.end.DeviceEnd.TheVariants.{Halted, OutOfSteps}
-use Rattle.oat_journal.specs.Measured.{Run, dev, opening_of}
-use Rattle.oat_journal.specs.Progress.{Progress, call_told, measured_turn, progress_of_run, with_measurement}
-use Rattle.oat_journal.specs.Run.{Entry, Running, bare, ends_with, found, moves_on, told, turn, with_input, with_output}
-use Rattle.oat_journal.specs.Window.{made_call}
+use Rattle.oat_journal.specs.{Event, Machine, Regs, step, word_at, Word, Case, Write, Image, MonitorCall, Opening, StopKind, call_numbered, Measurements, measured_on, declared.end.DeviceEnd.DeviceEnd}
+use Rattle.oat_journal.specs.{declared.end.DeviceEnd.TheVariants.Halted, declared.end.DeviceEnd.TheVariants.OutOfSteps, Measured.Run, Measured.dev, Measured.opening_of, Progress.Progress}
+use Rattle.oat_journal.specs.{Progress.call_told, Progress.measured_turn, Progress.progress_of_run, Progress.with_measurement, Run.Entry, Run.Running, Run.bare, Run.ends_with, Run.found, Run.moves_on}
+use Rattle.oat_journal.specs.{Run.told, Run.turn, Run.with_input, Run.with_output, Window.made_call}
 use Rattle.oat_journal.proofs.RunLaws.{turns_are_the_run, turns_make_steps}
-use Rattle.oat_device.specs.Advancing.{HasEntry, HasNoEntry, end_by_now}
-use Rattle.oat_device.specs.declared.course.Course.{Course}
-use Rattle.oat_device.specs.declared.entry.Entry.{Entry as ShownEntry}
-use Rattle.oat_device.specs.DeviceRun.{DeviceRun, run_so_far}
-use Rattle.oat_device.specs.Standing.{HasMade, progress_of, turns_of}
-use Rattle.oat_device.proofs.Growing.{Adds, adds, goes, next_entry, stays}
-use Rattle.oat_device.proofs.Runs.{Turned, run-next, turns-ended, turns-going}
+use Rattle.oat_device.specs.{Advancing.HasEntry, Advancing.HasNoEntry, Advancing.end_by_now, declared.course.Course.Course, declared.entry.Entry.Entry as ShownEntry, DeviceRun.DeviceRun}
+use Rattle.oat_device.specs.{DeviceRun.run_so_far, Standing.HasMade, Standing.progress_of, Standing.turns_of}
+use Rattle.oat_device.proofs.{Growing.Adds, Growing.adds, Growing.goes, Growing.next_entry, Growing.stays, Runs.Turned, Runs.run-next, Runs.turns-ended, Runs.turns-going}
+use Rattle.oat_a64.specs.declared.event.Event.TheVariants as event
 
 -- ---- an instruction that ends a run by itself makes no monitor call
 

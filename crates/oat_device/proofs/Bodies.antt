@@ -1,19 +1,11 @@
 -- The bodies that a device gives: those on its shelf, and that of the last window where it has sealed.
 use Rattle.std.proofs.Common.{◌≡◌, ◌+◌, ◌≤◌, ◌<◌, ◌^◌, ℕ, zero, suc, List, [], ◌∷◌, ◌++◌, length, length-append, Option, Some, None, refl, sym, ap, ◌∙◌, arith}
-use Rattle.std.specs.Prelude.{IfSome, IsSome, IsTrue, MatchOption, nat_le, slice_get}
-use Rattle.std.specs.Option.{unwrap_or}
+use Rattle.std.specs.{Prelude.IfSome, Prelude.IsSome, Prelude.IsTrue, Prelude.MatchOption, Prelude.nat_le, Prelude.slice_get, Option.unwrap_or}
 use Rattle.std.proofs.lemmas.Bool.{and_parts, leb-true}
-use Rattle.oat_blob.specs.Body.{Body}
-use Rattle.oat_case.specs.Limits.{calls_fit}
-use Rattle.oat_measure.specs.Monitored.{Monitored}
-use Rattle.oat_measure.specs.Shelving.{Measurements}
-use Rattle.oat_journal.specs.declared.end.DeviceEnd.{DeviceEnd}
-use Rattle.oat_journal.specs.Measured.{HasBody}
-use Rattle.oat_journal.specs.TurnLaws.{CountsFit}
+use Rattle.oat_journal.specs.{Body, calls_fit, Monitored, Measurements, declared.end.DeviceEnd.DeviceEnd, Measured.HasBody, TurnLaws.CountsFit}
 use Rattle.oat_journal.proofs.RunLaws.{records_are_few}
-use Rattle.oat_device.specs.declared.course.Course.{Course}
-use Rattle.oat_device.specs.DeviceRun.{DeviceRun, IsSealed, ReportsItsBody, bodies_so_far, reported, run_so_far, window_opening}
-use Rattle.oat_device.specs.Standing.{HasMade, turns_of}
+use Rattle.oat_device.specs.{declared.course.Course.Course, DeviceRun.DeviceRun, DeviceRun.IsSealed, DeviceRun.ReportsItsBody, DeviceRun.bodies_so_far, DeviceRun.reported, DeviceRun.run_so_far}
+use Rattle.oat_device.specs.{DeviceRun.window_opening, Standing.HasMade, Standing.turns_of}
 use Rattle.oat_device.proofs.Runs.{bodies-shelved, measurements-are}
 
 -- ---- places in a list

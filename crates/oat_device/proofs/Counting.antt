@@ -1,23 +1,13 @@
 -- How many windows have sealed: those that are shelved, those that are due and the present one are all that a session calls for.
 use Rattle.std.proofs.Common.{◌≡◌, ◌+◌, ◌-◌, ◌≤◌, ℕ, ℤ, Bool, true, false, cond, eqb, List, [], ◌∷◌, ◌++◌, length, length-append, map, Option, Some, None, Result, Ok, Err, refl, sym, ap, subst, arith}
-use Rattle.std.specs.Prelude.{MatchOption, MatchResult}
-use Rattle.std.specs.Option.{option_map}
-use Rattle.std.proofs.lemmas.Bool.{ltb-true, ltb-false, false≢true}
-use Rattle.std.proofs.lemmas.List.{append-nil}
-use Rattle.oat_blob.specs.Body.{Body}
-use Rattle.oat_case.specs.declared.case.Write.{Write}
-use Rattle.oat_image.specs.declared.image.Image.{Image}
-use Rattle.oat_measure.specs.declared.call.MonitorCall.{MonitorCall}
-use Rattle.oat_measure.specs.declared.call.MonitorCall.TheVariants as svc
-use Rattle.oat_measure.specs.declared.opening.Opening.{Opening}
-use Rattle.oat_measure.specs.declared.stop.StopKind.{StopKind}
-use Rattle.oat_measure.specs.Measurement.{Stage, State, unmeasured, measuring, sealed, before_window, inside_window, after_window, measured}
-use Rattle.oat_measure.specs.Monitor.{opens}
-use Rattle.oat_measure.specs.Shelving.{Measured, Measurements, at_start, body_of, is_due, measured_on, measures, sealed_bodies, shelving, with_rest, with_state}
-use Rattle.oat_journal.specs.Measured.{Run, dev, run_until, start_cells}
-use Rattle.oat_journal.specs.Run.{journal}
-use Rattle.oat_journal.specs.Window.{made_call}
+use Rattle.std.specs.{Prelude.MatchOption, Prelude.MatchResult, Option.option_map}
+use Rattle.std.proofs.lemmas.{Bool.ltb-true, Bool.ltb-false, Bool.false≢true, List.append-nil}
+use Rattle.oat_measure.specs.Shelving.{Measured}
+use Rattle.oat_journal.specs.{Body, Write, Image, MonitorCall, Opening, StopKind, Stage, State, unmeasured, measuring, sealed, before_window, inside_window, after_window, measured, opens}
+use Rattle.oat_journal.specs.{Measurements, at_start, body_of, is_due, measured_on, measures, sealed_bodies, shelving, with_rest, with_state, Measured.Run, Measured.dev, Measured.run_until}
+use Rattle.oat_journal.specs.{Measured.start_cells, Run.journal, Window.made_call}
 use Rattle.oat_device.specs.DeviceRun.{CountsItsWindows, WindowsAreCounted}
+use Rattle.oat_measure.specs.declared.call.MonitorCall.TheVariants as svc
 
 -- how many windows are due behind the one of a number
 abbrev due : Opening → Option ℕ → ℕ

@@ -1,24 +1,14 @@
 -- Measured runs of more and more instructions: what one that goes on has, what the next instruction adds, and that one that ended stays.
 use Rattle.std.proofs.Common.{◌≡◌, ◌+◌, ◌-◌, ◌≤◌, ℕ, zero, suc, ℤ, List, [], ◌∷◌, ◌++◌, length, map, Option, Some, None, Result, Ok, Err, refl, sym, ap, ◌∙◌, arith, append-nil}
 use Rattle.std.proofs.lemmas.List.{map-append}
-use Rattle.oat_a64.specs.declared.event.Event.TheVariants as event
-use Rattle.oat_a64.specs.declared.event.FaultKind.TheVariants.{Fetch, Undefined}
-use Rattle.oat_a64.specs.declared.inst.Inst.{Inst}
-use Rattle.oat_a64.specs.Fetch.{inst_of}
-use Rattle.oat_a64.specs.Step.{Machine, Effect, acts, decodes, step, word_at}
-use Rattle.oat_case.specs.declared.case.Write.{Write}
-use Rattle.oat_image.specs.declared.image.Image.{Image}
-use Rattle.oat_measure.specs.declared.call.MonitorCall.{MonitorCall}
-use Rattle.oat_measure.specs.declared.opening.Opening.{Opening}
-use Rattle.oat_measure.specs.declared.stop.StopKind.{StopKind}
-use Rattle.oat_measure.specs.Shelving.{Measured, Measurements, at_start, measured_on, measures, with_rest}
-use Rattle.oat_journal.specs.declared.end.DeviceEnd.{DeviceEnd}
-use Rattle.oat_journal.specs.declared.end.DeviceEnd.TheVariants.{Fault, Stopped}
-use Rattle.oat_journal.specs.Run.{Entry, Running, bare, entry, found, from_entry, journal, journal_from, makes, started, turn, turns}
-use Rattle.oat_journal.specs.Measured.{Run, dev, run_until, start_cells}
-use Rattle.oat_journal.specs.Window.{made_call}
+use Rattle.oat_measure.specs.Shelving.{Measured}
+use Rattle.oat_journal.specs.{Fetch, Undefined, Inst, inst_of, Machine, Effect, acts, decodes, step, word_at, Write, Image, MonitorCall, Opening, StopKind, Measurements, at_start, measured_on}
+use Rattle.oat_journal.specs.{measures, with_rest, declared.end.DeviceEnd.DeviceEnd, declared.end.DeviceEnd.TheVariants.Fault, declared.end.DeviceEnd.TheVariants.Stopped, Run.Entry, Run.Running}
+use Rattle.oat_journal.specs.{Run.bare, Run.entry, Run.found, Run.from_entry, Run.journal, Run.journal_from, Run.makes, Run.started, Run.turn, Run.turns, Measured.Run, Measured.dev}
+use Rattle.oat_journal.specs.{Measured.run_until, Measured.start_cells, Window.made_call}
 use Rattle.oat_journal.proofs.RunLaws.{ended_runs_rest, one_turn, turns_add, turns_make_steps}
 use Rattle.oat_device.specs.Advancing.{MeasuredRunsStay, JournalsGrow}
+use Rattle.oat_a64.specs.declared.event.Event.TheVariants as event
 
 abbrev Calls : Type 0
 Calls = List (Option MonitorCall)

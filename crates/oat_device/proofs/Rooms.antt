@@ -1,27 +1,15 @@
 -- Room for records: a call that takes a record is a monitor call, and behind it stands none of the same number.
-use Rattle.std.proofs.Common.{◌≡◌, ◌+◌, ◌-◌, ◌*◌, ◌≤◌, ◌<◌, ◌⊎◌, ◌&&◌, ℕ, ℤ, Bool, true, false, not, cond, eqb, leb, List, [], ◌∷◌, Option, Some, None, refl, sym, ap, subst, ◌∙◌, inl, inr, arith, eqb-true, option_and_then}
-use Rattle.std.specs.Prelude.{IsSome, vec_len, vec_capacity}
-use Rattle.std.specs.List.{AllByRecursion}
+use Rattle.std.proofs.Common.{◌≡◌, ◌+◌, ◌-◌, ◌*◌, ◌≤◌, ◌<◌, ◌⊎◌, ◌&&◌, ℕ, ℤ, Bool, true, false, not, cond, eqb, leb, List, [], ◌∷◌, Option, Some, None, refl, sym, ap, subst, ◌∙◌, inl, inr, arith}
+use Rattle.std.proofs.Common.{eqb-true, option_and_then}
+use Rattle.std.specs.{Prelude.IsSome, Prelude.vec_len, Prelude.vec_capacity, List.AllByRecursion}
 use Rattle.std.proofs.lemmas.Bool.{cases_Bool}
-use Rattle.oat_a64.specs.declared.event.Event.{Event}
-use Rattle.oat_a64.specs.declared.event.Event.TheVariants as event
-use Rattle.oat_a64.specs.declared.inst.Inst.{Inst}
-use Rattle.oat_a64.specs.Fetch.{inst_of}
-use Rattle.oat_a64.specs.declared.inst.Inst.TheVariants.{BCond, Cbz, Cbnz, Ldr, Str, LdrReg, StrReg, Svc, Brk}
-use Rattle.oat_a64.specs.Step.{Regs, Machine, Effect, instruction_at, word_at, act, acts, decodes, step, holds, reg, reg_or_sp, wrap, next_pc}
-use Rattle.oat_mem.specs.DataMemory.{can_access}
-use Rattle.oat_case.specs.declared.case.Write.{Write}
-use Rattle.oat_case.specs.Limits.{IsInLimits, RisesFrom}
-use Rattle.oat_measure.specs.declared.engine.Engine.{Engine}
-use Rattle.oat_measure.specs.Monitor.{call_numbered}
-use Rattle.oat_measure.specs.declared.call.MonitorCall.{MonitorCall}
-use Rattle.oat_journal.specs.Run.{Running, found, told, with_input, turn}
-use Rattle.oat_device.specs.Records.{bits_taken, targets_taken}
-use Rattle.oat_device.specs.declared.bare.BareRun.{BareRun}
-use Rattle.oat_device.specs.declared.course.Course.{Course}
-use Rattle.oat_device.specs.Standing.{HasRoom, IsReady, IsSpaced, LeavesRoom, engine_opening, shelf_bits, shelf_targets, spare_bits, spare_targets, window_room}
-use Rattle.oat_journal.specs.Progress.{call_told}
+use Rattle.oat_journal.specs.{Event, Inst, inst_of, BCond, Cbz, Cbnz, Ldr, Str, LdrReg, StrReg, Svc, Brk, Regs, Machine, Effect, instruction_at, word_at, act, acts, decodes, step, holds, reg}
+use Rattle.oat_journal.specs.{reg_or_sp, wrap, next_pc, can_access, Write, IsInLimits, RisesFrom, Engine, call_numbered, MonitorCall, Run.Running, Run.found, Run.told, Run.with_input, Run.turn}
+use Rattle.oat_journal.specs.{Progress.call_told}
 use Rattle.oat_journal.proofs.RunLaws.{turns_make_steps}
+use Rattle.oat_device.specs.{Records.bits_taken, Records.targets_taken, declared.bare.BareRun.BareRun, declared.course.Course.Course, Standing.HasRoom, Standing.IsReady, Standing.IsSpaced}
+use Rattle.oat_device.specs.{Standing.LeavesRoom, Standing.engine_opening, Standing.shelf_bits, Standing.shelf_targets, Standing.spare_bits, Standing.spare_targets, Standing.window_room}
+use Rattle.oat_a64.specs.declared.event.Event.TheVariants as event
 
 -- an instruction that takes a record of one kind, and leads on
 abbrev pub Takes : List ℕ → ℕ → ℕ → ℕ → ℕ → Type 0

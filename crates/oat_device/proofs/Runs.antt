@@ -1,30 +1,16 @@
 -- From one turn of a device to its whole run.
 use Rattle.std.proofs.Common.{◌≡◌, ◌+◌, ◌-◌, ◌≤◌, ◌<◌, ℕ, ℤ, List, [], ◌∷◌, ◌++◌, false, Option, Some, None, refl, sym, ap, ◌∙◌, arith}
-use Rattle.std.specs.Prelude.{MatchOption}
-use Rattle.std.specs.Option.{is_some, unwrap_or}
+use Rattle.std.specs.{Prelude.MatchOption, Option.is_some, Option.unwrap_or}
 use Rattle.std.proofs.lemmas.List.{append-nil}
-use Rattle.oat_a64.specs.Step.{Machine, Regs, first_regs, step}
-use Rattle.oat_case.specs.declared.case.Case.{Case}
-use Rattle.oat_case.specs.declared.case.Write.{Write}
-use Rattle.oat_image.specs.declared.image.Image.{Image}
-use Rattle.oat_measure.specs.declared.engine.Engine.{Engine}
-use Rattle.oat_measure.specs.declared.engine.Engine.TheVariants as engine
-use Rattle.oat_blob.specs.Body.{Body}
-use Rattle.oat_measure.specs.declared.opening.Opening.{Opening}
-use Rattle.oat_measure.specs.Measurement.{Stage, State, unmeasured, measuring, sealed}
-use Rattle.oat_measure.specs.Shelving.{Measurements, at_start, body_of, measured_on, sealed_bodies}
-use Rattle.oat_measure.specs.Monitored.{Monitored}
-use Rattle.oat_journal.specs.declared.end.DeviceEnd.{DeviceEnd}
-use Rattle.oat_journal.specs.declared.end.DeviceEnd.TheVariants.{OutOfSteps}
-use Rattle.oat_journal.specs.Run.{found, makes, start_memory, turn, unless_ended}
-use Rattle.oat_journal.specs.Measured.{Run, dev, end_of, opening_of, start_cells}
-use Rattle.oat_journal.specs.Progress.{Progress, after_turns, call_told, first_of, going_on, measured_turn, progress_of_run, with_measurement}
+use Rattle.oat_journal.specs.{Machine, Regs, first_regs, step, Case, Write, Image, Engine, Body, Opening, Stage, State, unmeasured, measuring, sealed, Measurements, at_start, body_of, measured_on}
+use Rattle.oat_journal.specs.{sealed_bodies, Monitored, declared.end.DeviceEnd.DeviceEnd, declared.end.DeviceEnd.TheVariants.OutOfSteps, Run.found, Run.makes, Run.start_memory, Run.turn}
+use Rattle.oat_journal.specs.{Run.unless_ended, Measured.Run, Measured.dev, Measured.end_of, Measured.opening_of, Measured.start_cells, Progress.Progress, Progress.after_turns, Progress.call_told}
+use Rattle.oat_journal.specs.{Progress.first_of, Progress.going_on, Progress.measured_turn, Progress.progress_of_run, Progress.with_measurement}
 use Rattle.oat_journal.proofs.RunLaws.{measured_ends_stay, measured_turns_follow, turns_are_the_run}
-use Rattle.oat_device.specs.declared.course.Course.{Course}
-use Rattle.oat_device.specs.Bare.{DoesFrom}
-use Rattle.oat_device.specs.DeviceRun.{DeviceRun, IsSealed, ReportsItsBody, bodies_so_far, reported, run_so_far, window_opening}
-use Rattle.oat_device.specs.Telling.{unnumbered}
-use Rattle.oat_device.specs.Standing.{HasMade, IsReady, TakesTurn, engine_opening, progress_of, state_of, turns_of}
+use Rattle.oat_device.specs.{declared.course.Course.Course, Bare.DoesFrom, DeviceRun.DeviceRun, DeviceRun.IsSealed, DeviceRun.ReportsItsBody, DeviceRun.bodies_so_far, DeviceRun.reported}
+use Rattle.oat_device.specs.{DeviceRun.run_so_far, DeviceRun.window_opening, Telling.unnumbered, Standing.HasMade, Standing.IsReady, Standing.TakesTurn, Standing.engine_opening, Standing.progress_of}
+use Rattle.oat_device.specs.{Standing.state_of, Standing.turns_of}
+use Rattle.oat_measure.specs.declared.engine.Engine.TheVariants as engine
 
 -- ---- what is told of a run
 

@@ -2,17 +2,9 @@
 use Rattle.std.proofs.Common.{◌≡◌, ℕ, ◌+◌, ◌*◌, ◌%◌, ◌^◌, ◌<◌, ◌≤◌, ◌&&◌, ◌||◌, Bool, true, leb, ltb, List, [], ◌∷◌, length, Some, refl, sym, ap, ◌∙◌, inl, inr, arith, mod-eq_of_lt}
 use Rattle.std.specs.Prelude.{IsTrue}
 use Rattle.std.proofs.lemmas.Bool.{cases_lt, and_parts, or_cases, ltb-true}
-use Rattle.oat_a64.specs.declared.inst.Inst.{Inst}
-use Rattle.oat_a64.specs.declared.inst.Inst.TheVariants.{Svc}
-use Rattle.oat_a64.specs.Step.{instruction_at, next_pc}
-use Rattle.oat_map.specs.declared.row.Row.{Row}
-use Rattle.oat_map.specs.declared.row.Row.TheVariants.{Jump, Branch, Call, ICall, Ret, Begin, End, UseCell, DefCell, UseAt, DefAt, Check}
-use Rattle.oat_map.specs.Rows.{address_of}
-use Rattle.oat_image.specs.declared.image.Image.{Image}
-use Rattle.oat_image.specs.Grammar.{IsWellFormedImage}
-use Rattle.oat_shape.specs.Groups.{Stands, IsGroup}
-use Rattle.oat_shape.specs.Shape.{IsShaped, Covers}
+use Rattle.oat_shape.specs.{Ret, Groups.Stands, Groups.IsGroup, Shape.IsShaped, Shape.Covers}
 use Rattle.oat_shape.proofs.Laid.{laid}
+use Rattle.oat_journal.specs.{Inst, Svc, instruction_at, next_pc, Row, Jump, Branch, Call, ICall, Begin, End, UseCell, DefCell, UseAt, DefAt, Check, address_of, Image, IsWellFormedImage}
 use Rattle.oat_device.specs.Standing.{IsSpaced}
 
 -- ---- monitor calls in a group

@@ -1,13 +1,9 @@
 -- The words of data memory, and those of the cells, at the start of a run.
 use Rattle.std.proofs.Common.{◌≡◌, ℕ, ◌+◌, ◌≤◌, true, List, map, Option, Some, None, refl, sym, ap, ◌∙◌, arith, ◌%◌}
-use Rattle.std.specs.Prelude.{IsSome, SomeIff}
-use Rattle.std.specs.List.{slice_get, fold}
-use Rattle.std.specs.Option.{option_map}
+use Rattle.std.specs.{Prelude.IsSome, Prelude.SomeIff, List.slice_get, List.fold, Option.option_map}
 use Rattle.std.proofs.Math.Path.{fun_ext}
-use Rattle.std.proofs.lemmas.Bool.{eq-eqb, le-leb, and_from, or_left}
-use Rattle.std.proofs.lemmas.Option.{slice_get-map}
-use Rattle.oat_mem.specs.DataMemory.{can_access, fits, word_in, with_word, global_base, global_size, global_address}
-use Rattle.oat_image.specs.declared.image.InitWord.{InitWord}
+use Rattle.std.proofs.lemmas.{Bool.eq-eqb, Bool.le-leb, Bool.and_from, Bool.or_left, Option.slice_get-map}
+use Rattle.oat_journal.specs.{can_access, fits, word_in, with_word, global_base, global_size, global_address, InitWord}
 
 -- ---- data memory
 

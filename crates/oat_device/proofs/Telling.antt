@@ -1,23 +1,13 @@
 -- What the engine of a course makes of a monitor call, and the room that it leaves.
-use Rattle.std.proofs.Common.{◌≡◌, ◌+◌, ◌-◌, ◌≤◌, ◌<◌, ◌^◌, ◌⊎◌, ℕ, Bool, true, false, cond, eqb, not, [], ◌∷◌, Option, Some, None, Result, Ok, Err, refl, sym, ap, subst, ◌∙◌, inl, inr, arith, length, length-append}
+use Rattle.std.proofs.Common.{◌≡◌, ◌+◌, ◌-◌, ◌≤◌, ◌<◌, ◌^◌, ◌⊎◌, ℕ, Bool, true, false, cond, eqb, not, [], ◌∷◌, Option, Some, None, Result, Ok, Err, refl, sym, ap, subst, ◌∙◌, inl, inr, arith, length}
+use Rattle.std.proofs.Common.{length-append}
 use Rattle.std.specs.Prelude.{MatchResult}
-use Rattle.oat_measure.specs.declared.call.MonitorCall.{MonitorCall}
+use Rattle.oat_journal.specs.{MonitorCall, Engine, Opening, StopKind, BodyShelf, Stage, State, unmeasured, measuring, sealed, before_window, inside_window, after_window, measured, opens, Measurements}
+use Rattle.oat_journal.specs.{measured_on, settled, with_state, engine_shown, engine_state, Run.Running, Progress.Progress, Progress.stopped_by, Progress.with_measurement}
+use Rattle.oat_device.specs.{declared.bare.BareRun.BareRun, declared.course.Course.Course, Records.bits_taken, Records.targets_taken, Standing.HasShelfRoom, Standing.LeavesRoom, Standing.bits_held}
+use Rattle.oat_device.specs.{Standing.shelf_bits, Standing.shelf_targets, Standing.targets_held, Standing.windows_to_come, Telling.FitsShelf, Telling.Settles, Telling.measurements_of, Telling.outcome}
+use Rattle.oat_device.specs.{Telling.unnumbered, Telling.windows_due}
 use Rattle.oat_measure.specs.declared.call.MonitorCall.TheVariants as svc
-use Rattle.oat_measure.specs.declared.engine.Engine.{Engine}
-use Rattle.oat_measure.specs.declared.opening.Opening.{Opening}
-use Rattle.oat_measure.specs.declared.stop.StopKind.{StopKind}
-use Rattle.oat_measure.specs.BodyShelf.{BodyShelf}
-use Rattle.oat_measure.specs.Measurement.{Stage, State, unmeasured, measuring, sealed, before_window, inside_window, after_window, measured}
-use Rattle.oat_measure.specs.Monitor.{opens}
-use Rattle.oat_measure.specs.Shelving.{Measurements, measured_on, settled, with_state}
-use Rattle.oat_measure.specs.Transitions.{engine_shown, engine_state}
-use Rattle.oat_journal.specs.Run.{Running}
-use Rattle.oat_journal.specs.Progress.{Progress, stopped_by, with_measurement}
-use Rattle.oat_device.specs.declared.bare.BareRun.{BareRun}
-use Rattle.oat_device.specs.declared.course.Course.{Course}
-use Rattle.oat_device.specs.Records.{bits_taken, targets_taken}
-use Rattle.oat_device.specs.Standing.{HasShelfRoom, LeavesRoom, bits_held, shelf_bits, shelf_targets, targets_held, windows_to_come}
-use Rattle.oat_device.specs.Telling.{FitsShelf, Settles, measurements_of, outcome, unnumbered, windows_due}
 
 -- ---- the records that a call takes
 

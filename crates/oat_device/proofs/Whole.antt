@@ -1,8 +1,6 @@
 -- The whole run of a case.
 use Rattle.std.proofs.Common.{sym, ap, subst, ◌∙◌}
-use Rattle.oat_case.specs.declared.case.Case.{Case}
-use Rattle.oat_map.specs.Rows.{BeginsAt}
-use Rattle.oat_journal.specs.Measured.{dev, opening_of}
+use Rattle.oat_journal.specs.{Case, BeginsAt, Measured.dev, Measured.opening_of}
 use Rattle.oat_device.specs.DeviceRun.{DeviceRun, StepsMakeTheRun}
 
 pub steps_make_the_run : StepsMakeTheRun

@@ -2,10 +2,7 @@
 use Rattle.std.proofs.Common.{◌≡◌, ◌+◌, ◌==◌, ◌<◌, ◌≤◌, ℕ, Bool, true, false, cond, List, [], ◌∷◌, refl, sym, ap, subst, ◌∙◌, arith}
 use Rattle.std.specs.List.{AllByRecursion, fold, filter}
 use Rattle.std.proofs.lemmas.Bool.{leb-true, le-leb, ne_eqb, eq-eqb}
-use Rattle.oat_mem.specs.DataMemory.{with_bytes}
-use Rattle.oat_case.specs.declared.case.Write.{Write}
-use Rattle.oat_case.specs.Limits.{IsInLimits, RisesFrom}
-use Rattle.oat_journal.specs.Run.{poked}
+use Rattle.oat_journal.specs.{with_bytes, Write, IsInLimits, RisesFrom, Run.poked}
 use Rattle.oat_device.specs.Bare.{DoesFrom}
 
 pub poked-first : (w : Write) (ws : List Write) (k : ℕ) (memory : ℕ → ℕ)

@@ -1,18 +1,8 @@
 -- What one instruction more makes of a device and shows of itself, and what holds of measured runs of more and more instructions (docs/DEFINITIONS.md, "Measured run").
 use Rattle.std.specs.Prelude.{◌≡◌, ◌+◌, ◌⊎◌, ℕ, ℤ, List, ◌∷◌, [], ◌++◌, nat_lt, if◌then◌else◌, Option, Some, None, IsSome, Ok}
-use Rattle.oat_a64.specs.Table.{Word}
-use Rattle.oat_case.specs.declared.case.Write.{Write}
-use Rattle.oat_image.specs.declared.image.Image.{Image}
-use Rattle.oat_measure.specs.declared.opening.Opening.{Opening}
-use Rattle.oat_measure.specs.Measurement.{measuring}
-use Rattle.oat_measure.specs.Shelving.{measured_on}
-use Rattle.oat_journal.specs.declared.end.DeviceEnd.{DeviceEnd}
-use Rattle.oat_journal.specs.declared.end.DeviceEnd.TheVariants.{OutOfSteps}
-use Rattle.oat_journal.specs.Measured.{Run, dev}
-use Rattle.oat_journal.specs.Run.{Entry, next_of, pc_of}
-use Rattle.oat_journal.specs.Window.{made_call}
-use Rattle.oat_device.specs.declared.entry.Entry.{Entry as ShownEntry}
-use Rattle.oat_device.specs.DeviceRun.{DeviceRun, run_so_far, window_opening}
+use Rattle.oat_journal.specs.{Word, Write, Image, Opening, measuring, measured_on, declared.end.DeviceEnd.DeviceEnd, declared.end.DeviceEnd.TheVariants.OutOfSteps, Measured.Run, Measured.dev}
+use Rattle.oat_journal.specs.{Run.Entry, Run.next_of, Run.pc_of, Window.made_call}
+use Rattle.oat_device.specs.{declared.entry.Entry.Entry as ShownEntry, DeviceRun.DeviceRun, DeviceRun.run_so_far, DeviceRun.window_opening}
 
 -- the run of one instruction more
 abbrev pub run_after_next : DeviceRun → Run

@@ -1,8 +1,7 @@
 -- The bare run for which a device's processor, memory, inputs and outputs stand (docs/DEFINITIONS.md, "Bare run").
 use Rattle.std.specs.Prelude.{◌≡◌, ◌+◌, ◌≤◌, ℕ, List, vec_len, vec_capacity}
-use Rattle.oat_case.specs.declared.case.Write.{Write}
 use Rattle.oat_cpu.specs.Processor.{machine_of}
-use Rattle.oat_journal.specs.Run.{Running, poked}
+use Rattle.oat_journal.specs.{Write, Run.Running, Run.poked}
 use Rattle.oat_device.specs.declared.bare.BareRun.{BareRun}
 
 abbrev pub running_of : BareRun → Running

@@ -1,15 +1,7 @@
 -- The run that a device has made so far, in the words of the measured run (docs/DEFINITIONS.md, "Measured run").
 use Rattle.std.specs.Prelude.{◌≡◌, ◌<◌, ℕ, ℤ, List, [], ◌∷◌, ◌++◌, length}
-use Rattle.oat_blob.specs.Body.{Body}
-use Rattle.oat_case.specs.declared.case.Case.{Case}
-use Rattle.oat_case.specs.declared.case.Write.{Write}
-use Rattle.oat_image.specs.declared.image.Image.{Image}
-use Rattle.oat_map.specs.Rows.{BeginsAt}
-use Rattle.oat_measure.specs.declared.opening.Opening.{Opening}
-use Rattle.oat_measure.specs.Measurement.{sealed}
-use Rattle.oat_measure.specs.Monitored.{Monitored, state_at}
-use Rattle.oat_measure.specs.Shelving.{IsFirstWindow, body_of, sealed_bodies}
-use Rattle.oat_journal.specs.Measured.{HasBody, ReportsSoundness, Run, TellsItsWindow, dev, opening_of}
+use Rattle.oat_journal.specs.{Body, Case, Write, Image, BeginsAt, Opening, sealed, Monitored, state_at, IsFirstWindow, body_of, sealed_bodies, Measured.HasBody, Measured.ReportsSoundness}
+use Rattle.oat_journal.specs.{Measured.Run, Measured.TellsItsWindow, Measured.dev, Measured.opening_of}
 
 -- A device is an image, a case, the address of the SVC that opens its windows, and a number of instructions: it has made the measured run of so many of them, or of all where that ended.
 pub record DeviceRun : Type 0 where

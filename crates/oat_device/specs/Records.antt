@@ -1,6 +1,6 @@
 -- How many records of each kind a monitor call takes room for (docs/FORMATS.md, "Monitor calls").
 use Rattle.std.specs.Prelude.{ℕ}
-use Rattle.oat_measure.specs.declared.call.MonitorCall.{MonitorCall}
+use Rattle.oat_journal.specs.{MonitorCall}
 use Rattle.oat_measure.specs.declared.call.MonitorCall.TheVariants as svc
 
 abbrev pub bits_taken : MonitorCall → ℕ

@@ -1,23 +1,9 @@
 -- The measured run for which a device stands while it makes it, instruction by instruction (docs/DEFINITIONS.md, "Measured run").
-use Rattle.std.specs.Prelude.{◌≡◌, ◌+◌, ◌-◌, ◌*◌, ◌≤◌, ◌<◌, ◌^◌, ◌⊎◌, ℕ, List, Option, Some, None, IsSome, length, vec_len, vec_capacity}
-use Rattle.std.specs.List.{AllByRecursion}
-use Rattle.std.specs.Option.{option_map}
-use Rattle.oat_a64.specs.declared.inst.Inst.TheVariants.{Svc}
-use Rattle.oat_a64.specs.Step.{instruction_at, next_pc}
-use Rattle.oat_case.specs.declared.case.Case.{Case}
-use Rattle.oat_case.specs.Limits.{IsInLimits, RisesFrom}
-use Rattle.oat_image.specs.declared.image.Image.{Image}
-use Rattle.oat_measure.specs.declared.engine.Engine.{Engine}
-use Rattle.oat_measure.specs.declared.opening.Opening.{Opening}
-use Rattle.oat_measure.specs.Measurement.{State, booted}
-use Rattle.oat_measure.specs.Transitions.{engine_shown, engine_state}
-use Rattle.oat_device.specs.declared.course.Course.{Course}
-use Rattle.oat_device.specs.Bare.{DoesFrom, running_of}
-use Rattle.oat_device.specs.Telling.{unnumbered, windows_due}
-use Rattle.oat_journal.specs.Measured.{dev, opening_of}
-use Rattle.oat_journal.specs.Progress.{Progress, measured_turn, progress_of_run, with_measurement}
-use Rattle.oat_measure.specs.declared.call.MonitorCall.{MonitorCall}
-use Rattle.oat_measure.specs.Shelving.{measured_on}
+use Rattle.std.specs.{Prelude.◌≡◌, Prelude.◌+◌, Prelude.◌-◌, Prelude.◌*◌, Prelude.◌≤◌, Prelude.◌<◌, Prelude.◌^◌, Prelude.◌⊎◌, Prelude.ℕ, Prelude.List, Prelude.Option, Prelude.Some, Prelude.None}
+use Rattle.std.specs.{Prelude.IsSome, Prelude.length, Prelude.vec_len, Prelude.vec_capacity, List.AllByRecursion, Option.option_map}
+use Rattle.oat_journal.specs.{Svc, instruction_at, next_pc, Case, IsInLimits, RisesFrom, Image, Engine, Opening, State, booted, engine_shown, engine_state, Measured.dev, Measured.opening_of}
+use Rattle.oat_journal.specs.{Progress.Progress, Progress.measured_turn, Progress.progress_of_run, Progress.with_measurement, MonitorCall, measured_on}
+use Rattle.oat_device.specs.{declared.course.Course.Course, Bare.DoesFrom, Bare.running_of, Telling.unnumbered, Telling.windows_due}
 
 -- ---- what a device's values stand for
 

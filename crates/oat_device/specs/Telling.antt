@@ -1,12 +1,6 @@
 -- What the one engine of a run makes of a monitor call, and what a sealed window's way to the shelf changes (docs/FORMATS.md, "Monitor calls").
 use Rattle.std.specs.Prelude.{◌≡◌, ◌+◌, ◌-◌, ◌≤◌, ◌⊎◌, ℕ, Option, Some, None, Result, Ok, Err, length}
-use Rattle.oat_measure.specs.declared.engine.Engine.{Engine}
-use Rattle.oat_measure.specs.declared.opening.Opening.{Opening}
-use Rattle.oat_measure.specs.declared.stop.StopKind.{StopKind}
-use Rattle.oat_measure.specs.BodyShelf.{BodyShelf}
-use Rattle.oat_measure.specs.Measurement.{State}
-use Rattle.oat_measure.specs.Shelving.{Measurements}
-use Rattle.oat_measure.specs.Transitions.{engine_shown, engine_state}
+use Rattle.oat_journal.specs.{Engine, Opening, StopKind, BodyShelf, State, Measurements, engine_shown, engine_state}
 
 -- the state that a call leaves, or why it stops the run
 abbrev pub outcome : Engine → Option StopKind → Result State StopKind

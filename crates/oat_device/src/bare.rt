@@ -1,8 +1,7 @@
 //! The bare run: the processor, and what its calls 0, 8 and 9, its traps and its faults do.
 ghost use Rattle.std.specs.Prelude.{◌≡◌, ◌+◌, ◌<◌, ◌≤◌, ◌^◌, None, vec_len, vec_capacity};
 ghost use Rattle.std.specs.List.{AllByRecursion};
-ghost use Rattle.oat_a64.specs.Step.{step};
-ghost use Rattle.oat_case.specs.Limits.{IsInLimits, RisesFrom};
+ghost use Rattle.oat_journal.specs.{step, IsInLimits, RisesFrom};
 ghost use Rattle.oat_journal.specs.Run.{called, ends_with, found, moves_on, with_output, with_input, told, trap_of, turn};
 ghost use Rattle.oat_device.specs.Bare.{HasSame, DoesFrom, running_of};
 

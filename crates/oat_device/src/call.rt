@@ -1,6 +1,5 @@
 ghost use Rattle.std.specs.Prelude.{◌≡◌};
-ghost use Rattle.oat_a64.specs.Step.{Regs};
-ghost use Rattle.oat_measure.specs.Monitor.{call_numbered};
+ghost use Rattle.oat_journal.specs.{Regs, call_numbered};
 
 use oat_measure::MonitorCall;
 

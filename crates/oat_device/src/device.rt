@@ -1,10 +1,6 @@
 ghost use Rattle.std.specs.Prelude.{◌≡◌, ◌↔◌, ◌<◌, length, slice_get, IfOk, IsSome, IsTrue, MatchOption, None, Some};
-ghost use Rattle.oat_blob.specs.Body.{Body};
-ghost use Rattle.oat_blob.specs.Layout.{IsBlobOf};
-ghost use Rattle.oat_case.specs.Limits.{IsWellFormedCase};
+ghost use Rattle.oat_journal.specs.{Body, IsBlobOf, IsWellFormedCase, measuring, sealed, IsOperation};
 ghost use Rattle.oat_measure.specs.declared.engine.Engine.TheVariants as EngineState;
-ghost use Rattle.oat_measure.specs.Measurement.{measuring, sealed};
-ghost use Rattle.oat_map.specs.Rows.{IsOperation};
 ghost use Rattle.oat_journal.specs.Measured.{end_of};
 ghost use Rattle.oat_device.specs.Advancing.{HasEntry, HasNoEntry, IsInside, end_by_now, run_after_next};
 ghost use Rattle.oat_device.specs.DeviceRun.{BodiesAreTrue, IsAtStart, IsSealed, ReportsItsBody, bodies_so_far, run_so_far};

@@ -13,6 +13,8 @@ mod writes;
 
 pub use device::Device;
 pub use entry::Entry;
+pub use oat_a64::{Inst, decode};
 pub use oat_journal::{DeviceEnd, StopKind};
 pub use oat_measure::MonitorCall;
+pub use oat_shape::Image;
 pub use start::first_words;

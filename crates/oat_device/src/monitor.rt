@@ -1,13 +1,10 @@
 //! What a monitor call does to the one engine of a run.
 ghost use Rattle.std.specs.Prelude.{◌≡◌, ◌+◌, ◌≤◌, IfSome, Some, Ok};
-ghost use Rattle.oat_measure.specs.Measurement.{measured, measuring, sealed, unmeasured};
+ghost use Rattle.oat_journal.specs.{measured, measuring, sealed, unmeasured, Keeps, state_at, engine_shown, engine_state, settled};
 ghost use Rattle.oat_measure.specs.declared.engine.Engine.TheVariants as EngineOf;
 ghost use Rattle.oat_measure.specs.declared.call.MonitorCall.TheVariants as svc;
-ghost use Rattle.oat_measure.specs.Monitored.{Keeps, state_at};
-ghost use Rattle.oat_measure.specs.Transitions.{engine_shown, engine_state};
 ghost use Rattle.oat_device.specs.Records.{bits_taken, targets_taken};
 ghost use Rattle.oat_device.specs.Telling.{FitsShelf, Settles, measurements_of, outcome};
-ghost use Rattle.oat_measure.specs.Shelving.{settled};
 
 use oat_measure::{
     Begun, Ended, Engine, Measuring, MonitorCall, Sealed, Shelf, StopKind, Unmeasured,

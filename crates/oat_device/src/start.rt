@@ -1,17 +1,13 @@
 //! What an image gives a device at its start.
 ghost use Rattle.std.specs.Prelude.{◌≡◌, ◌≤◌, IfOk, length};
-ghost use Rattle.oat_image.specs.Grammar.{IsWellFormedImage};
-ghost use Rattle.oat_measure.specs.Monitored.{cells_of};
-ghost use Rattle.oat_mem.specs.DataMemory.{byte_at};
+ghost use Rattle.oat_journal.specs.{IsWellFormedImage, cells_of, byte_at, BeginsAt, IsOperation};
 ghost use Rattle.oat_journal.specs.Run.{start_memory};
-ghost use Rattle.oat_map.specs.Rows.{BeginsAt, IsOperation};
 ghost use Rattle.oat_journal.specs.Measured.{opening_of, start_cells};
 
 use oat_case::Session;
-use oat_image::Image;
 use oat_measure::Opening;
 use oat_mem::{GLOBAL_BASE, Memory};
-use oat_shape::Shaped;
+use oat_shape::{Image, Shaped};
 use std::alloc::{AllocError, Global};
 
 /// Zeros, but for the words that the image gives.

@@ -1,8 +1,7 @@
 //! The data writes that are made between instructions.
 ghost use Rattle.std.specs.Prelude.{◌≡◌, ◌+◌};
 ghost use Rattle.std.specs.List.{AllByRecursion};
-ghost use Rattle.oat_case.specs.Limits.{IsInLimits, RisesFrom};
-ghost use Rattle.oat_mem.specs.DataMemory.{byte_at};
+ghost use Rattle.oat_journal.specs.{IsInLimits, RisesFrom, byte_at};
 ghost use Rattle.oat_journal.specs.Run.{poked};
 ghost use Rattle.oat_device.specs.Bare.{DoesFrom};
 

@@ -1,10 +1,9 @@
 -- The windows that have closed are those of the whole list.
-use Rattle.std.proofs.Common.{◌≡◌, ◌+◌, ◌<◌, ℕ, zero, suc, Bool, true, false, cond, ◌||◌, List, [], ◌∷◌, ◌++◌, length, Option, Some, None, refl, sym, ap, ◌∙◌, inl, inr, arith, length-append, append_assoc}
-use Rattle.std.specs.Prelude.{slice_get}
-use Rattle.std.specs.List.{fold, list_any}
+use Rattle.std.proofs.Common.{◌≡◌, ◌+◌, ◌<◌, ℕ, zero, suc, Bool, true, false, cond, ◌||◌, List, [], ◌∷◌, ◌++◌, length, Option, Some, None, refl, sym, ap, ◌∙◌, inl, inr, arith, length-append}
+use Rattle.std.proofs.Common.{append_assoc}
+use Rattle.std.specs.{Prelude.slice_get, List.fold, List.list_any}
 use Rattle.std.proofs.lemmas.Bool.{cases_Bool}
-use Rattle.oat_events.specs.Cuts.{Cut, cut_up, takes_up}
-use Rattle.oat_events.specs.Windows.{beyond, inside, is_closed, through}
+use Rattle.oat_events.specs.{Cuts.Cut, Cuts.cut_up, Cuts.takes_up, Windows.beyond, Windows.inside, Windows.is_closed, Windows.through}
 
 abbrev at : {X : Type 0} → List (List X) → Option (List X) → Cut X
 at closed going = record { closed = closed; going = going }

@@ -1,11 +1,8 @@
 -- Laws of lists of events, of any edges.
 use Rattle.std.proofs.Common.{◌≡◌, ℕ, true, List, [], ◌++◌, Option, None}
-use Rattle.std.specs.Prelude.{nat_lt}
-use Rattle.std.specs.List.{filter_map}
+use Rattle.std.specs.{Prelude.nat_lt, List.filter_map}
 use Rattle.oat_map.specs.Turns.{Turn, GoesBack, stays}
-use Rattle.oat_events.specs.Cells.{Cells}
-use Rattle.oat_events.specs.Events.{SourceEvent, Active, Passes, Stacks}
-use Rattle.oat_events.specs.Source.{edge_taken, stretch, has_completed, calls_done}
+use Rattle.oat_events.specs.{Cells.Cells, Events.SourceEvent, Events.Active, Events.Passes, Events.Stacks, Source.edge_taken, Source.stretch, Source.has_completed, Source.calls_done}
 use Rattle.oat_events.proofs.Stacking.{goes_back_in, calls_counted, stacks_join, passes_join, passes_part}
 
 -- Where the rule of operations and cells holds of events and of what follows, it holds of both.

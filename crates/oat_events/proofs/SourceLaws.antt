@@ -1,9 +1,8 @@
 -- Laws of the runs of any source: what each step keeps is kept by all of them.
 use Rattle.std.proofs.Common.{◌≡◌, ◌+◌, ℕ, zero, suc, List, [], ◌++◌, Option, Some, refl, sym, ap, ◌∙◌, arith, append_assoc, append-nil}
 use Rattle.oat_map.specs.Turns.{Turn}
-use Rattle.oat_events.specs.Cells.{Cells}
-use Rattle.oat_events.specs.Events.{Active, Passes, SourceEvent, Stacks}
-use Rattle.oat_events.specs.Source.{Finish, SourceKeeps, SourceMachine, shown_from, state_after}
+use Rattle.oat_events.specs.{Cells.Cells, Events.Active, Events.Passes, Events.SourceEvent, Events.Stacks, Source.Finish, Source.SourceKeeps, Source.SourceMachine, Source.shown_from}
+use Rattle.oat_events.specs.{Source.state_after}
 use Rattle.oat_events.proofs.EventLaws.{passes_joined, stacks_joined}
 
 pub good_after : (S : SourceMachine) (words : Cells) (keeps : SourceKeeps S words) (n : ℕ) (s : S.State) → keeps.Good s → keeps.Good (state_after S n s)

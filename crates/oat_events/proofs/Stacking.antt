@@ -1,13 +1,10 @@
 -- Events whose calls stack: the path of each call goes back as it called, and the calls that have completed are the first ones.
 use Rattle.std.proofs.Common.{◌≡◌, ◌+◌, ℕ, zero, suc, Bool, true, false, cond, eqb, ltb, List, [], ◌∷◌, ◌++◌, Option, Some, None, refl, sym, ap, subst, ◌∙◌, inl, inr, arith}
 use Rattle.std.specs.List.{filter_map, list_any, count_by}
-use Rattle.std.proofs.lemmas.Bool.{cases_Bool, cases_lt, eqb-true, eqb-false, eq-eqb, lt-ltb, le-ltb}
-use Rattle.std.proofs.lemmas.List.Sums.{sum_by-cons}
+use Rattle.std.proofs.lemmas.{Bool.cases_Bool, Bool.cases_lt, Bool.eqb-true, Bool.eqb-false, Bool.eq-eqb, Bool.lt-ltb, Bool.le-ltb, List.Sums.sum_by-cons}
 use Rattle.oat_map.specs.Turns.{GoesBack, Turn, Turned, pops, pushes, stays, strays}
-use Rattle.oat_events.specs.Cells.{Cells, defined}
-use Rattle.oat_events.specs.Events.{Active, Passes, SourceEvent, Stacks, enters, is_entered, is_left, leaves, loads, outputs, stores, takes}
-use Rattle.oat_events.specs.Source.{edge_taken, stretch}
-use Rattle.oat_events.specs.Windows.{beyond, is_closed, through}
+use Rattle.oat_events.specs.{Cells.Cells, Cells.defined, Events.Active, Events.Passes, Events.SourceEvent, Events.Stacks, Events.enters, Events.is_entered, Events.is_left, Events.leaves, Events.loads}
+use Rattle.oat_events.specs.{Events.outputs, Events.stores, Events.takes, Source.edge_taken, Source.stretch, Windows.beyond, Windows.is_closed, Windows.through}
 use Rattle.oat_events.proofs.Windowing.{beyond_none, closed_none, first_closed}
 
 abbrev active : {P : Type 0} → ℕ → List P → Option (Active P)

@@ -1,8 +1,7 @@
 -- Laws of the windows of any list: of longer lists, of what the items show, and of items that come one by one.
 use Rattle.std.proofs.Common.{◌≡◌, ℕ, Bool, true, List, ◌++◌, filter_map, Option, Some, None, option_and_then}
 use Rattle.std.specs.Prelude.{if◌then◌else◌, slice_get}
-use Rattle.oat_events.specs.Cuts.{cut_up}
-use Rattle.oat_events.specs.Windows.{inside, up_to, is_closed, Agrees}
+use Rattle.oat_events.specs.{Cuts.cut_up, Windows.inside, Windows.up_to, Windows.is_closed, Windows.Agrees}
 use Rattle.oat_events.proofs.Cutting.{cut_windows}
 use Rattle.oat_events.proofs.Windowing as windows
 

@@ -1,6 +1,5 @@
 -- Windows of a list whose items come one by one: those that have closed, and the one that is open so far.
-use Rattle.std.specs.Prelude.{Bool, if◌then◌else◌, List, [], ◌∷◌, ◌++◌, Option, Some, None}
-use Rattle.std.specs.List.{fold}
+use Rattle.std.specs.{Prelude.Bool, Prelude.if◌then◌else◌, Prelude.List, Prelude.[], Prelude.◌∷◌, Prelude.◌++◌, Prelude.Option, Prelude.Some, Prelude.None, List.fold}
 
 pub record Cut (X : Type 0) : Type 0 where
   pub closed : List (List X)

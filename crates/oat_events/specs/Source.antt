@@ -1,11 +1,9 @@
 -- A source, and what its run shows: outputs, and of each call of an operation the path, the loads, and the stores up to its end.
-use Rattle.std.specs.Prelude.{◌≡◌, ℕ, zero, suc, ℤ, Bool, nat_eq, if◌then◌else◌, List, [], ◌++◌, Option, Some, None, count_by}
-use Rattle.std.specs.List.{filter_map}
-use Rattle.oat_map.specs.EdgeName.{EdgeName}
-use Rattle.oat_map.specs.declared.trap.TrapKind.{TrapKind}
-use Rattle.oat_events.specs.Cells.{Cells}
-use Rattle.oat_events.specs.Events.{SourceEvent, takes, leaves, loads, stores, outputs, is_entered, is_left, Passes}
-use Rattle.oat_events.specs.Windows.{inside, up_to, is_closed}
+use Rattle.std.specs.{Prelude.◌≡◌, Prelude.ℕ, Prelude.zero, Prelude.suc, Prelude.ℤ, Prelude.Bool, Prelude.nat_eq, Prelude.if◌then◌else◌, Prelude.List, Prelude.[], Prelude.◌++◌, Prelude.Option}
+use Rattle.std.specs.{Prelude.Some, Prelude.None, Prelude.count_by, List.filter_map}
+use Rattle.oat_map.specs.{EdgeName.EdgeName, declared.trap.TrapKind.TrapKind}
+use Rattle.oat_events.specs.{Cells.Cells, Events.SourceEvent, Events.takes, Events.leaves, Events.loads, Events.stores, Events.outputs, Events.is_entered, Events.is_left, Events.Passes}
+use Rattle.oat_events.specs.{Windows.inside, Windows.up_to, Windows.is_closed}
 
 -- how a source run ends
 pub data Finish : Type 0 where

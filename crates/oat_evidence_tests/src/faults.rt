@@ -1,4 +1,4 @@
-use oat_lines::{Fault, LineFault};
+use oat_policy::{Fault, LineFault};
 use std::alloc::{AllocError, Global};
 
 /// The first fault of a text as a refusal says it; nothing of one that was read.

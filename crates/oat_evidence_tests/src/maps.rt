@@ -1,5 +1,5 @@
-use oat_list::Listed;
-use oat_map::{Function, Map, Name, Row};
+use oat_image::{Function, Name, Row};
+use oat_policy::{Listed, Map};
 use std::test::Fail;
 
 const NAMES: [(&[u8], bool); 6] = [

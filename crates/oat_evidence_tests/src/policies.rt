@@ -1,8 +1,7 @@
 use crate::faults::said;
 use oat_image::read_image;
 use oat_image::worked::CALLS;
-use oat_map::Edge;
-use oat_policy::{PolicyVerdict, read_policy, verdict_on};
+use oat_policy::{Edge, PolicyVerdict, read_policy, verdict_on};
 use std::test::Fail;
 
 /// The path of the worked operation, whose indirect call goes to the first address and comes back from the other.

@@ -1,6 +1,6 @@
 use oat_blob::decode;
-use oat_list::Listed;
-use oat_map::{Map, Row};
+use oat_image::Row;
+use oat_policy::{Listed, Map};
 use oat_replay::{ReplayCause, WalkFault, walk};
 use std::test::Fail;
 

@@ -1,17 +1,12 @@
 -- A front to which a chunk is put.
 use Rattle.std.proofs.Common.{◌≡◌, ℕ, suc, ◌+◌, ◌-◌, ◌<◌, ◌≤◌, List, [], ◌++◌, length, take, drop, ap, sym, subst, ◌∙◌, arith, append_assoc, length-append}
-use Rattle.std.proofs.lemmas.List.{length-take-le, take-append-drop, take-append-le, take_all}
-use Rattle.std.proofs.Math.Seq.{take-add}
 use Rattle.std.specs.Prelude.{Result, Ok, Err, OnErr}
-use Rattle.oat_blob.specs.Body.{Body}
-use Rattle.oat_blob.specs.Layout.{IsBlob}
-use Rattle.oat_blob.specs.Faults.{BeginsBlob}
-use Rattle.oat_feed.specs.declared.intake.State.TheVariants.{Open, Broken}
-use Rattle.oat_feed.specs.RecordBytes.{HasRecordByte, IsRecordByte}
-use Rattle.oat_feed.specs.RecordPlaces.{records_before}
-use Rattle.oat_feed.specs.Standing.{KeepsRoom, KeepsFront}
-use Rattle.oat_feed.proofs.Fronts.{begins_nothing}
-use Rattle.oat_feed.proofs.RoomLeft.{found, found_more, others_are_few}
+use Rattle.std.proofs.Math.Seq.{take-add}
+use Rattle.std.proofs.lemmas.List.{length-take-le, take-append-drop, take-append-le, take_all}
+use Rattle.oat_verify.specs.{Body, IsBlob, BeginsBlob}
+use Rattle.oat_feed.specs.{declared.intake.State.TheVariants.Open, declared.intake.State.TheVariants.Broken, RecordBytes.HasRecordByte, RecordBytes.IsRecordByte, RecordPlaces.records_before}
+use Rattle.oat_feed.specs.{Standing.KeepsRoom, Standing.KeepsFront}
+use Rattle.oat_feed.proofs.{Fronts.begins_nothing, RoomLeft.found, RoomLeft.found_more, RoomLeft.others_are_few}
 
 pub opens : (front : List ℕ) (capacity : ℕ) → front ≡ [] → 4248 ≤ capacity → BeginsBlob front × KeepsFront Open [] front capacity
 opens front capacity empty room =

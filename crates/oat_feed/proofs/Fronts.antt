@@ -1,10 +1,7 @@
 -- Fronts of bytes that begin a blob, and the offset at which bytes stop being one.
 use Rattle.std.proofs.Common.{◌≡◌, ℕ, suc, ◌<◌, ◌≤◌, ◌^◌, List, [], ◌++◌, None, length, take, drop, replicate, refl, ap, sym, subst, ◌∙◌, arith, append_assoc}
-use Rattle.std.proofs.lemmas.List.Elements.{All-nil, All-replicate}
-use Rattle.std.proofs.lemmas.List.{append-nil, length-replicate, take-append-drop, take-take, take_all}
-use Rattle.oat_blob.specs.Body.{AreBytes, Body, IsBody}
-use Rattle.oat_blob.specs.Layout.{IsBlob, covered_of}
-use Rattle.oat_blob.specs.Faults.{BeginsBlob, IsFormOffset}
+use Rattle.std.proofs.lemmas.{List.Elements.All-nil, List.Elements.All-replicate, List.append-nil, List.length-replicate, List.take-append-drop, List.take-take, List.take_all}
+use Rattle.oat_verify.specs.{AreBytes, Body, IsBody, IsBlob, covered_of, BeginsBlob, IsFormOffset}
 
 -- a shorter front begins a blob where a longer one does
 pub begins_less : (n m : ℕ) (came : List ℕ) → n ≤ m → BeginsBlob (take m came) → BeginsBlob (take n came)

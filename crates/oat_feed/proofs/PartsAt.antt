@@ -1,15 +1,10 @@
 -- Parts of a blob at their places in bytes that begin it.
-use Rattle.std.proofs.Common.{◌≡◌, ℕ, ◌+◌, ◌*◌, ◌≤◌, Bool, true, false, List, [], ◌∷◌, ◌++◌, Option, Some, None, length, take, drop, get_or, refl, ap, sym, ◌∙◌, arith, append_assoc, length-append, length-drop}
+use Rattle.std.proofs.Common.{◌≡◌, ℕ, ◌+◌, ◌*◌, ◌≤◌, Bool, true, false, List, [], ◌∷◌, ◌++◌, Option, Some, None, length, take, drop, get_or, refl, ap, sym, ◌∙◌, arith, append_assoc, length-append}
+use Rattle.std.proofs.Common.{length-drop}
+use Rattle.std.specs.{Prelude.is_some, Int.w16, Int.w32, Int.w64, Int.to_be_bytes}
 use Rattle.std.proofs.lemmas.List.{drop-append-le, drop_at, take-append-le, take_at}
-use Rattle.std.specs.Prelude.{is_some}
-use Rattle.std.specs.Int.{w16, w32, w64, to_be_bytes}
-use Rattle.oat_bits.specs.Packed.{packed}
-use Rattle.oat_blob.specs.declared.body.BodyHead.{BodyHead}
-use Rattle.oat_blob.specs.declared.body.Violation.{Violation}
-use Rattle.oat_blob.specs.Body.{Body, IsBody}
-use Rattle.oat_blob.specs.Layout.{IsBlob, bits_part, covered_of, magic, serial_part, targets_part, version_part, violation_part}
-use Rattle.oat_blob.specs.Laws.{flag_place}
-use Rattle.oat_blob.specs.Parts.{addresses_part, head_part, violation_fields}
+use Rattle.oat_verify.specs.{packed, BodyHead, Violation, Body, IsBody, IsBlob, bits_part, covered_of, magic, serial_part, targets_part, version_part, violation_part, flag_place, addresses_part}
+use Rattle.oat_verify.specs.{head_part, violation_fields}
 use Rattle.oat_feed.specs.RecordBytes.{bits_place}
 
 -- a part that stands wholly in the front is the part of the whole

@@ -1,26 +1,13 @@
 -- The places of a blob's records, by its counts, and the records that stand there.
 use Rattle.std.proofs.Common.{◌≡◌, ℕ, ◌+◌, ◌*◌, ◌/◌, ◌<◌, ◌≤◌, ◌^◌, List, [], ◌∷◌, ◌++◌, length, take, drop, map, refl, ap, sym, subst, ◌∙◌, arith, length-append, inl, inr}
-use Rattle.std.proofs.lemmas.Bool.{cases_lt}
-use Rattle.std.proofs.lemmas.List.{append-nil, drop-drop, drop_at}
-use Rattle.std.proofs.lemmas.List.FromFn.{length-map-range_with_len}
-use Rattle.std.specs.Prelude.{slice_get, Some}
-use Rattle.std.proofs.lemmas.List.Elements.{All-head, All-tail}
-use Rattle.std.proofs.lemmas.Nat.{from_be_bytes-to_be_bytes_4, from_be_bytes-to_be_bytes_8}
-use Rattle.std.specs.Int.{w32, w64, to_be_bytes, from_be_bytes}
-use Rattle.std.specs.List.{All, range_with_len}
-use Rattle.oat_bits.specs.Packed.{packed}
-use Rattle.oat_bits.specs.Bits.{bits_in}
+use Rattle.std.specs.{Prelude.slice_get, Prelude.Some, Int.w32, Int.w64, Int.to_be_bytes, Int.from_be_bytes, List.All, List.range_with_len}
+use Rattle.std.proofs.lemmas.{Bool.cases_lt, List.append-nil, List.drop-drop, List.drop_at, List.FromFn.length-map-range_with_len, List.Elements.All-head, List.Elements.All-tail}
+use Rattle.std.proofs.lemmas.{Nat.from_be_bytes-to_be_bytes_4, Nat.from_be_bytes-to_be_bytes_8}
 use Rattle.oat_bits.proofs.PackedForm.{bits_in-packed, length-packed, slice_get-map-range}
-use Rattle.oat_blob.specs.Body.{Body}
-use Rattle.oat_blob.specs.Layout.{IsBlob, bits_part}
-use Rattle.oat_blob.specs.Parts.{addresses_part, head_part}
-use Rattle.oat_blob.specs.Shown.{target_in, targets_in}
-use Rattle.oat_feed.specs.declared.places.RecordPlaces.{RecordPlaces}
-use Rattle.oat_feed.specs.RecordBytes.{bits_place, bits_size}
-use Rattle.oat_feed.specs.Counts.{IsCountAt}
-use Rattle.oat_feed.specs.RecordPlaces.{AreRecordPlaces, HoldsRecords, ShowsRecordPlaces, kept_bits, kept_targets}
-use Rattle.oat_feed.proofs.PartsAt.{at_bit_count, at_bits, at_target_count, at_targets, bits_place_is, part_at}
-use Rattle.oat_feed.proofs.RoomLeft.{sizes}
+use Rattle.oat_verify.specs.{packed, bits_in, Body, IsBlob, bits_part, addresses_part, head_part, target_in, targets_in}
+use Rattle.oat_feed.specs.{declared.places.RecordPlaces.RecordPlaces, RecordBytes.bits_place, RecordBytes.bits_size, Counts.IsCountAt, RecordPlaces.AreRecordPlaces, RecordPlaces.HoldsRecords}
+use Rattle.oat_feed.specs.{RecordPlaces.ShowsRecordPlaces, RecordPlaces.kept_bits, RecordPlaces.kept_targets}
+use Rattle.oat_feed.proofs.{PartsAt.at_bit_count, PartsAt.at_bits, PartsAt.at_target_count, PartsAt.at_targets, PartsAt.bits_place_is, PartsAt.part_at, RoomLeft.sizes}
 
 -- ---- counts
 

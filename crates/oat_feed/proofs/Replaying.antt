@@ -1,14 +1,7 @@
 -- What a replay that keeps no path has found before a turn: the steps, and the chain of their returns.
 use Rattle.std.proofs.Common.{◌≡◌, ℕ, ◌+◌, Bool, List, [], ◌∷◌, ◌++◌, length, ap, ◌∙◌, append-nil}
 use Rattle.std.proofs.lemmas.List.Elements.{filter_map-append}
-use Rattle.oat_map.specs.declared.edge.Edge.{Edge}
-use Rattle.oat_map.specs.declared.edge.Edge.TheVariants.{End}
-use Rattle.oat_map.specs.declared.map.Map.{Map}
-use Rattle.oat_map.specs.Walk.{Step, passed, moved, edge_of, path_of, return_of, returns_of}
-use Rattle.oat_chain.specs.declared.Chain.{Chain}
-use Rattle.oat_chain.specs.Standing.{StandsFor}
-use Rattle.oat_replay.specs.declared.replay.Replay.{Replay}
-use Rattle.oat_replay.specs.StandsBehind.{StandsBehind}
+use Rattle.oat_verify.specs.{Edge, End, Map, Step, passed, moved, edge_of, path_of, return_of, returns_of, Chain, StandsFor, Replay, StandsBehind}
 
 pub record ReplaysSoFar (flow : Map) (op : ℕ) (bits : List Bool) (targets : List ℕ) (replay : Replay) (chain : Chain) (head : List ℕ) (turn : ℕ) : Type 0 where
   pub steps : List Step

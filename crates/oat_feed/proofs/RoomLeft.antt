@@ -1,19 +1,12 @@
 -- How many bytes of a blob are no record bytes, and where a record byte stands among those that came.
 use Rattle.std.proofs.Common.{◌≡◌, ℕ, suc, ◌+◌, ◌*◌, ◌/◌, ◌<◌, ◌≤◌, List, ◌++◌, length, take, drop, ap, sym, subst, ◌∙◌, arith, append_assoc, length-append, inl, inr}
-use Rattle.std.proofs.lemmas.Bool.{cases_lt}
-use Rattle.std.proofs.lemmas.List.{take-append-drop, take-append-le}
-use Rattle.std.specs.Prelude.{is_some, Bool, true, false, Option, Some, None}
-use Rattle.std.specs.Int.{w32, to_be_bytes}
-use Rattle.oat_bits.specs.Packed.{packed}
-use Rattle.oat_blob.specs.declared.body.Violation.{Violation}
-use Rattle.oat_blob.specs.Body.{Body}
-use Rattle.oat_blob.specs.Laws.{flag_place}
-use Rattle.oat_blob.specs.Layout.{IsBlob, bits_part, targets_part, violation_part}
-use Rattle.oat_blob.specs.Parts.{addresses_part, head_part}
-use Rattle.oat_feed.specs.RecordBytes.{HasRecordByte, StandsInRecords, in_bits, in_targets, bits_place, bits_size, targets_place, targets_size}
-use Rattle.oat_feed.specs.RecordPlaces.{AreRecordPlaces, in_part, records_before}
-use Rattle.oat_feed.specs.declared.places.RecordPlaces.{RecordPlaces}
+use Rattle.std.specs.{Prelude.is_some, Prelude.Bool, Prelude.true, Prelude.false, Prelude.Option, Prelude.Some, Prelude.None, Int.w32, Int.to_be_bytes}
+use Rattle.std.proofs.lemmas.{Bool.cases_lt, List.take-append-drop, List.take-append-le}
 use Rattle.oat_bits.proofs.PackedForm.{length-packed}
+use Rattle.oat_verify.specs.{packed, Violation, Body, flag_place, IsBlob, bits_part, targets_part, violation_part, addresses_part, head_part}
+use Rattle.oat_feed.specs.{RecordBytes.HasRecordByte, RecordBytes.StandsInRecords, RecordBytes.in_bits, RecordBytes.in_targets, RecordBytes.bits_place, RecordBytes.bits_size}
+use Rattle.oat_feed.specs.{RecordBytes.targets_place, RecordBytes.targets_size, RecordPlaces.AreRecordPlaces, RecordPlaces.in_part, RecordPlaces.records_before}
+use Rattle.oat_feed.specs.{declared.places.RecordPlaces.RecordPlaces}
 use Rattle.oat_feed.proofs.PartsAt.{bits_place_is, length-addresses_part, length-head_part, parted}
 
 -- ---- lengths

@@ -1,10 +1,7 @@
 -- What a feed settles of the bytes that came, by the front that it keeps.
 use Rattle.std.proofs.Common.{◌≡◌, ℕ, List, length, sym, subst, ◌∙◌}
-use Rattle.oat_blob.specs.Layout.{IsBlob}
-use Rattle.oat_blob.specs.Faults.{BeginsBlob, IsFormOffset}
-use Rattle.oat_feed.specs.declared.intake.State.TheVariants.{Broken}
-use Rattle.oat_feed.specs.Verdict.{AreRecordsOf, RecordLists, of_blob, of_none}
-use Rattle.oat_feed.specs.Standing.{KeepsFront}
+use Rattle.oat_verify.specs.{IsBlob, BeginsBlob, IsFormOffset}
+use Rattle.oat_feed.specs.{declared.intake.State.TheVariants.Broken, Verdict.AreRecordsOf, Verdict.RecordLists, Verdict.of_blob, Verdict.of_none, Standing.KeepsFront}
 use Rattle.oat_feed.proofs.Fronts.{form_at}
 
 pub same_records : (came front : List ℕ) (records others : RecordLists) → came ≡ front → records.bits ≡ others.bits → records.targets ≡ others.targets → AreRecordsOf front others → AreRecordsOf came records

@@ -1,6 +1,5 @@
 -- A count at a place of bytes that begin a blob.
-use Rattle.std.specs.Prelude.{◌≡◌, ℕ, ◌+◌, ◌<◌, ◌≤◌, List, length, take, drop}
-use Rattle.std.specs.Int.{w32, from_be_bytes}
+use Rattle.std.specs.{Prelude.◌≡◌, Prelude.ℕ, Prelude.◌+◌, Prelude.◌<◌, Prelude.◌≤◌, Prelude.List, Prelude.length, Prelude.take, Prelude.drop, Int.w32, Int.from_be_bytes}
 
 -- it is 0 as long as its bytes haven't come
 pub record IsCountAt (front : List ℕ) (at count : ℕ) : Type 0 where

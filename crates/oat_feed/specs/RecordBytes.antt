@@ -1,9 +1,6 @@
 -- Which bytes that come are record bytes: those of a blob's bits and targets (docs/FORMATS.md). Memory grows by them alone.
 use Rattle.std.specs.Prelude.{ℕ, suc, ◌+◌, ◌*◌, ◌<◌, ◌≤◌, List, ◌++◌, length, take}
-use Rattle.oat_blob.specs.Body.{Body}
-use Rattle.oat_blob.specs.Layout.{IsBlob}
-use Rattle.oat_blob.specs.Parts.{head_part}
-use Rattle.oat_bits.specs.Packed.{packed}
+use Rattle.oat_verify.specs.{Body, IsBlob, head_part, packed}
 
 -- where a blob's bits begin, and where its targets: each behind their count
 unfoldable pub bits_place : Body → ℕ

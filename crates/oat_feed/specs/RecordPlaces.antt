@@ -1,11 +1,7 @@
 -- Where records stand in bytes that begin a blob, as far as their counts have come.
 use Rattle.std.specs.Prelude.{◌≡◌, ℕ, ◌+◌, ◌-◌, ◌*◌, ◌/◌, ◌<◌, ◌≤◌, Bool, List, ◌++◌, length, take, drop, min}
-use Rattle.oat_bits.specs.Bits.{bits_in}
-use Rattle.oat_blob.specs.Body.{Body}
-use Rattle.oat_blob.specs.Layout.{IsBlob}
-use Rattle.oat_blob.specs.Shown.{targets_in}
-use Rattle.oat_feed.specs.declared.places.RecordPlaces.{RecordPlaces}
-use Rattle.oat_feed.specs.RecordBytes.{bits_place, bits_size, targets_place, targets_size}
+use Rattle.oat_verify.specs.{bits_in, Body, IsBlob, targets_in}
+use Rattle.oat_feed.specs.{declared.places.RecordPlaces.RecordPlaces, RecordBytes.bits_place, RecordBytes.bits_size, RecordBytes.targets_place, RecordBytes.targets_size}
 
 -- how many of the first n places stand in a part of such a size from `from` on
 abbrev pub in_part : (n from size : ℕ) → ℕ

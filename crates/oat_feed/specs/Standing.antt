@@ -1,14 +1,8 @@
 -- For which bytes an intake and a feed stand while bytes come in piece by piece (docs/DEFINITIONS.md).
 use Rattle.std.specs.Prelude.{◌≡◌, ℕ, suc, ◌+◌, ◌<◌, ◌≤◌, List, ◌++◌, length, take, vec_capacity}
-use Rattle.oat_blob.specs.Body.{Body}
-use Rattle.oat_blob.specs.Layout.{IsBlob}
-use Rattle.oat_blob.specs.Faults.{BeginsBlob}
-use Rattle.oat_verify.specs.Verdict.{Subject, subject_of}
-use Rattle.oat_feed.specs.declared.intake.State.{State}
-use Rattle.oat_feed.specs.declared.intake.State.TheVariants.{Open, Broken, Spent}
-use Rattle.oat_feed.specs.declared.intake.Intake.{Intake}
-use Rattle.oat_feed.specs.declared.feed.Feed.{Feed}
-use Rattle.oat_feed.specs.RecordPlaces.{records_before}
+use Rattle.oat_verify.specs.{Body, IsBlob, BeginsBlob, Verdict.Subject, Verdict.subject_of}
+use Rattle.oat_feed.specs.{declared.intake.State.State, declared.intake.State.TheVariants.Open, declared.intake.State.TheVariants.Broken, declared.intake.State.TheVariants.Spent}
+use Rattle.oat_feed.specs.{declared.intake.Intake.Intake, declared.feed.Feed.Feed, RecordPlaces.records_before}
 
 -- the bytes of a blob that are no record bytes are at most 152, and at most 4096 are looked at together
 abbrev pub feed_room : ℕ

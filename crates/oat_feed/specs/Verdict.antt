@@ -1,12 +1,8 @@
 -- The verdict of a feed: that on the whole of the bytes that came, but for the path; and what is kept of the bytes.
 use Rattle.std.specs.Prelude.{◌≡◌, ℕ, Bool, List, []}
-use Rattle.oat_blob.specs.Body.{Body}
-use Rattle.oat_blob.specs.Layout.{IsBlob}
-use Rattle.oat_verify.specs.declared.verdict.Verdict.{Verdict}
+use Rattle.oat_verify.specs.{Body, IsBlob, declared.verdict.Verdict.Verdict, Verdict.Subject, Verdict.IsVerdict}
+use Rattle.oat_feed.specs.{declared.verdict.FeedVerdict.FeedVerdict, declared.verdict.FeedVerdict.TheVariants.Accept, declared.verdict.FeedVerdict.TheVariants.Refuse}
 use Rattle.oat_verify.specs.declared.verdict.Verdict.TheVariants as verdicts
-use Rattle.oat_verify.specs.Verdict.{Subject, IsVerdict}
-use Rattle.oat_feed.specs.declared.verdict.FeedVerdict.{FeedVerdict}
-use Rattle.oat_feed.specs.declared.verdict.FeedVerdict.TheVariants.{Accept, Refuse}
 
 -- a verdict without its path
 abbrev pub feed_verdict_of : Verdict → FeedVerdict

@@ -1,15 +1,14 @@
 ghost use Rattle.std.specs.Prelude.{IsSome};
 ghost use Rattle.std.proofs.Props.{props};
-ghost use Rattle.oat_map.specs.Rows.{start};
+ghost use Rattle.oat_verify.specs.{start};
 
 use crate::intake::{Intake, State};
 use crate::judging::judge_bytes;
 use crate::kept::Kept;
 use crate::places::RecordPlaces;
 use crate::verdict::{FeedVerdict, Settled};
-use oat_case::Session;
 use oat_shape::Shaped;
-use oat_verify::Cause;
+use oat_verify::{Cause, Session};
 use std::alloc::{AllocError, Global};
 
 /// Takes a blob's bytes in pieces, and then gives the verdict on all of them.
@@ -23,7 +22,7 @@ pub struct Feed<'a> {
 
 impl<'a> Feed<'a> {
     ghost use Rattle.std.specs.Prelude.{ℕ, ◌≡◌, List, [], ◌++◌, IfOk, OnOk, OnErr, IsErr};
-    ghost use Rattle.oat_map.specs.Rows.{IsOperation};
+    ghost use Rattle.oat_verify.specs.{IsOperation};
     ghost use Rattle.oat_verify.specs.Verdict.{Subject, subject_of, CarriesSerial};
     ghost use Rattle.oat_feed.specs.RecordBytes.{HasRecordByte};
     ghost use Rattle.oat_feed.specs.Verdict.{IsFeedVerdict, AreRecordsOf};

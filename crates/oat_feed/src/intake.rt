@@ -1,7 +1,7 @@
 //! Bytes that come in: of them the longest front that begins a blob is kept.
 
 ghost use Rattle.std.specs.Prelude.{ℕ, suc, ◌<◌, ◌≤◌, List, length, take};
-ghost use Rattle.oat_blob.specs.Faults.{BeginsBlob};
+ghost use Rattle.oat_verify.specs.{BeginsBlob};
 
 use crate::places::RecordPlaces;
 use oat_blob::decode;

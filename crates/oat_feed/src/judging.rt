@@ -1,9 +1,5 @@
 ghost use Rattle.std.specs.Prelude.{◌≡◌, ℕ, List, IfOk, IsSome};
-ghost use Rattle.oat_map.specs.declared.edge.Edge.{Edge};
-ghost use Rattle.oat_map.specs.Rows.{start};
-ghost use Rattle.oat_map.specs.Walk.{returns_of};
-ghost use Rattle.oat_blob.specs.Body.{Body};
-ghost use Rattle.oat_chain.specs.Standing.{StandsFor};
+ghost use Rattle.oat_verify.specs.{Edge, start, returns_of, Body, StandsFor};
 ghost use Rattle.oat_verify.specs.Verdict.{subject_of, Judges, JudgesPath, Replays, CarriesSerial};
 ghost use Rattle.oat_feed.specs.RecordPlaces.{HoldsRecords, kept_bits, kept_targets};
 ghost use Rattle.oat_feed.specs.Verdict.{IsFeedVerdict, AreRecordsOf, Tells};
@@ -11,11 +7,9 @@ ghost use Rattle.oat_feed.specs.Verdict.{IsFeedVerdict, AreRecordsOf, Tells};
 use crate::places::RecordPlaces;
 use crate::verdict::FeedVerdict;
 use oat_blob::{BlobRef, BodyHead, decode};
-use oat_case::Session;
-use oat_chain::{Chain, window_head};
 use oat_replay::{Replay, Turn};
 use oat_shape::Shaped;
-use oat_verify::{Cause, absorb_return, report, screen};
+use oat_verify::{Cause, Chain, Session, absorb_return, report, screen, window_head};
 use std::alloc::{AllocError, Global};
 
 /// The most turns of a replay that lead on.

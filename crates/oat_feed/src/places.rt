@@ -1,8 +1,5 @@
 ghost use Rattle.std.specs.Prelude.{◌≡◌, ◌<◌, ◌≤◌, ◌+◌, ℕ, Bool, Option, List, [], ◌∷◌, ◌++◌, length, MatchOption, IfSome};
-ghost use Rattle.oat_blob.specs.declared.body.Violation.{Violation};
-ghost use Rattle.oat_blob.specs.Body.{Body};
-ghost use Rattle.oat_blob.specs.Laws.{flag_place};
-ghost use Rattle.oat_blob.specs.Layout.{IsBlob, version_part, violation_part};
+ghost use Rattle.oat_verify.specs.{Violation, Body, flag_place, IsBlob, version_part, violation_part};
 ghost use Rattle.oat_feed.specs.RecordBytes.{bits_place};
 ghost use Rattle.oat_feed.specs.Counts.{IsCountAt};
 
@@ -59,8 +56,7 @@ fn count_at(front: &[u8], at: usize) -> u32
 
 impl RecordPlaces {
     ghost use Rattle.std.specs.Prelude.{◌≡◌, ◌+◌, ◌*◌, ◌/◌, ◌<◌, ◌≤◌, ◌^◌, ℕ, List, ◌++◌, length};
-    ghost use Rattle.oat_blob.specs.Body.{Body};
-    ghost use Rattle.oat_blob.specs.Layout.{IsBlob};
+    ghost use Rattle.oat_verify.specs.{Body, IsBlob};
     ghost use Rattle.oat_feed.specs.RecordBytes.{bits_place, targets_place};
     ghost use Rattle.oat_feed.specs.RecordPlaces.{ShowsRecordPlaces, in_part};
 

@@ -1,12 +1,7 @@
 -- The laws of images that follow a source, for the crates above: the other statements stand in specs/, each under the name of its law.
 use Rattle.std.proofs.Common.{◌≡◌, ℤ, List}
-use Rattle.oat_events.specs.Source.{SourceKeeps, SourceMachine}
-use Rattle.oat_image.specs.declared.image.Image.{Image}
-use Rattle.oat_measure.specs.declared.opening.Opening.{Opening}
-use Rattle.oat_journal.specs.Measured.{start_cells}
-use Rattle.oat_follow.specs.Following.{Means, RunsAs}
-use Rattle.oat_follow.specs.Placement.{Placement}
-use Rattle.oat_follow.specs.Steps.{FollowsSteps}
+use Rattle.oat_journal.specs.{SourceKeeps, SourceMachine, Image, Opening, Measured.start_cells}
+use Rattle.oat_follow.specs.{Following.Means, Following.RunsAs, Placement.Placement, Steps.FollowsSteps}
 use Rattle.oat_follow.proofs.OnBare as on_bare
 use Rattle.oat_follow.proofs.OnDevice as on_device
 -- Events: what a run and a window show.

@@ -1,11 +1,7 @@
 -- The names of a path, where each edge that a source shows has its name.
 use Rattle.std.proofs.Common.{◌≡◌, ℕ, zero, suc, Bool, true, false, cond, eqb, List, [], ◌∷◌, ◌++◌, map, filter_map, Some, None, refl, ap, ◌∙◌}
 use Rattle.std.specs.List.{cons_option}
-use Rattle.oat_map.specs.declared.map.Map.{Map}
-use Rattle.oat_map.specs.EdgeName.{EdgeName, name_of}
-use Rattle.oat_events.specs.Windows.{through, beyond, past, inside}
-use Rattle.oat_events.specs.Events.{SourceEvent, takes, enters, leaves, loads, stores, outputs, is_entered, is_left}
-use Rattle.oat_events.specs.Source.{edge_taken, stretch}
+use Rattle.oat_journal.specs.{Map, EdgeName, name_of, through, beyond, past, inside, SourceEvent, takes, enters, leaves, loads, stores, outputs, is_entered, is_left, edge_taken, stretch}
 use Rattle.oat_follow.specs.Placement.{AreNamed, Placement}
 
 module _ {E : Type 0} (flow : Map) (p : Placement E) (name : E → EdgeName) where

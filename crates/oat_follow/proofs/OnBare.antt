@@ -1,33 +1,18 @@
 -- What holds of whole bare runs where each step is followed.
 use Rattle.std.proofs.Common.{◌≡◌, ◌+◌, ◌≤◌, ℕ, zero, ℤ, Bool, true, List, [], ◌++◌, map, filter_map, Some, None, refl, sym, ap, subst, ◌∙◌, arith}
-use Rattle.std.proofs.lemmas.List.{map-append}
-use Rattle.std.proofs.lemmas.List.Elements.{filter_map-append}
-use Rattle.oat_events.specs.Cells.{Cells}
-use Rattle.oat_events.specs.Events.{Passes, SourceEvent, is_entered, is_left}
-use Rattle.oat_events.specs.Source.{Finish, SourceKeeps, SourceMachine, end_after, events_after, has_completed, load_in, output_in, outputs_of, store_in, stretch}
-use Rattle.oat_events.specs.Windows.{inside, is_closed, up_to}
-use Rattle.oat_events.proofs.EventLaws.{passes_parted}
-use Rattle.oat_events.proofs.WindowLaws.{closed_alike, closed_stays, inside_alike, inside_stays, shown_at_once, up_to_alike, up_to_stays}
-use Rattle.oat_image.specs.declared.image.Image.{Image}
-use Rattle.oat_map.specs.declared.edge.Edge.{Edge}
-use Rattle.oat_map.specs.EdgeName.{name_of}
-use Rattle.oat_journal.specs.declared.end.DeviceEnd.{DeviceEnd}
-use Rattle.oat_journal.specs.Measured.{start_cells}
-use Rattle.oat_journal.specs.Run.{Entry, bare, journal, started}
-use Rattle.oat_journal.specs.Window.{made_call, opens_window, seals_window, up_to_window, window}
-use Rattle.oat_follow.specs.Events.{MachineEvent, call_in, edge_in, events_of, print_in, told_at}
-use Rattle.oat_follow.specs.Following.{EndsAs, HasEnded, JournalShowsTheCall, RunsAs}
-use Rattle.oat_follow.specs.Order.{KeepOrder, is_window_closed}
-use Rattle.oat_follow.specs.Placement.{Placement, seen_at}
-use Rattle.oat_follow.specs.Reaching.{run_on, shown_on}
-use Rattle.oat_follow.specs.Steps.{FollowsSteps, instructions_for}
-use Rattle.oat_follow.proofs.Naming.{named-call}
-use Rattle.oat_follow.proofs.Ordering.{source-ordered}
-use Rattle.oat_follow.proofs.Reaching.{shown-adds}
-use Rattle.oat_follow.proofs.Seeing.{defines-made, enters-agree, leaves-agree, load-seen, load_seen, of-seen, output-seen, path-seen, store-seen, store_seen}
-use Rattle.oat_follow.proofs.Showing.{event_in, map-shown, opens-agree, outputs_are_shown, paths_are_shown, seals-agree, shown-calls}
-use Rattle.oat_follow.proofs.Sounding.{uses-checked}
-use Rattle.oat_follow.proofs.Stepping.{ended-by, has-ended, lags, shows-by, stands}
+use Rattle.std.proofs.lemmas.{List.map-append, List.Elements.filter_map-append}
+use Rattle.oat_events.proofs.{EventLaws.passes_parted, WindowLaws.closed_alike, WindowLaws.closed_stays, WindowLaws.inside_alike, WindowLaws.inside_stays, WindowLaws.shown_at_once}
+use Rattle.oat_events.proofs.{WindowLaws.up_to_alike, WindowLaws.up_to_stays}
+use Rattle.oat_journal.specs.{Cells, Passes, SourceEvent, is_entered, is_left, Finish, SourceKeeps, SourceMachine, end_after, events_after, has_completed, load_in, output_in, outputs_of, store_in}
+use Rattle.oat_journal.specs.{stretch, inside, is_closed, up_to, Image, Edge, name_of, declared.end.DeviceEnd.DeviceEnd, Measured.start_cells, Run.Entry, Run.bare, Run.journal, Run.started}
+use Rattle.oat_journal.specs.{Window.made_call, Window.opens_window, Window.seals_window, Window.up_to_window, Window.window}
+use Rattle.oat_follow.specs.{Events.MachineEvent, Events.call_in, Events.edge_in, Events.events_of, Events.print_in, Events.told_at, Following.EndsAs, Following.HasEnded}
+use Rattle.oat_follow.specs.{Following.JournalShowsTheCall, Following.RunsAs, Order.KeepOrder, Order.is_window_closed, Placement.Placement, Placement.seen_at, Reaching.run_on, Reaching.shown_on}
+use Rattle.oat_follow.specs.{Steps.FollowsSteps, Steps.instructions_for}
+use Rattle.oat_follow.proofs.{Naming.named-call, Ordering.source-ordered, Reaching.shown-adds, Seeing.defines-made, Seeing.enters-agree, Seeing.leaves-agree, Seeing.load-seen, Seeing.load_seen}
+use Rattle.oat_follow.proofs.{Seeing.of-seen, Seeing.output-seen, Seeing.path-seen, Seeing.store-seen, Seeing.store_seen, Showing.event_in, Showing.map-shown, Showing.opens-agree}
+use Rattle.oat_follow.proofs.{Showing.outputs_are_shown, Showing.paths_are_shown, Showing.seals-agree, Showing.shown-calls, Sounding.uses-checked, Stepping.ended-by, Stepping.has-ended, Stepping.lags}
+use Rattle.oat_follow.proofs.{Stepping.shows-by, Stepping.stands}
 
 -- ---- whole runs
 

@@ -1,25 +1,14 @@
 -- From the bare run to the measured run of a session.
 use Rattle.std.proofs.Common.{◌≡◌, ◌+◌, ℕ, ℤ, true, List, [], ◌++◌, map, slice_get, Option, Some, None, is_some, refl, sym, ap, subst, ◌∙◌, arith}
-use Rattle.oat_blob.specs.Body.{Body}
-use Rattle.oat_case.specs.declared.case.Write.{Write}
-use Rattle.oat_events.specs.Source.{SourceMachine}
-use Rattle.oat_events.specs.Windows.{is_closed}
 use Rattle.oat_events.proofs.WindowLaws.{closed_alike}
-use Rattle.oat_image.specs.declared.image.Image.{Image}
-use Rattle.oat_measure.specs.declared.opening.Opening.{Opening}
-use Rattle.oat_measure.specs.declared.stop.StopKind.{StopKind}
-use Rattle.oat_measure.specs.Shelving.{Measured, at_start, measures, sealed_bodies}
-use Rattle.oat_journal.specs.Measured.{HasBody, IsCalledFor, Run, dev, run_until, start_cells}
-use Rattle.oat_journal.specs.Run.{Entry, Running, bare, journal}
-use Rattle.oat_journal.specs.declared.end.DeviceEnd.{DeviceEnd}
-use Rattle.oat_journal.specs.Window.{executed_path, made_call, opens_window, seals_window, window}
+use Rattle.oat_measure.specs.Shelving.{Measured}
+use Rattle.oat_journal.specs.{Body, Write, SourceMachine, is_closed, Image, Opening, StopKind, at_start, measures, sealed_bodies, Measured.HasBody, Measured.IsCalledFor, Measured.Run, Measured.dev}
+use Rattle.oat_journal.specs.{Measured.run_until, Measured.start_cells, Run.Entry, Run.Running, Run.bare, Run.journal, declared.end.DeviceEnd.DeviceEnd, Window.executed_path, Window.made_call}
+use Rattle.oat_journal.specs.{Window.opens_window, Window.seals_window, Window.window}
 use Rattle.oat_journal.proofs.RunLaws.{bodies_are_called_for}
-use Rattle.oat_follow.specs.Following.{EndsAlike, Means, RunsAs, ShowsTheCall}
-use Rattle.oat_follow.specs.Order.{KeepOrder, OrderedRunsAreSealed, SealsWindows, defines_up_to_window, is_window_closed, uses_in_window}
-use Rattle.oat_follow.specs.Placement.{Placement}
-use Rattle.oat_follow.proofs.Several.{several}
-use Rattle.oat_follow.proofs.Shelving.{Seals, has_body, opening, sealing}
-use Rattle.oat_follow.proofs.Showing.{map-shown}
+use Rattle.oat_follow.specs.{Following.EndsAlike, Following.Means, Following.RunsAs, Following.ShowsTheCall, Order.KeepOrder, Order.OrderedRunsAreSealed, Order.SealsWindows}
+use Rattle.oat_follow.specs.{Order.defines_up_to_window, Order.is_window_closed, Order.uses_in_window, Placement.Placement}
+use Rattle.oat_follow.proofs.{Several.several, Shelving.Seals, Shelving.has_body, Shelving.opening, Shelving.sealing, Showing.map-shown}
 
 -- ---- a run whose calls keep order
 

@@ -1,21 +1,11 @@
 -- The smallest image with a jump follows its source.
 use Rattle.std.proofs.Common.{◌≡◌, ◌≤◌, ℕ, pos, [], map, Option, option_map, Some, None, refl, sym, ap, ◌∙◌, arith, lit<}
-use Rattle.oat_a64.specs.declared.inst.Inst.TheVariants.{Movz, B, Svc}
-use Rattle.oat_a64.specs.Fetch.{inst_of}
 use Rattle.oat_a64.proofs.FetchLemmas.{inst_from_word}
-use Rattle.oat_events.specs.Events.{Passes}
-use Rattle.oat_events.specs.Source.{Finish, SourceKeeps}
-use Rattle.oat_image.specs.Worked.{one_jump}
-use Rattle.oat_journal.specs.declared.end.DeviceEnd.TheVariants.{Halted}
-use Rattle.oat_journal.specs.Measured.{start_cells}
-use Rattle.oat_journal.specs.Run.{Running, started}
-use Rattle.oat_follow.specs.Placement.{AreNamed, seen_at}
-use Rattle.oat_follow.specs.Reaching.{RunsTo, inst_makes, run_on, shown_on}
-use Rattle.oat_follow.specs.Steps.{FollowsSteps, IsMatched, device_end, step_limit}
-use Rattle.oat_follow.specs.Worked.{OneJumpMeans, OneJumpRunsAs, Spot, at_call, at_halt, at_jump, at_return, one_jump_placement, one_jump_source, over}
-use Rattle.oat_follow.proofs.OnBare.{runs_as}
-use Rattle.oat_follow.proofs.OnDevice.{means}
-use Rattle.oat_follow.proofs.Reaching.{goes, still, stops, thence}
+use Rattle.oat_journal.specs.{Movz, B, Svc, inst_of, Passes, Finish, SourceKeeps, one_jump, declared.end.DeviceEnd.TheVariants.Halted, Measured.start_cells, Run.Running, Run.started}
+use Rattle.oat_follow.specs.{Placement.AreNamed, Placement.seen_at, Reaching.RunsTo, Reaching.inst_makes, Reaching.run_on, Reaching.shown_on, Steps.FollowsSteps, Steps.IsMatched, Steps.device_end}
+use Rattle.oat_follow.specs.{Steps.step_limit, Worked.OneJumpMeans, Worked.OneJumpRunsAs, Worked.Spot, Worked.at_call, Worked.at_halt, Worked.at_jump, Worked.at_return, Worked.one_jump_placement}
+use Rattle.oat_follow.specs.{Worked.one_jump_source, Worked.over}
+use Rattle.oat_follow.proofs.{OnBare.runs_as, OnDevice.means, Reaching.goes, Reaching.still, Reaching.stops, Reaching.thence}
 
 movz-is : inst_of 0xD2800029 ≡ Some (Movz 9 0 1)
 movz-is = inst_from_word (Movz 9 0 1) 0xD2800029 ((lit< tt, (lit< tt, (lit< tt, tt))), refl)

@@ -1,9 +1,7 @@
 -- The rule of operations and cells: of events as they are seen, and of whole runs of a source.
 use Rattle.std.proofs.Common.{ℕ, List, [], ◌∷◌, map, filter_map, Option, Some, None, subst}
-use Rattle.oat_events.specs.Cells.{Cells, defined}
-use Rattle.oat_events.specs.Events.{Passes, SourceEvent, takes, enters, leaves, loads, stores, outputs}
-use Rattle.oat_events.specs.Source.{SourceKeeps, SourceMachine, events_after, state_after}
 use Rattle.oat_events.proofs.SourceLaws.{passes_after}
+use Rattle.oat_journal.specs.{Cells, defined, Passes, SourceEvent, takes, enters, leaves, loads, stores, outputs, SourceKeeps, SourceMachine, events_after, state_after}
 use Rattle.oat_follow.specs.Placement.{Placement, seen_at}
 use Rattle.oat_follow.proofs.Showing.{event_in}
 

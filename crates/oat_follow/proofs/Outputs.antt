@@ -1,20 +1,14 @@
 -- The outputs of a run are what the entries of its journal print.
-use Rattle.std.proofs.Common.{◌≡◌, ◌+◌, ◌*◌, ℕ, zero, suc, ℤ, Bool, true, false, not, cond, ◌&&◌, eqb, leb, List, [], ◌∷◌, ◌++◌, filter_map, Option, Some, None, option_and_then, refl, sym, ap, subst, ◌∙◌, arith, eqb-true, append_assoc, append-nil}
+use Rattle.std.proofs.Common.{◌≡◌, ◌+◌, ◌*◌, ℕ, zero, suc, ℤ, Bool, true, false, not, cond, ◌&&◌, eqb, leb, List, [], ◌∷◌, ◌++◌, filter_map, Option, Some, None, option_and_then, refl, sym, ap, subst}
+use Rattle.std.proofs.Common.{◌∙◌, arith, eqb-true, append_assoc, append-nil}
 use Rattle.std.specs.List.{cons_option}
 use Rattle.std.proofs.lemmas.List.Elements.{filter_map-append}
-use Rattle.oat_a64.specs.declared.event.Event.{Event}
-use Rattle.oat_a64.specs.declared.event.Event.TheVariants as event
-use Rattle.oat_a64.specs.declared.inst.Inst.{Inst}
-use Rattle.oat_a64.specs.declared.inst.Inst.TheVariants.{BCond, Cbz, Cbnz, Ldr, Str, LdrReg, StrReg, Svc, Brk}
-use Rattle.oat_a64.specs.Fetch.{inst_of}
-use Rattle.oat_a64.specs.Step.{Machine, Effect, Regs, instruction_at, word_at, decodes, acts, act, step, signed, holds, reg, reg_or_sp, wrap}
-use Rattle.oat_mem.specs.DataMemory.{can_access}
-use Rattle.oat_case.specs.declared.case.Write.{Write}
-use Rattle.oat_journal.specs.declared.end.DeviceEnd.{DeviceEnd}
-use Rattle.oat_journal.specs.Run.{Running, Entry, found, makes, told, called, with_input, turn, turns, entry, made_entry, from_entry, journal_from}
-use Rattle.oat_journal.specs.TurnLaws.{AddsUp, MakesOne, Rests}
+use Rattle.oat_journal.specs.{Event, Inst, BCond, Cbz, Cbnz, Ldr, Str, LdrReg, StrReg, Svc, Brk, inst_of, Machine, Effect, Regs, instruction_at, word_at, decodes, acts, act, step, signed, holds, reg}
+use Rattle.oat_journal.specs.{reg_or_sp, wrap, can_access, Write, declared.end.DeviceEnd.DeviceEnd, Run.Running, Run.Entry, Run.found, Run.makes, Run.told, Run.called, Run.with_input, Run.turn}
+use Rattle.oat_journal.specs.{Run.turns, Run.entry, Run.made_entry, Run.from_entry, Run.journal_from, TurnLaws.AddsUp, TurnLaws.MakesOne, TurnLaws.Rests}
 use Rattle.oat_journal.proofs.RunLaws.{ended_runs_rest, one_turn, turns_add, turns_make_steps}
 use Rattle.oat_follow.specs.Events.{printed}
+use Rattle.oat_a64.specs.declared.event.Event.TheVariants as event
 
 -- ---- what an instruction leaves
 

@@ -2,15 +2,11 @@
 use Rattle.std.proofs.Common.{◌≡◌, ◌+◌, ℕ, List, [], ◌++◌, Option, Some, None, refl, ap, ◌∙◌}
 use Rattle.std.specs.List.{cons_option}
 use Rattle.std.proofs.lemmas.List.Elements.{filter_map-append}
-use Rattle.oat_a64.specs.declared.inst.Inst.{Inst}
-use Rattle.oat_a64.specs.Step.{instruction_at}
-use Rattle.oat_image.specs.declared.image.Image.{Image}
-use Rattle.oat_journal.specs.declared.end.DeviceEnd.{DeviceEnd}
-use Rattle.oat_journal.specs.Run.{Running, Entry, found, entry, made_entry, from_entry, turn, turns, journal_from}
-use Rattle.oat_journal.specs.TurnLaws.{AddsUp, MakesOne}
+use Rattle.oat_journal.specs.{Inst, instruction_at, Image, declared.end.DeviceEnd.DeviceEnd, Run.Running, Run.Entry, Run.found, Run.entry, Run.made_entry, Run.from_entry, Run.turn, Run.turns}
+use Rattle.oat_journal.specs.{Run.journal_from, TurnLaws.AddsUp, TurnLaws.MakesOne}
 use Rattle.oat_journal.proofs.RunLaws.{one_turn, turns_add}
-use Rattle.oat_follow.specs.Events.{MachineEvent, told_at, events_of}
-use Rattle.oat_follow.specs.Reaching.{InstructionsFollow, InstructionsLead, LastInstructionsLead, RunsTo, inst_makes, inst_entry, run_on, shown_on}
+use Rattle.oat_follow.specs.{Events.MachineEvent, Events.told_at, Events.events_of, Reaching.InstructionsFollow, Reaching.InstructionsLead, Reaching.LastInstructionsLead, Reaching.RunsTo}
+use Rattle.oat_follow.specs.{Reaching.inst_makes, Reaching.inst_entry, Reaching.run_on, Reaching.shown_on}
 
 pub shown-adds : (image : Image) (a b : ℕ) (m : Running) → shown_on image (a + b) m ≡ shown_on image a m ++ shown_on image b (run_on image a m)
 shown-adds image a b m =

@@ -1,19 +1,12 @@
 -- What events give as they are seen on a machine, by what they give themselves.
 use Rattle.std.proofs.Common.{◌≡◌, ℕ, Bool, true, false, cond, ◌&&◌, eqb, List, map, filter_map, Option, Some, None, option_map, option_and_then, refl, sym, ap, ◌∙◌, eqb-true, eq-eqb}
-use Rattle.oat_events.specs.Events.{SourceEvent, takes, enters, leaves, loads, stores, outputs, is_entered, is_left}
-use Rattle.oat_events.specs.Source.{CellValue, edge_taken, load_in, output_in, store_in}
-use Rattle.oat_events.specs.Windows.{Agrees}
 use Rattle.oat_events.proofs.WindowLaws.{shown_at_once}
-use Rattle.oat_map.specs.declared.edge.Edge.{Edge}
-use Rattle.oat_map.specs.declared.edge.Edge.TheVariants as edges
-use Rattle.oat_measure.specs.declared.call.MonitorCall.{MonitorCall}
-use Rattle.oat_measure.specs.declared.call.MonitorCall.TheVariants as svc
-use Rattle.oat_journal.specs.Run.{Entry}
-use Rattle.oat_journal.specs.Window.{made_call, opens_window, seals_window}
-use Rattle.oat_follow.specs.Events.{MachineEvent, call_in, edge_in, print_in}
-use Rattle.oat_follow.specs.Order.{event_of_call, value_defined}
-use Rattle.oat_follow.specs.Placement.{Placement, seen_at}
+use Rattle.oat_journal.specs.{SourceEvent, takes, enters, leaves, loads, stores, outputs, is_entered, is_left, CellValue, edge_taken, load_in, output_in, store_in, Agrees, Edge, MonitorCall}
+use Rattle.oat_journal.specs.{Run.Entry, Window.made_call, Window.opens_window, Window.seals_window}
+use Rattle.oat_follow.specs.{Events.MachineEvent, Events.call_in, Events.edge_in, Events.print_in, Order.event_of_call, Order.value_defined, Placement.Placement, Placement.seen_at}
 use Rattle.oat_follow.proofs.Showing.{event_in, map-shown}
+use Rattle.oat_journal.specs.edges as edges
+use Rattle.oat_measure.specs.declared.call.MonitorCall.TheVariants as svc
 
 enter-agrees : (q op at begun : ℕ) → (q ≡ op → begun ≡ at) → (b : Bool) → eqb q op ≡ b → b ≡ (b && eqb begun at)
 enter-agrees q op at begun same true is = sym (eq-eqb begun at (same (eqb-true q op is)))

@@ -1,20 +1,14 @@
 -- A session whose calls keep order is never stopped, and window s of it is sealed exactly where that window of the calls is closed.
-use Rattle.std.proofs.Common.{◌≡◌, ◌+◌, ℕ, zero, suc, Bool, true, false, cond, ◌&&◌, ◌||◌, not, eqb, List, [], ◌∷◌, ◌++◌, length, slice_get, filter_map, Option, Some, None, is_some, Ok, Err, refl, sym, ap, subst, ◌∙◌, arith, eqb-true, eq-eqb, length-append}
+use Rattle.std.proofs.Common.{◌≡◌, ◌+◌, ℕ, zero, suc, Bool, true, false, cond, ◌&&◌, ◌||◌, not, eqb, List, [], ◌∷◌, ◌++◌, length, slice_get, filter_map, Option, Some, None, is_some, Ok, Err, refl}
+use Rattle.std.proofs.Common.{sym, ap, subst, ◌∙◌, arith, eqb-true, eq-eqb, length-append}
 use Rattle.std.specs.List.{list_any}
 use Rattle.sha2.specs.Sha256.{sha256}
-use Rattle.oat_blob.specs.Body.{Body}
-use Rattle.oat_chain.specs.Chain.{window_head, link}
-use Rattle.oat_events.specs.Cells.{Cells, defined}
-use Rattle.oat_events.specs.Events.{Passes}
-use Rattle.oat_events.specs.Windows.{beyond, is_closed}
-use Rattle.oat_measure.specs.declared.call.MonitorCall.{MonitorCall}
-use Rattle.oat_measure.specs.declared.call.MonitorCall.TheVariants as svc
-use Rattle.oat_measure.specs.declared.opening.Opening.{Opening}
-use Rattle.oat_measure.specs.declared.stop.StopKind.TheVariants.{WrongEnd}
-use Rattle.oat_measure.specs.Measurement.{State, measured, measuring, sealed, unmeasured, violated}
-use Rattle.oat_measure.specs.Shelving.{body_of, is_due, measured_on, measures, reopened, sealed_bodies, shelving, with_state}
+use Rattle.oat_journal.specs.{Body, window_head, link, Cells, defined, Passes, beyond, is_closed, MonitorCall, Opening, WrongEnd, State, measured, measuring, sealed, unmeasured, violated, body_of}
+use Rattle.oat_journal.specs.{is_due, measured_on, measures, reopened, sealed_bodies, shelving, with_state}
 use Rattle.oat_follow.specs.Order.{event_of_call}
-use Rattle.oat_follow.proofs.Shelving.{Calls, opening, sealing, closed, closed_within, on_shelf, has_body, Seals, in-front, none-behind, due-behind, staged, bodies-at, behind, retested, stays-unmeasured, stays-measuring, skipped, opened, passed, over, over-seals}
+use Rattle.oat_follow.proofs.Shelving.{Calls, opening, sealing, closed, closed_within, on_shelf, has_body, Seals, in-front, none-behind, due-behind, staged, bodies-at, behind, retested}
+use Rattle.oat_follow.proofs.Shelving.{stays-unmeasured, stays-measuring, skipped, opened, passed, over, over-seals}
+use Rattle.oat_measure.specs.declared.call.MonitorCall.TheVariants as svc
 
 -- ---- all calls
 

@@ -1,17 +1,12 @@
 -- The windows of a session and its shelf of bodies, call by call.
-use Rattle.std.proofs.Common.{◌≡◌, ◌+◌, ◌<◌, ◌⊎◌, ℕ, zero, suc, Bool, true, false, cond, ◌||◌, List, [], ◌∷◌, ◌++◌, length, slice_get, Option, Some, None, is_some, option_map, Result, Ok, refl, sym, ap, subst, ◌∙◌, inl, inr, arith}
+use Rattle.std.proofs.Common.{◌≡◌, ◌+◌, ◌<◌, ◌⊎◌, ℕ, zero, suc, Bool, true, false, cond, ◌||◌, List, [], ◌∷◌, ◌++◌, length, slice_get, Option, Some, None, is_some, option_map, Result, Ok, refl, sym}
+use Rattle.std.proofs.Common.{ap, subst, ◌∙◌, inl, inr, arith}
 use Rattle.std.specs.List.{list_any}
 use Rattle.std.proofs.lemmas.Bool.{lt-ltb}
-use Rattle.oat_blob.specs.Body.{Body}
-use Rattle.oat_events.specs.Windows.{beyond, is_closed}
-use Rattle.oat_measure.specs.declared.call.MonitorCall.{MonitorCall}
+use Rattle.oat_measure.specs.Shelving.{Measured}
+use Rattle.oat_journal.specs.{Body, beyond, is_closed, MonitorCall, Opening, StopKind, Stage, State, after_window, before_window, inside_window, measured, measuring, sealed, unmeasured, opens, seals}
+use Rattle.oat_journal.specs.{Measurements, body_of, is_due, measured_on, measures, sealed_bodies, settled, shelving, with_rest, with_state, Window.is_made}
 use Rattle.oat_measure.specs.declared.call.MonitorCall.TheVariants as svc
-use Rattle.oat_measure.specs.declared.opening.Opening.{Opening}
-use Rattle.oat_measure.specs.declared.stop.StopKind.{StopKind}
-use Rattle.oat_measure.specs.Measurement.{Stage, State, after_window, before_window, inside_window, measured, measuring, sealed, unmeasured}
-use Rattle.oat_measure.specs.Monitor.{opens, seals}
-use Rattle.oat_measure.specs.Shelving.{Measured, Measurements, body_of, is_due, measured_on, measures, sealed_bodies, settled, shelving, with_rest, with_state}
-use Rattle.oat_journal.specs.Window.{is_made}
 
 abbrev pub Calls : Type 0
 Calls = List (Option MonitorCall)

@@ -1,25 +1,15 @@
 -- What the entries of a journal give, from the events that they show.
 use Rattle.std.proofs.Common.{◌≡◌, ℕ, Bool, true, false, cond, eqb, List, map, filter_map, [], ◌∷◌, Option, Some, None, option_and_then, refl, sym, ap, ◌∙◌, eqb-true}
 use Rattle.std.specs.Option.{option_map, option_or}
-use Rattle.oat_a64.specs.declared.inst.Inst.{Inst}
-use Rattle.oat_a64.specs.declared.inst.Inst.TheVariants.{B, Bl, BCond, Cbz, Cbnz, Blr, Ret, Svc}
-use Rattle.oat_a64.specs.Kinds.{is_transfer}
-use Rattle.oat_a64.specs.Step.{Regs, signed}
-use Rattle.oat_events.specs.Events.{SourceEvent}
-use Rattle.oat_events.specs.Windows.{Agrees, of_shown}
 use Rattle.oat_events.proofs.WindowLaws.{shown_at_once}
-use Rattle.oat_map.specs.declared.edge.Edge.{Edge}
-use Rattle.oat_map.specs.declared.edge.Edge.TheVariants as edges
-use Rattle.oat_map.specs.declared.map.Map.{Map}
-use Rattle.oat_map.specs.Rows.{row_over}
-use Rattle.oat_measure.specs.declared.call.MonitorCall.{MonitorCall}
-use Rattle.oat_measure.specs.declared.call.MonitorCall.TheVariants as svc
-use Rattle.oat_measure.specs.Monitor.{call_numbered, monitor_call, opens, seals}
-use Rattle.oat_journal.specs.Run.{Entry, journal, next_of, started}
-use Rattle.oat_journal.specs.Window.{edge_over, is_made, made_call, opens_window, seals_window, shown_edge}
-use Rattle.oat_follow.specs.Events.{MachineEvent, OutputsAreShown, PathsAreShown, moves, prints, call_in, edge_in, events_of, print_in, printed, shown_call, told_at, told_by}
-use Rattle.oat_follow.specs.Order.{event_of_call}
+use Rattle.oat_journal.specs.{Inst, B, Bl, BCond, Cbz, Cbnz, Blr, Ret, Svc, is_transfer, Regs, signed, SourceEvent, Agrees, of_shown, Edge, Map, row_over, MonitorCall, call_numbered, monitor_call}
+use Rattle.oat_journal.specs.{opens, seals, Run.Entry, Run.journal, Run.next_of, Run.started, Window.edge_over, Window.is_made, Window.made_call, Window.opens_window, Window.seals_window}
+use Rattle.oat_journal.specs.{Window.shown_edge}
+use Rattle.oat_follow.specs.{Events.MachineEvent, Events.OutputsAreShown, Events.PathsAreShown, Events.moves, Events.prints, Events.call_in, Events.edge_in, Events.events_of, Events.print_in}
+use Rattle.oat_follow.specs.{Events.printed, Events.shown_call, Events.told_at, Events.told_by, Order.event_of_call}
 use Rattle.oat_follow.proofs.Outputs.{outputs-are, printed_at}
+use Rattle.oat_journal.specs.edges as edges
+use Rattle.oat_measure.specs.declared.call.MonitorCall.TheVariants as svc
 
 -- the call of an event that a call shows
 abbrev shown : Option MonitorCall → Option MonitorCall

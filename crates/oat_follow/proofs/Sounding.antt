@@ -1,21 +1,13 @@
 -- Each checked use of calls that keep order finds what its cell was last defined as.
 use Rattle.std.proofs.Common.{◌≡◌, ℕ, List, [], ◌∷◌, ◌++◌, map, filter_map, Option, Some, None, option_map, All, refl, sym, ap, subst, ◌∙◌, append_assoc, append-nil}
 use Rattle.std.specs.List.{cons_option}
-use Rattle.std.proofs.lemmas.List.{map-append}
-use Rattle.std.proofs.lemmas.List.Elements.{filter_map-append, All-nil, All-cons}
-use Rattle.oat_events.specs.Cells.{Cells, defined}
-use Rattle.oat_events.specs.Events.{Passes, SourceEvent, loads}
-use Rattle.oat_events.specs.Source.{CellValue, load_in}
-use Rattle.oat_map.specs.declared.edge.Edge.{Edge}
-use Rattle.oat_measure.specs.declared.call.MonitorCall.{MonitorCall}
-use Rattle.oat_measure.specs.declared.call.MonitorCall.TheVariants as svc
-use Rattle.oat_journal.specs.Uses.{CheckedUse, Held, IsSound, defined_value, uses_behind}
+use Rattle.std.proofs.lemmas.{List.map-append, List.Elements.filter_map-append, List.Elements.All-nil, List.Elements.All-cons}
+use Rattle.oat_events.proofs.{WindowLaws.windows_are_parts, EventLaws.passes_parted}
+use Rattle.oat_journal.specs.{Cells, defined, Passes, SourceEvent, loads, CellValue, load_in, Edge, MonitorCall, Uses.CheckedUse, Uses.Held, Uses.IsSound, Uses.defined_value, Uses.uses_behind}
+use Rattle.oat_journal.specs.{Run.Entry, Window.made_call, Window.opens_window, Window.seals_window, Window.up_to_window, Window.window}
 use Rattle.oat_journal.proofs.RunLaws.{held_define, held_first, held_is, held_other}
-use Rattle.oat_journal.specs.Run.{Entry}
-use Rattle.oat_journal.specs.Window.{made_call, opens_window, seals_window, up_to_window, window}
-use Rattle.oat_events.proofs.WindowLaws.{windows_are_parts}
 use Rattle.oat_follow.specs.Order.{KeepOrder, OrderedUsesAreSound, event_of_call, uses_in_window, value_found}
-use Rattle.oat_events.proofs.EventLaws.{passes_parted}
+use Rattle.oat_measure.specs.declared.call.MonitorCall.TheVariants as svc
 
 abbrev Calls : Type 0
 Calls = List (Option MonitorCall)

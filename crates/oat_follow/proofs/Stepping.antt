@@ -1,19 +1,12 @@
 -- From one step to all steps: where a run of the image stands behind k steps of the source, and what it has shown.
 use Rattle.std.proofs.Common.{◌≡◌, ◌+◌, ◌-◌, ◌*◌, ◌≤◌, ℕ, zero, suc, ℤ, List, [], ◌++◌, map, Option, Some, None, option_map, refl, sym, ap, subst, ◌∙◌, arith, append-nil}
 use Rattle.std.proofs.lemmas.List.{map-append}
-use Rattle.oat_image.specs.declared.image.Image.{Image}
-use Rattle.oat_events.specs.Cells.{Cells}
-use Rattle.oat_events.specs.Events.{SourceEvent}
-use Rattle.oat_events.specs.Source.{Finish, SourceKeeps, SourceMachine, end_after, events_after, shown_from, state_after}
-use Rattle.oat_journal.specs.declared.end.DeviceEnd.{DeviceEnd}
-use Rattle.oat_journal.specs.Run.{Running, journal_from, started, turns}
+use Rattle.oat_journal.specs.{Image, Cells, SourceEvent, Finish, SourceKeeps, SourceMachine, end_after, events_after, shown_from, state_after, declared.end.DeviceEnd.DeviceEnd, Run.Running}
+use Rattle.oat_journal.specs.{Run.journal_from, Run.started, Run.turns}
 use Rattle.oat_journal.proofs.RunLaws.{ended_runs_rest, turns_add}
-use Rattle.oat_follow.specs.Events.{MachineEvent, events_of}
-use Rattle.oat_follow.specs.Placement.{AreNamed, Placement, seen_at}
-use Rattle.oat_follow.specs.Reaching.{run_on, shown_on}
-use Rattle.oat_follow.specs.Steps.{FollowsSteps, IsMatched, device_end, instructions_for, step_limit}
-use Rattle.oat_follow.proofs.Naming.{named-append}
-use Rattle.oat_follow.proofs.Reaching.{shown-adds}
+use Rattle.oat_follow.specs.{Events.MachineEvent, Events.events_of, Placement.AreNamed, Placement.Placement, Placement.seen_at, Reaching.run_on, Reaching.shown_on, Steps.FollowsSteps, Steps.IsMatched}
+use Rattle.oat_follow.specs.{Steps.device_end, Steps.instructions_for, Steps.step_limit}
+use Rattle.oat_follow.proofs.{Naming.named-append, Reaching.shown-adds}
 
 -- how a run ended
 pub record Ends (m : Running) : Type 0 where

@@ -1,22 +1,10 @@
 -- What a run of an image shows to the outside, instruction by instruction: edges, calls of the monitor, and outputs.
-use Rattle.std.specs.Prelude.{◌≡◌, ℕ, ℤ, nat_eq, if◌then◌else◌, List, Option, Some, None}
-use Rattle.std.specs.Option.{option_map, option_or}
-use Rattle.std.specs.List.{filter_map}
-use Rattle.oat_a64.specs.declared.inst.Inst.{Inst}
-use Rattle.oat_a64.specs.declared.inst.Inst.TheVariants.{Svc}
-use Rattle.oat_a64.specs.Kinds.{is_transfer}
-use Rattle.oat_a64.specs.Step.{Regs, signed}
-use Rattle.oat_case.specs.declared.case.Write.{Write}
-use Rattle.oat_image.specs.declared.image.Image.{Image}
-use Rattle.oat_map.specs.declared.edge.Edge.{Edge}
-use Rattle.oat_map.specs.declared.edge.Edge.TheVariants as edges
-use Rattle.oat_map.specs.declared.map.Map.{Map}
-use Rattle.oat_map.specs.Rows.{row_over}
-use Rattle.oat_measure.specs.declared.call.MonitorCall.{MonitorCall}
+use Rattle.std.specs.{Prelude.◌≡◌, Prelude.ℕ, Prelude.ℤ, Prelude.nat_eq, Prelude.if◌then◌else◌, Prelude.List, Prelude.Option, Prelude.Some, Prelude.None, Option.option_map, Option.option_or}
+use Rattle.std.specs.{List.filter_map}
+use Rattle.oat_journal.specs.{Inst, Svc, is_transfer, Regs, signed, Write, Image, Edge, Map, row_over, MonitorCall, monitor_call, seals, Run.Entry, Run.bare, Run.journal, Run.next_of}
+use Rattle.oat_journal.specs.{Window.edge_over, Window.executed_path}
+use Rattle.oat_journal.specs.edges as edges
 use Rattle.oat_measure.specs.declared.call.MonitorCall.TheVariants as svc
-use Rattle.oat_measure.specs.Monitor.{monitor_call, seals}
-use Rattle.oat_journal.specs.Run.{Entry, bare, journal, next_of}
-use Rattle.oat_journal.specs.Window.{edge_over, executed_path}
 
 pub data MachineEvent : Type 0 where
   moves : (edge : Edge) → MachineEvent

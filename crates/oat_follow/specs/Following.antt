@@ -1,21 +1,10 @@
 -- What follows for whole runs where each step is followed: the image ends as the source ends and shows what the source shows, in both directions, on the bare run and on the measured run (docs/DEFINITIONS.md, "The image runs as the source").
-use Rattle.std.specs.Prelude.{◌≡◌, ◌≤◌, ℕ, ℤ, true, List, [], ◌++◌, map, Option, Some}
-use Rattle.std.specs.List.{All}
-use Rattle.oat_blob.specs.Body.{Body}
-use Rattle.oat_events.specs.Source.{CellValue, Finish, SourceMachine, end_after, events_after, has_completed, loads_of_call, outputs_of, path_of_call, stores_up_to_call}
-use Rattle.oat_image.specs.declared.image.Image.{Image}
-use Rattle.oat_map.specs.declared.edge.Edge.{Edge}
-use Rattle.oat_map.specs.EdgeName.{name_of}
-use Rattle.oat_measure.specs.declared.opening.Opening.{Opening}
-use Rattle.oat_journal.specs.declared.end.DeviceEnd.{DeviceEnd}
-use Rattle.oat_journal.specs.Measured.{HasBody, IsCalledFor, Run, dev, start_cells, uses_of, window_of}
-use Rattle.oat_journal.specs.Run.{Entry, bare, journal}
-use Rattle.oat_journal.specs.Uses.{CheckedUse, IsSound}
-use Rattle.oat_journal.specs.Window.{executed_path, made_call, window}
-use Rattle.oat_follow.specs.Events.{MachineEvent, events_of}
-use Rattle.oat_follow.specs.Order.{KeepOrder, defines_up_to_window, is_window_closed, uses_in_window, value_found}
-use Rattle.oat_follow.specs.Placement.{Placement, seen_at}
-use Rattle.oat_follow.specs.Steps.{device_end, instructions_for}
+use Rattle.std.specs.{Prelude.◌≡◌, Prelude.◌≤◌, Prelude.ℕ, Prelude.ℤ, Prelude.true, Prelude.List, Prelude.[], Prelude.◌++◌, Prelude.map, Prelude.Option, Prelude.Some, List.All}
+use Rattle.oat_journal.specs.{Body, CellValue, Finish, SourceMachine, end_after, events_after, has_completed, loads_of_call, outputs_of, path_of_call, stores_up_to_call, Image, Edge, name_of, Opening}
+use Rattle.oat_journal.specs.{declared.end.DeviceEnd.DeviceEnd, Measured.HasBody, Measured.IsCalledFor, Measured.Run, Measured.dev, Measured.start_cells, Measured.uses_of, Measured.window_of}
+use Rattle.oat_journal.specs.{Run.Entry, Run.bare, Run.journal, Uses.CheckedUse, Uses.IsSound, Window.executed_path, Window.made_call, Window.window}
+use Rattle.oat_follow.specs.{Events.MachineEvent, Events.events_of, Order.KeepOrder, Order.defines_up_to_window, Order.is_window_closed, Order.uses_in_window, Order.value_found, Placement.Placement}
+use Rattle.oat_follow.specs.{Placement.seen_at, Steps.device_end, Steps.instructions_for}
 
 -- ---- what is alike
 

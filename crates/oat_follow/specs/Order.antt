@@ -1,21 +1,9 @@
 -- Calls of the monitor that keep order, as those of a source do, and what follows for the windows of a run.
-use Rattle.std.specs.Prelude.{◌≡◌, ℕ, ℤ, Bool, true, List, ◌++◌, map, Option, Some, None}
-use Rattle.std.specs.List.{All, filter_map}
-use Rattle.oat_blob.specs.Body.{Body}
-use Rattle.oat_case.specs.declared.case.Write.{Write}
-use Rattle.oat_events.specs.Cells.{Cells}
-use Rattle.oat_events.specs.Events.{SourceEvent, enters, leaves, loads, stores, Passes}
-use Rattle.oat_events.specs.Source.{CellValue}
-use Rattle.oat_events.specs.Windows.{is_closed}
-use Rattle.oat_image.specs.declared.image.Image.{Image}
-use Rattle.oat_map.specs.declared.edge.Edge.{Edge}
-use Rattle.oat_measure.specs.declared.call.MonitorCall.{MonitorCall}
+use Rattle.std.specs.{Prelude.◌≡◌, Prelude.ℕ, Prelude.ℤ, Prelude.Bool, Prelude.true, Prelude.List, Prelude.◌++◌, Prelude.map, Prelude.Option, Prelude.Some, Prelude.None, List.All, List.filter_map}
+use Rattle.oat_journal.specs.{Body, Write, Cells, SourceEvent, enters, leaves, loads, stores, Passes, CellValue, is_closed, Image, Edge, MonitorCall, Opening, Measured.HasBody, Measured.IsCalledFor}
+use Rattle.oat_journal.specs.{Measured.dev, Measured.start_cells, Run.Entry, Run.bare, Run.journal, Uses.CheckedUse, Uses.IsSound, Uses.uses_behind, Window.made_call, Window.opens_window}
+use Rattle.oat_journal.specs.{Window.seals_window, Window.up_to_window, Window.window}
 use Rattle.oat_measure.specs.declared.call.MonitorCall.TheVariants as svc
-use Rattle.oat_measure.specs.declared.opening.Opening.{Opening}
-use Rattle.oat_journal.specs.Measured.{HasBody, IsCalledFor, dev, start_cells}
-use Rattle.oat_journal.specs.Run.{Entry, bare, journal}
-use Rattle.oat_journal.specs.Uses.{CheckedUse, IsSound, uses_behind}
-use Rattle.oat_journal.specs.Window.{made_call, opens_window, seals_window, up_to_window, window}
 
 -- the source event that a call shows, if it shows one
 abbrev pub event_of_call : Option MonitorCall → Option (SourceEvent Edge)

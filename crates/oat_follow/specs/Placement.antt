@@ -1,11 +1,8 @@
 -- Where a source lies in an image, and how its events are seen there.
 use Rattle.std.specs.Prelude.{◌≡◌, ℕ, List, [], ◌∷◌}
-use Rattle.oat_events.specs.Events.{SourceEvent, takes, enters, leaves, loads, stores, outputs}
-use Rattle.oat_map.specs.declared.edge.Edge.{Edge}
-use Rattle.oat_map.specs.declared.map.Map.{Map}
-use Rattle.oat_map.specs.EdgeName.{EdgeName, name_of}
-use Rattle.oat_measure.specs.declared.call.MonitorCall.TheVariants as svc
+use Rattle.oat_journal.specs.{SourceEvent, takes, enters, leaves, loads, stores, outputs, Edge, Map, EdgeName, name_of}
 use Rattle.oat_follow.specs.Events.{MachineEvent, moves, monitors, prints}
+use Rattle.oat_measure.specs.declared.call.MonitorCall.TheVariants as svc
 
 pub record Placement (E : Type 0) : Type 0 where
   pub edge : E → Edge

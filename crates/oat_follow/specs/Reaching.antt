@@ -1,11 +1,6 @@
 -- Some instructions lead from one moment of a run to another, and show these events. Nothing is written between them.
-use Rattle.std.specs.Prelude.{◌≡◌, ◌+◌, ℕ, List, [], ◌++◌, Some, None}
-use Rattle.std.specs.List.{cons_option}
-use Rattle.oat_a64.specs.declared.inst.Inst.{Inst}
-use Rattle.oat_a64.specs.Step.{act, instruction_at}
-use Rattle.oat_image.specs.declared.image.Image.{Image}
-use Rattle.oat_journal.specs.declared.end.DeviceEnd.{DeviceEnd}
-use Rattle.oat_journal.specs.Run.{Running, Entry, found, makes, turns, journal_from}
+use Rattle.std.specs.{Prelude.◌≡◌, Prelude.◌+◌, Prelude.ℕ, Prelude.List, Prelude.[], Prelude.◌++◌, Prelude.Some, Prelude.None, List.cons_option}
+use Rattle.oat_journal.specs.{Inst, act, instruction_at, Image, declared.end.DeviceEnd.DeviceEnd, Run.Running, Run.Entry, Run.found, Run.makes, Run.turns, Run.journal_from}
 use Rattle.oat_follow.specs.Events.{MachineEvent, events_of, told_at}
 
 -- the run of n instructions from a moment on

@@ -1,14 +1,9 @@
 -- An image follows a source step by step: each source step is matched by some instructions of the bare run that show the same.
 use Rattle.std.specs.Prelude.{◌≡◌, ◌≤◌, ◌+◌, ◌*◌, ℕ, ℤ, List, [], map, None, option_map}
-use Rattle.oat_events.specs.Source.{Finish, SourceMachine, halted, trapped}
-use Rattle.oat_image.specs.declared.image.Image.{Image}
-use Rattle.oat_map.specs.declared.edge.Edge.TheVariants as edges
-use Rattle.oat_map.specs.EdgeName.{name_of}
-use Rattle.oat_journal.specs.declared.end.DeviceEnd.{DeviceEnd}
+use Rattle.oat_journal.specs.{Finish, SourceMachine, halted, trapped, Image, name_of, declared.end.DeviceEnd.DeviceEnd, Run.Running, Run.started}
+use Rattle.oat_follow.specs.{Placement.AreNamed, Placement.Placement, Placement.seen_at, Reaching.run_on, Reaching.shown_on}
+use Rattle.oat_journal.specs.edges as edges
 use Rattle.oat_journal.specs.declared.end.DeviceEnd.TheVariants as ends
-use Rattle.oat_journal.specs.Run.{Running, started}
-use Rattle.oat_follow.specs.Placement.{AreNamed, Placement, seen_at}
-use Rattle.oat_follow.specs.Reaching.{run_on, shown_on}
 
 abbrev pub device_end : Finish → DeviceEnd
 device_end halted = ends.Halted

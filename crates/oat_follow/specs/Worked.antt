@@ -1,14 +1,8 @@
 -- A source of the smallest image with a jump (image/Worked): it enters an operation, jumps in it, leaves it, and halts.
 use Rattle.std.specs.Prelude.{◌≡◌, List, [], ◌∷◌, Option, Some, None}
-use Rattle.oat_events.specs.Events.{SourceEvent, takes, enters, leaves}
-use Rattle.oat_events.specs.Source.{Finish, SourceMachine, halted}
-use Rattle.oat_image.specs.Worked.{one_jump}
-use Rattle.oat_map.specs.declared.edge.Edge.{Edge}
-use Rattle.oat_map.specs.declared.edge.Edge.TheVariants as edges
-use Rattle.oat_map.specs.EdgeName.{name_of}
-use Rattle.oat_measure.specs.declared.opening.Opening.{Opening}
-use Rattle.oat_follow.specs.Following.{Means, RunsAs}
-use Rattle.oat_follow.specs.Placement.{Placement}
+use Rattle.oat_journal.specs.{SourceEvent, takes, enters, leaves, Finish, SourceMachine, halted, one_jump, Edge, name_of, Opening}
+use Rattle.oat_follow.specs.{Following.Means, Following.RunsAs, Placement.Placement}
+use Rattle.oat_journal.specs.edges as edges
 
 pub data Spot : Type 0 where
   at_call : Spot

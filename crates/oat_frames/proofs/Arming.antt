@@ -1,26 +1,14 @@
 -- The depth test, the count and the arguments of a call; and the trap where it is too deep.
 use Rattle.std.proofs.Common.{◌≡◌, ◌+◌, ◌*◌, ◌<◌, ◌≤◌, inr, ℕ, suc, not, List, [], ◌∷◌, ◌++◌, length, get_or, Some, None, refl, ap, subst, ◌∙◌, arith}
 use Rattle.std.proofs.lemmas.Bool.{lt-leb, le-leb}
-use Rattle.oat_a64.specs.declared.inst.Inst.TheVariants.{AddImm, SubsImm, Brk}
-use Rattle.oat_a64.specs.Step.{goes_on, with_reg}
-use Rattle.oat_asm.specs.declared.item.Item.{Item}
-use Rattle.oat_map.specs.declared.trap.TrapKind.TheVariants.{Depth}
-use Rattle.oat_map.specs.declared.row.Row.TheVariants as rows
-use Rattle.oat_journal.specs.declared.end.DeviceEnd.TheVariants as ends
-use Rattle.oat_journal.specs.Run.{Running}
-use Rattle.oat_map.specs.Rows.{row_over}
-use Rattle.oat_frames.specs.Code.{CodeStands, argument_loads, depth_tested}
-use Rattle.oat_frames.specs.Frames.{World, IsLow}
-use Rattle.oat_frames.specs.Comes.{EndsWithin}
-use Rattle.oat_frames.specs.Phases.{HasSlots, ArgumentsLoaded, CallCounted}
-use Rattle.oat_follow.specs.Reaching.{RunsTo, inst_makes}
-use Rattle.oat_frames.specs.Moments.{next_moment, jumped}
-use Rattle.oat_frames.proofs.Reaching.{thence, counted, kept-on}
-use Rattle.oat_frames.proofs.Runs.{loaded}
-use Rattle.oat_frames.proofs.Registers.{with_x, compared, wrap-is}
-use Rattle.oat_frames.proofs.Steps.{compares, sets}
-use Rattle.oat_frames.proofs.Transfers.{bcond-skips, bcond-passes}
-use Rattle.oat_frames.proofs.MonitorCalls.{brk-depth}
+use Rattle.oat_asm.specs.{AddImm, SubsImm, Brk, goes_on, with_reg, declared.item.Item.Item, Depth, row_over}
+use Rattle.oat_follow.specs.{Running, Reaching.RunsTo, Reaching.inst_makes}
+use Rattle.oat_frames.specs.{Code.CodeStands, Code.argument_loads, Code.depth_tested, Frames.World, Frames.IsLow, Comes.EndsWithin, Phases.HasSlots, Phases.ArgumentsLoaded, Phases.CallCounted}
+use Rattle.oat_frames.specs.{Moments.next_moment, Moments.jumped}
+use Rattle.oat_frames.proofs.{Reaching.thence, Reaching.counted, Reaching.kept-on, Runs.loaded, Registers.with_x, Registers.compared, Registers.wrap-is, Steps.compares, Steps.sets}
+use Rattle.oat_frames.proofs.{Transfers.bcond-skips, Transfers.bcond-passes, MonitorCalls.brk-depth}
+use Rattle.oat_follow.specs.rows as rows
+use Rattle.oat_follow.specs.ends as ends
 
 -- the loads, and what is behind them
 pub behind-loads : (w : World) (ks : List ℕ) (r p : ℕ) (is : List Item) → CodeStands w p (argument_loads r ks ++ is) → CodeStands w p (argument_loads r ks) × CodeStands w (p + 4 * length ks) is

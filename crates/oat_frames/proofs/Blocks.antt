@@ -2,12 +2,9 @@
 use Rattle.std.proofs.Common.{◌≡◌, ◌+◌, ◌*◌, ◌<◌, ◌≤◌, ℕ, zero, suc, List, [], ◌∷◌, length, take, Some, refl, sym, ap, subst, ◌∙◌, arith}
 use Rattle.std.specs.List.{slice_get}
 use Rattle.std.proofs.lemmas.Option.{slice_get_within}
-use Rattle.oat_asm.specs.declared.item.Item.{Item}
-use Rattle.oat_asm.specs.Items.{words_needed}
+use Rattle.oat_asm.specs.{declared.item.Item.Item, Items.words_needed}
 use Rattle.oat_asm.proofs.StandingItems.{words_of_two, stand_in_two}
-use Rattle.oat_frames.specs.Code.{CodeStands}
-use Rattle.oat_frames.specs.Frames.{World, line_address}
-use Rattle.oat_frames.specs.Lines.{lines_code, words_before_line, LinesStand, WordsAddUp}
+use Rattle.oat_frames.specs.{Code.CodeStands, Frames.World, Frames.line_address, Lines.lines_code, Lines.words_before_line, Lines.LinesStand, Lines.WordsAddUp}
 
 -- the words before line l, and of it
 words-step : (codes : List (List Item)) (l : ℕ) (is : List Item) → slice_get codes l ≡ Some is → words_before_line codes (l + 1) ≡ words_before_line codes l + words_needed is

@@ -1,26 +1,15 @@
 -- A direct call leads from the relation to the relation: 6 instructions, one for each argument, and one for each local of the callee.
 use Rattle.std.proofs.Common.{◌≡◌, ◌+◌, ◌*◌, ◌^◌, ◌<◌, ◌≤◌, ℕ, List, [], ◌∷◌, length, get_or, Some, refl, sym, ap, subst, ◌∙◌, arith}
-use Rattle.oat_a64.specs.Step.{with_reg}
+use Rattle.oat_asm.specs.{with_reg, declared.branch_form.BranchForm.TheVariants.Bl, row_over}
+use Rattle.oat_follow.specs.{Running, Events.MachineEvent, Events.moves, Reaching.RunsTo}
+use Rattle.oat_frames.specs.{Code.CodeStands, Code.call_code, Code.behind_call, Frames.HoldsState, Frames.line_address, Calls.CallLaysFrame, Calls.CallsLayFrames, Calls.CallsLead, Calls.DeepCallsTrap}
+use Rattle.oat_frames.specs.{Phases.HasSlots, Phases.CallCounted, Moments.jumped}
+use Rattle.oat_frames.proofs.{Reaching.thence, Reaching.counted, Reaching.kept-on, Arming.armed, Arming.too-deep, Entering.Enters, Entering.behind-test, Entering.returns-behind, Entering.enters}
+use Rattle.oat_frames.proofs.{Entering.deep, Entering.one-more, Entering.given-by, Entering.at-first, Holding.opens, Holding.slot-of, Sites.call-site, Transfers.bl}
 use Rattle.oat_asm.specs.declared.item.Item.TheVariants as item
 use Rattle.oat_asm.specs.declared.note.Note.TheVariants as note
-use Rattle.oat_asm.specs.declared.branch_form.BranchForm.TheVariants.{Bl}
-use Rattle.oat_map.specs.declared.edge.Edge.TheVariants as edges
-use Rattle.oat_map.specs.declared.row.Row.TheVariants as rows
-use Rattle.oat_map.specs.Rows.{row_over}
-use Rattle.oat_journal.specs.Run.{Running}
-use Rattle.oat_frames.specs.Code.{CodeStands, call_code, behind_call}
-use Rattle.oat_follow.specs.Events.{MachineEvent, moves}
-use Rattle.oat_frames.specs.Frames.{HoldsState, line_address}
-use Rattle.oat_frames.specs.Calls.{CallLaysFrame, CallsLayFrames, CallsLead, DeepCallsTrap}
-use Rattle.oat_frames.specs.Phases.{HasSlots, CallCounted}
-use Rattle.oat_follow.specs.Reaching.{RunsTo}
-use Rattle.oat_frames.specs.Moments.{jumped}
-use Rattle.oat_frames.proofs.Reaching.{thence, counted, kept-on}
-use Rattle.oat_frames.proofs.Arming.{armed, too-deep}
-use Rattle.oat_frames.proofs.Entering.{Enters, behind-test, returns-behind, enters, deep, one-more, given-by, at-first}
-use Rattle.oat_frames.proofs.Holding.{opens, slot-of}
-use Rattle.oat_frames.proofs.Sites.{call-site}
-use Rattle.oat_frames.proofs.Transfers.{bl}
+use Rattle.oat_asm.specs.edges as edges
+use Rattle.oat_follow.specs.rows as rows
 
 pub calls-lay-frames : CallsLayFrames
 calls-lay-frames w ok f callers globals c m r few call =

@@ -1,27 +1,15 @@
 -- Where the callee's code begins: its frame is laid, for direct and for indirect calls.
 use Rattle.std.proofs.Common.{◌≡◌, ◌+◌, ◌*◌, ◌^◌, ◌<◌, ◌≤◌, ◌-◌, inl, inr, ℕ, zero, suc, Bool, true, cond, List, [], ◌∷◌, length, map, get_or, None, Some, refl, sym, ap, subst, ◌∙◌, arith}
-use Rattle.std.proofs.lemmas.Bool.{lt-ltb, le-ltb, cases_lt}
 use Rattle.std.specs.List.{list_any}
-use Rattle.oat_a64.specs.declared.inst.Inst.TheVariants.{SubImm, Str}
-use Rattle.oat_a64.specs.Step.{with_reg}
-use Rattle.oat_asm.specs.declared.item.Item.{Item}
-use Rattle.oat_map.specs.Rows.{is_returned_to}
-use Rattle.oat_mem.specs.DataMemory.{word_in}
-use Rattle.oat_shape.specs.Groups.{Stands}
-use Rattle.oat_journal.specs.Run.{Running}
-use Rattle.oat_ir.specs.declared.func.Ty.{Ty}
-use Rattle.oat_check.specs.Steps.{Frame}
-use Rattle.oat_frames.specs.Code.{CodeStands, depth_tested, behind_call, prologue}
-use Rattle.oat_frames.specs.Frames.{World, IsWorld, Represents, IsAt, HoldsState, CallersAt, IsStackPointer, IsSlotted, ReturnsTo, frame_size, home_of, home_word}
-use Rattle.oat_frames.specs.Calls.{CallSite, IsFunctionAt, IsBehindPrologue, callee_frame, prologue_end}
-use Rattle.oat_frames.specs.Phases.{CallCounted, FrameLaid, first_value}
-use Rattle.oat_follow.specs.Reaching.{RunsTo}
-use Rattle.oat_frames.specs.Moments.{KeepsGoing}
-use Rattle.oat_frames.proofs.Arming.{behind-loads}
-use Rattle.oat_frames.proofs.Holding.{slot-of, frame-of, above, globals-stay, word-is, value-is, value-small, zero-value}
-use Rattle.oat_frames.proofs.Opening.{HasRoom, has-room, opened}
-use Rattle.oat_frames.proofs.Slots.{lies}
-use Rattle.oat_frames.proofs.Registers.{set-other}
+use Rattle.std.proofs.lemmas.Bool.{lt-ltb, le-ltb, cases_lt}
+use Rattle.oat_asm.specs.{SubImm, Str, with_reg, declared.item.Item.Item, is_returned_to, word_in, Stands}
+use Rattle.oat_check.specs.{Ty, Steps.Frame}
+use Rattle.oat_follow.specs.{Running, Reaching.RunsTo}
+use Rattle.oat_frames.specs.{Code.CodeStands, Code.depth_tested, Code.behind_call, Code.prologue, Frames.World, Frames.IsWorld, Frames.Represents, Frames.IsAt, Frames.HoldsState, Frames.CallersAt}
+use Rattle.oat_frames.specs.{Frames.IsStackPointer, Frames.IsSlotted, Frames.ReturnsTo, Frames.frame_size, Frames.home_of, Frames.home_word, Calls.CallSite, Calls.IsFunctionAt, Calls.IsBehindPrologue}
+use Rattle.oat_frames.specs.{Calls.callee_frame, Calls.prologue_end, Phases.CallCounted, Phases.FrameLaid, Phases.first_value, Moments.KeepsGoing}
+use Rattle.oat_frames.proofs.{Arming.behind-loads, Holding.slot-of, Holding.frame-of, Holding.above, Holding.globals-stay, Holding.word-is, Holding.value-is, Holding.value-small, Holding.zero-value}
+use Rattle.oat_frames.proofs.{Opening.HasRoom, Opening.has-room, Opening.opened, Slots.lies, Registers.set-other}
 
 -- what is behind the loads of a call
 pub behind-test : (w : World) (args : List ℕ) (is : List Item) (p : ℕ) → CodeStands w p (depth_tested args is) → CodeStands w (p + 16 + 4 * length args) is

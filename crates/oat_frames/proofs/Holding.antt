@@ -1,18 +1,13 @@
 -- What holds of frames, callers and globals, where registers and memory change.
 use Rattle.std.proofs.Common.{◌≡◌, ◌+◌, ◌-◌, ◌*◌, ◌^◌, ◌<◌, ◌≤◌, inl, inr, ℕ, suc, Bool, true, false, cond, eqb, List, [], ◌∷◌, length, refl, sym, ap, subst, ◌∙◌, arith, ne_eqb, eqb-true, lit<}
 use Rattle.std.proofs.lemmas.Bool.{cases_lt, eqb-false}
-use Rattle.oat_mem.specs.DataMemory.{word_in, with_word, global_address}
 use Rattle.oat_mem.proofs.Words.{words_read_back, other_words_stay}
-use Rattle.oat_ir.specs.declared.func.Ty.{Ty}
-use Rattle.oat_ir.specs.declared.func.Ty.TheVariants.{I64, Fn}
-use Rattle.oat_check.specs.Steps.{Frame, assigned}
-use Rattle.oat_frames.specs.Frames.{World, IsWorld, Home, slot, register, home_word, home_of, IsOfType, value_word, Represents, IsSlotted, FrameAt, ReturnsToFirst, CallersAt, GlobalsAt, HoldsState, frame_size}
-use Rattle.oat_image.specs.declared.image.Image.{Image}
-use Rattle.oat_journal.specs.Run.{Running}
-use Rattle.oat_frames.specs.Phases.{HasSlots}
-use Rattle.oat_frames.specs.Readied.{KeepsHomes}
-use Rattle.oat_frames.proofs.Homes.{held-on, HomeWritten, other-home}
-use Rattle.oat_frames.proofs.Slots.{IsFrameSize, frame-size-is, frame-opens}
+use Rattle.oat_asm.specs.{word_in, with_word, global_address, Image}
+use Rattle.oat_check.specs.{Ty, I64, Fn, Steps.Frame, Steps.assigned}
+use Rattle.oat_follow.specs.{Running}
+use Rattle.oat_frames.specs.{Frames.World, Frames.IsWorld, Frames.Home, Frames.slot, Frames.register, Frames.home_word, Frames.home_of, Frames.IsOfType, Frames.value_word, Frames.Represents}
+use Rattle.oat_frames.specs.{Frames.IsSlotted, Frames.FrameAt, Frames.ReturnsToFirst, Frames.CallersAt, Frames.GlobalsAt, Frames.HoldsState, Frames.frame_size, Phases.HasSlots, Readied.KeepsHomes}
+use Rattle.oat_frames.proofs.{Homes.held-on, Homes.HomeWritten, Homes.other-home, Slots.IsFrameSize, Slots.frame-size-is, Slots.frame-opens}
 
 -- ---- values
 

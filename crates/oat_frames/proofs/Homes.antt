@@ -1,23 +1,12 @@
 -- Where locals are held: a slot, or in a leaf a register; one instruction reads a home, and one writes it.
 use Rattle.std.proofs.Common.{◌≡◌, ◌+◌, ◌*◌, ◌^◌, ◌<◌, ◌≤◌, ◌⊎◌, inl, inr, ℕ, zero, suc, Bool, true, false, cond, ltb, [], None, refl, sym, ap, subst, ◌∙◌, arith, lit<}
 use Rattle.std.proofs.lemmas.Bool.{lt-ltb, ltb-true, cases_lt}
-use Rattle.oat_a64.specs.declared.inst.Inst.TheVariants.{OrrReg, Ldr, Str}
-use Rattle.oat_a64.specs.Step.{Regs, reg, goes_on, with_reg}
-use Rattle.oat_a64.specs.Table.{IsInRange}
-use Rattle.oat_image.specs.declared.image.Image.{Image}
-use Rattle.oat_mem.specs.DataMemory.{word_in}
 use Rattle.oat_mem.proofs.Words.{words_read_back, other_words_stay}
-use Rattle.oat_shape.specs.Groups.{Stands}
-use Rattle.oat_journal.specs.Run.{Running}
-use Rattle.oat_follow.specs.Reaching.{RunsTo}
-use Rattle.oat_frames.specs.Frames.{Home, slot, register, home_of, home_word, IsLow}
-use Rattle.oat_frames.specs.Code.{IsHome, load_inst, store_inst}
-use Rattle.oat_frames.specs.Moments.{KeepsGoing, next_moment}
-use Rattle.oat_frames.specs.Phases.{HasSlots}
-use Rattle.oat_frames.specs.Readied.{KeepsHomes}
-use Rattle.oat_frames.proofs.Registers.{with_x, with_slot, set-same, set-other}
-use Rattle.oat_frames.proofs.Slots.{slot-opens, slot-small}
-use Rattle.oat_frames.proofs.Steps.{sets, ldr, str}
+use Rattle.oat_asm.specs.{OrrReg, Ldr, Str, Regs, reg, goes_on, with_reg, IsInRange, Image, word_in, Stands}
+use Rattle.oat_follow.specs.{Running, Reaching.RunsTo}
+use Rattle.oat_frames.specs.{Frames.Home, Frames.slot, Frames.register, Frames.home_of, Frames.home_word, Frames.IsLow, Code.IsHome, Code.load_inst, Code.store_inst, Moments.KeepsGoing}
+use Rattle.oat_frames.specs.{Moments.next_moment, Phases.HasSlots, Readied.KeepsHomes}
+use Rattle.oat_frames.proofs.{Registers.with_x, Registers.with_slot, Registers.set-same, Registers.set-other, Slots.slot-opens, Slots.slot-small, Steps.sets, Steps.ldr, Steps.str}
 
 -- ---- homes
 

@@ -1,33 +1,17 @@
 -- An indirect call leads from the relation to the relation: 9 instructions, one for each argument, and one for each local of the callee.
 use Rattle.std.proofs.Common.{◌≡◌, ◌+◌, ◌*◌, ◌^◌, ◌<◌, ◌≤◌, ◌-◌, inl, inr, ℕ, Bool, true, not, cond, List, [], ◌∷◌, length, get_or, Some, refl, sym, ap, subst, ◌∙◌, arith, ne_eqb, eq-eqb}
-use Rattle.oat_a64.specs.declared.inst.Inst.TheVariants.{Svc, Blr, Brk}
-use Rattle.oat_a64.specs.Step.{with_reg}
+use Rattle.oat_asm.specs.{Svc, Blr, Brk, with_reg, row_over, word_in}
+use Rattle.oat_check.specs.{Ty, Fn}
+use Rattle.oat_follow.specs.{Running, Events.MachineEvent, Events.moves, Reaching.RunsTo, Reaching.inst_makes}
+use Rattle.oat_frames.specs.{Code.CodeStands, Code.icall_code, Code.behind_call, Frames.World, Frames.Represents, Frames.HoldsState, Frames.line_address, Calls.CallSite, Calls.IsReferencedAt}
+use Rattle.oat_frames.specs.{Calls.IndirectCallsLead, Calls.NullCallsTrap, Phases.HasSlots, Phases.CallCounted, Moments.next_moment, Moments.jumped}
+use Rattle.oat_frames.proofs.{Reaching.thence, Arming.armed, Entering.Enters, Entering.behind-test, Entering.returns-behind, Entering.enters, Entering.deep, Entering.one-more, Entering.given-by}
+use Rattle.oat_frames.proofs.{Entering.at-first, Holding.opens, Holding.slot-of, Sites.icall-site, Slots.slot-opens, Slots.slot-small, Registers.with_x, Transfers.blr, Transfers.cbnz-skips}
+use Rattle.oat_frames.proofs.{Transfers.cbnz-passes, Steps.ldr, MonitorCalls.svc-target, MonitorCalls.brk-null}
 use Rattle.oat_asm.specs.declared.item.Item.TheVariants as item
 use Rattle.oat_asm.specs.declared.note.Note.TheVariants as note
-use Rattle.oat_map.specs.declared.edge.Edge.TheVariants as edges
-use Rattle.oat_map.specs.declared.row.Row.TheVariants as rows
-use Rattle.oat_map.specs.Rows.{row_over}
-use Rattle.oat_mem.specs.DataMemory.{word_in}
-use Rattle.oat_journal.specs.Run.{Running}
-use Rattle.oat_ir.specs.declared.func.Ty.{Ty}
-use Rattle.oat_ir.specs.declared.func.Ty.TheVariants.{Fn}
-use Rattle.oat_frames.specs.Code.{CodeStands, icall_code, behind_call}
-use Rattle.oat_follow.specs.Events.{MachineEvent, moves}
-use Rattle.oat_frames.specs.Frames.{World, Represents, HoldsState, line_address}
-use Rattle.oat_frames.specs.Calls.{CallSite, IsReferencedAt, IndirectCallsLead, NullCallsTrap}
-use Rattle.oat_frames.specs.Phases.{HasSlots, CallCounted}
-use Rattle.oat_follow.specs.Reaching.{RunsTo, inst_makes}
-use Rattle.oat_frames.specs.Moments.{next_moment, jumped}
-use Rattle.oat_frames.proofs.Reaching.{thence}
-use Rattle.oat_frames.proofs.Arming.{armed}
-use Rattle.oat_frames.proofs.Entering.{Enters, behind-test, returns-behind, enters, deep, one-more, given-by, at-first}
-use Rattle.oat_frames.proofs.Holding.{opens, slot-of}
-use Rattle.oat_frames.proofs.Sites.{icall-site}
-use Rattle.oat_frames.proofs.Slots.{slot-opens, slot-small}
-use Rattle.oat_frames.proofs.Registers.{with_x}
-use Rattle.oat_frames.proofs.Transfers.{blr, cbnz-skips, cbnz-passes}
-use Rattle.oat_frames.proofs.Steps.{ldr}
-use Rattle.oat_frames.proofs.MonitorCalls.{svc-target, brk-null}
+use Rattle.oat_asm.specs.edges as edges
+use Rattle.oat_follow.specs.rows as rows
 
 -- the word of a reference that isn't null
 reference-is : (w : World) (k v word : ℕ) → 0 < v → Represents w (Fn k) v word → (word ≡ w.label (v - 1)) × (w.may_name (v - 1) k ≡ true)

@@ -1,27 +1,13 @@
 -- A word stands in a register, and is stored into the home of a local: the end of each line that assigns. And what a line begins with.
 use Rattle.std.proofs.Common.{◌≡◌, ◌+◌, ◌*◌, ◌^◌, ◌<◌, ◌≤◌, ℕ, ℤ, true, List, [], None, sym, ap, subst, ◌∙◌, arith}
 use Rattle.std.proofs.lemmas.List.{append-nil}
-use Rattle.oat_a64.specs.Step.{reg}
-use Rattle.oat_image.specs.declared.image.Image.{Image}
-use Rattle.oat_mem.specs.DataMemory.{word_in}
-use Rattle.oat_shape.specs.Groups.{Stands}
-use Rattle.oat_journal.specs.Run.{Running}
-use Rattle.oat_ir.specs.declared.func.Ty.{Ty}
-use Rattle.oat_ir.specs.declared.func.Ty.TheVariants.{I64}
-use Rattle.oat_check.specs.Steps.{Frame}
-use Rattle.oat_follow.specs.Events.{MachineEvent}
-use Rattle.oat_frames.specs.Frames.{World, IsWorld, Represents, HoldsState, IsAt, home_word, home_in, line_address}
-use Rattle.oat_frames.specs.Code.{load_inst, store_inst}
-use Rattle.oat_frames.specs.Comes.{ComesTo, with_result}
-use Rattle.oat_frames.specs.Lines.{IsNumberLocal}
-use Rattle.oat_frames.specs.Phases.{HasSlots}
-use Rattle.oat_frames.specs.Readied.{IsReadied, KeepsHomes}
-use Rattle.oat_follow.specs.Reaching.{RunsTo}
-use Rattle.oat_frames.specs.Moments.{next_moment}
-use Rattle.oat_frames.proofs.Reaching.{thence}
-use Rattle.oat_frames.proofs.Registers.{with_x}
-use Rattle.oat_frames.proofs.Homes.{SameEight, keeps-eight, held-on, HomeWritten, writes-home, reads-home}
-use Rattle.oat_frames.proofs.Holding.{value-small, opens, scratched, puts-home}
+use Rattle.oat_asm.specs.{reg, Image, word_in, Stands}
+use Rattle.oat_check.specs.{Ty, I64, Steps.Frame}
+use Rattle.oat_follow.specs.{Running, Events.MachineEvent, Reaching.RunsTo}
+use Rattle.oat_frames.specs.{Frames.World, Frames.IsWorld, Frames.Represents, Frames.HoldsState, Frames.IsAt, Frames.home_word, Frames.home_in, Frames.line_address, Code.load_inst, Code.store_inst}
+use Rattle.oat_frames.specs.{Comes.ComesTo, Comes.with_result, Lines.IsNumberLocal, Phases.HasSlots, Readied.IsReadied, Readied.KeepsHomes, Moments.next_moment}
+use Rattle.oat_frames.proofs.{Reaching.thence, Registers.with_x, Homes.SameEight, Homes.keeps-eight, Homes.held-on, Homes.HomeWritten, Homes.writes-home, Homes.reads-home, Holding.value-small}
+use Rattle.oat_frames.proofs.{Holding.opens, Holding.scratched, Holding.puts-home}
 
 -- a front that changes registers alone
 pub by-registers : (image : Image) (count bytes : ℕ) (es : List MachineEvent) (m k : Running) → RunsTo image count m k es → m.end ≡ None

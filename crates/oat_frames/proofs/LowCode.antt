@@ -1,12 +1,8 @@
 -- Code of at most 131,072 words lies low.
 use Rattle.std.proofs.Common.{◌≡◌, ◌-◌, ◌/◌, ◌%◌, ◌^◌, ◌<◌, ◌≤◌, ℕ, Bool, true, false, cond, ◌&&◌, eqb, leb, List, length, Option, Some, None, refl, arith}
-use Rattle.std.specs.List.{slice_get}
-use Rattle.std.specs.Option.{option_and_then}
+use Rattle.std.specs.{List.slice_get, Option.option_and_then}
 use Rattle.std.proofs.lemmas.Option.{slice_get_within}
-use Rattle.oat_a64.specs.declared.inst.Inst.{Inst}
-use Rattle.oat_a64.specs.Fetch.{inst_of}
-use Rattle.oat_a64.specs.Step.{code_base}
-use Rattle.oat_image.specs.declared.image.Image.{Image}
+use Rattle.oat_asm.specs.{Inst, inst_of, code_base, Image}
 use Rattle.oat_frames.specs.Frames.{IsLow}
 
 word-low : (code : List ℕ) (p : ℕ) (i : Inst) → length code ≤ 131072 → (o : Option ℕ) → slice_get code ((p - code_base) / 4) ≡ o → option_and_then inst_of o ≡ Some i → p < 2 ^ 32

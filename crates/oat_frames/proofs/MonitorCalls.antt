@@ -1,22 +1,10 @@
 -- Calls of the monitor, and traps: each from where it stands to the explicit next moment.
 use Rattle.std.proofs.Common.{◌≡◌, ◌+◌, ◌^◌, ◌<◌, ℕ, ℤ, List, [], ◌∷◌, ◌++◌, Some, None, refl, ap, ◌∙◌, arith}
-use Rattle.oat_a64.specs.declared.inst.Inst.TheVariants.{Svc, Brk}
-use Rattle.oat_a64.specs.Step.{Machine, with_reg, wrap}
-use Rattle.oat_image.specs.declared.image.Image.{Image}
-use Rattle.oat_map.specs.declared.trap.TrapKind.TheVariants.{Depth, NullCall}
-use Rattle.oat_journal.specs.declared.end.DeviceEnd.TheVariants as ends
-use Rattle.oat_shape.specs.Groups.{Stands}
-use Rattle.oat_journal.specs.Run.{Running}
-use Rattle.oat_follow.specs.Events.{prints}
-use Rattle.oat_frames.specs.Frames.{IsLow}
-use Rattle.oat_follow.specs.Reaching.{RunsTo, inst_makes}
-use Rattle.oat_frames.specs.Moments.{next_moment}
-use Rattle.oat_frames.proofs.Reaching.{goes-as, stops}
-use Rattle.oat_a64.specs.Step.{signed, unsigned}
-use Rattle.oat_journal.specs.Run.{with_input, with_output}
-use Rattle.oat_map.specs.declared.trap.TrapKind.TheVariants.{DivZero, InputEnd}
-use Rattle.oat_frames.proofs.Registers.{wrap-is, next-is}
-use Rattle.oat_frames.proofs.Steps.{below, quietly}
+use Rattle.oat_asm.specs.{Svc, Brk, Machine, with_reg, wrap, Image, Depth, NullCall, Stands, signed, unsigned, DivZero, InputEnd}
+use Rattle.oat_follow.specs.{Running, Events.prints, Reaching.RunsTo, Reaching.inst_makes, with_input, with_output}
+use Rattle.oat_frames.specs.{Frames.IsLow, Moments.next_moment}
+use Rattle.oat_frames.proofs.{Reaching.goes-as, Reaching.stops, Registers.wrap-is, Registers.next-is, Steps.below, Steps.quietly}
+use Rattle.oat_follow.specs.ends as ends
 
 -- ---- the moments that are left
 

@@ -1,18 +1,12 @@
 -- The start of a function lays its frame: for a call, and for the start of the whole run.
 use Rattle.std.proofs.Common.{◌≡◌, ◌+◌, ◌*◌, ◌%◌, ◌^◌, ◌<◌, ◌≤◌, ◌-◌, inl, inr, ℕ, Bool, [], None, refl, ap, subst, ◌∙◌, arith}
-use Rattle.oat_mem.specs.DataMemory.{word_in, with_word}
 use Rattle.oat_mem.proofs.Words.{words_read_back, other_words_stay}
-use Rattle.oat_journal.specs.Run.{Running}
-use Rattle.oat_frames.specs.Code.{CodeStands, prologue}
-use Rattle.oat_frames.specs.Frames.{World, IsLow, IsStackPointer, frame_size, home_of, home_word}
-use Rattle.oat_frames.specs.Phases.{HasSlots, LocalsStored, FrameLaid}
-use Rattle.oat_follow.specs.Reaching.{RunsTo}
-use Rattle.oat_frames.specs.Moments.{next_moment}
-use Rattle.oat_frames.proofs.Reaching.{thence, counted, kept-on}
-use Rattle.oat_frames.proofs.Runs.{filled}
-use Rattle.oat_frames.proofs.Slots.{IsFrameSize, frame-size-is, slot-opens, slot-small}
-use Rattle.oat_frames.proofs.Registers.{with_sp, with_slot}
-use Rattle.oat_frames.proofs.Steps.{sub-sp, str}
+use Rattle.oat_asm.specs.{word_in, with_word}
+use Rattle.oat_follow.specs.{Running, Reaching.RunsTo}
+use Rattle.oat_frames.specs.{Code.CodeStands, Code.prologue, Frames.World, Frames.IsLow, Frames.IsStackPointer, Frames.frame_size, Frames.home_of, Frames.home_word, Phases.HasSlots}
+use Rattle.oat_frames.specs.{Phases.LocalsStored, Phases.FrameLaid, Moments.next_moment}
+use Rattle.oat_frames.proofs.{Reaching.thence, Reaching.counted, Reaching.kept-on, Runs.filled, Slots.IsFrameSize, Slots.frame-size-is, Slots.slot-opens, Slots.slot-small, Registers.with_sp}
+use Rattle.oat_frames.proofs.{Registers.with_slot, Steps.sub-sp, Steps.str}
 
 -- below at most 256 frames there is room for another
 pub record HasRoom (sp size locals : ℕ) : Type 0 where

@@ -1,12 +1,8 @@
 -- One instruction told in other words, and some behind others.
 use Rattle.std.proofs.Common.{◌≡◌, ℕ, List, [], Some, None, ap, subst, ◌∙◌}
 use Rattle.std.specs.List.{cons_option}
-use Rattle.oat_a64.specs.declared.inst.Inst.{Inst}
-use Rattle.oat_a64.specs.Step.{instruction_at}
-use Rattle.oat_image.specs.declared.image.Image.{Image}
-use Rattle.oat_journal.specs.Run.{Running, found}
-use Rattle.oat_follow.specs.Events.{MachineEvent, told_at}
-use Rattle.oat_follow.specs.Reaching.{RunsTo, inst_makes}
+use Rattle.oat_asm.specs.{Inst, instruction_at, Image}
+use Rattle.oat_follow.specs.{Running, found, Events.MachineEvent, Events.told_at, Reaching.RunsTo, Reaching.inst_makes}
 use Rattle.oat_frames.specs.Moments.{KeepsGoing}
 pub use Rattle.oat_follow.proofs.FollowLaws.{instructions_lead as goes, last_instructions_lead as stops, none_lead as still, instructions_follow as thence}
 

@@ -2,9 +2,8 @@
 use Rattle.std.proofs.Common.{◌≡◌, ◌+◌, ◌^◌, ◌<◌, ◌≤◌, ◌-◌, ℕ, Bool, true, false, cond, ◌&&◌, eqb, ltb, refl, ap, arith, eq-eqb, ne_eqb}
 use Rattle.std.proofs.Math.Path.{fun_ext}
 use Rattle.std.proofs.lemmas.Bool.{lt-ltb}
-use Rattle.oat_a64.specs.Step.{Machine, goes_on, set, with_reg, with_flags, wrap, difference}
-use Rattle.oat_mem.specs.DataMemory.{with_word}
-use Rattle.oat_journal.specs.Run.{Running, makes}
+use Rattle.oat_asm.specs.{Machine, goes_on, set, with_reg, with_flags, wrap, difference, with_word}
+use Rattle.oat_follow.specs.{Running, makes}
 use Rattle.oat_frames.specs.Moments.{next_moment}
 
 -- ---- numbers

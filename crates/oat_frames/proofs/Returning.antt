@@ -1,31 +1,17 @@
 -- A return leads from the relation to the relation, in 7 instructions, through the X30 that memory holds.
 use Rattle.std.proofs.Common.{◌≡◌, ◌+◌, ◌*◌, ◌^◌, ◌<◌, ◌≤◌, ◌-◌, ℕ, suc, Bool, true, List, [], ◌∷◌, length, Some, refl, sym, ap, subst, ◌∙◌, arith}
 use Rattle.std.specs.List.{list_any}
-use Rattle.oat_a64.specs.declared.inst.Inst.TheVariants.{SubImm, Str}
-use Rattle.oat_a64.specs.Step.{goes_on, with_reg, difference}
-use Rattle.oat_map.specs.declared.edge.Edge.TheVariants as edges
-use Rattle.oat_map.specs.declared.row.Row.TheVariants as rows
-use Rattle.oat_mem.specs.DataMemory.{word_in}
-use Rattle.oat_shape.specs.Groups.{Stands}
-use Rattle.oat_journal.specs.Run.{Running}
-use Rattle.oat_map.specs.Rows.{row_over, is_returned_to}
-use Rattle.oat_frames.specs.Code.{CodeStands, store_inst, return_code}
-use Rattle.oat_follow.specs.Events.{MachineEvent, moves}
-use Rattle.oat_ir.specs.declared.func.Ty.{Ty}
-use Rattle.oat_check.specs.Steps.{Frame}
-use Rattle.oat_frames.specs.Frames.{line_address, Represents, HoldsState, ReturnsTo, return_address, frame_size, home_of, home_word, home_in}
-use Rattle.oat_frames.specs.Returns.{ReturnComesBack, ReturnsComeBack, ReturnsLead}
-use Rattle.oat_frames.specs.Phases.{HasSlots}
-use Rattle.oat_follow.specs.Reaching.{RunsTo}
-use Rattle.oat_frames.specs.Moments.{next_moment, jumped}
-use Rattle.oat_frames.proofs.Reaching.{thence, kept-on}
-use Rattle.oat_frames.proofs.Homes.{reads-home, writes-home, HomeWritten}
-use Rattle.oat_frames.proofs.Holding.{value-small, opens, puts-home, popped}
-use Rattle.oat_frames.proofs.Slots.{slot-opens, slot-small}
-use Rattle.oat_frames.proofs.Registers.{with_x, with_sp, difference-is}
-use Rattle.oat_frames.proofs.Steps.{sets, ldr, add-sp}
-use Rattle.oat_frames.proofs.MonitorCalls.{svc-return}
-use Rattle.oat_frames.proofs.Transfers.{ret}
+use Rattle.oat_asm.specs.{SubImm, Str, goes_on, with_reg, difference, word_in, Stands, row_over, is_returned_to}
+use Rattle.oat_check.specs.{Ty, Steps.Frame}
+use Rattle.oat_follow.specs.{Running, Events.MachineEvent, Events.moves, Reaching.RunsTo}
+use Rattle.oat_frames.specs.{Code.CodeStands, Code.store_inst, Code.return_code, Frames.line_address, Frames.Represents, Frames.HoldsState, Frames.ReturnsTo, Frames.return_address, Frames.frame_size}
+use Rattle.oat_frames.specs.{Frames.home_of, Frames.home_word, Frames.home_in, Returns.ReturnComesBack, Returns.ReturnsComeBack, Returns.ReturnsLead, Phases.HasSlots, Moments.next_moment}
+use Rattle.oat_frames.specs.{Moments.jumped}
+use Rattle.oat_frames.proofs.{Reaching.thence, Reaching.kept-on, Homes.reads-home, Homes.writes-home, Homes.HomeWritten, Holding.value-small, Holding.opens, Holding.puts-home, Holding.popped}
+use Rattle.oat_frames.proofs.{Slots.slot-opens, Slots.slot-small, Registers.with_x, Registers.with_sp, Registers.difference-is, Steps.sets, Steps.ldr, Steps.add-sp, MonitorCalls.svc-return}
+use Rattle.oat_frames.proofs.{Transfers.ret}
+use Rattle.oat_asm.specs.edges as edges
+use Rattle.oat_follow.specs.rows as rows
 
 same-some : (a b : ℕ) → Some a ≡ Some b → a ≡ b
 same-some a b h = cc

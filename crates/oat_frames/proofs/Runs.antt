@@ -1,18 +1,12 @@
 -- A run of loads, and a run of stores: each by induction.
 use Rattle.std.proofs.Common.{◌≡◌, ◌+◌, ◌*◌, ◌^◌, ◌<◌, ◌≤◌, inl, inr, ℕ, zero, suc, Bool, true, false, cond, ltb, List, [], ◌∷◌, length, get_or, None, refl, sym, ap, subst, ◌∙◌, arith}
 use Rattle.std.proofs.lemmas.Bool.{lt-ltb, ltb-true, cases_lt}
-use Rattle.oat_a64.specs.Step.{Regs, reg}
-use Rattle.oat_mem.specs.DataMemory.{word_in}
-use Rattle.oat_journal.specs.Run.{Running}
-use Rattle.oat_frames.specs.Code.{CodeStands, argument_loads, local_stores}
-use Rattle.oat_frames.specs.Frames.{World, IsLow, home_of, home_word}
-use Rattle.oat_frames.specs.Phases.{HasSlots, ArgumentsLoaded, LocalsStored, first_value}
-use Rattle.oat_frames.specs.Moments.{next_moment}
-use Rattle.oat_frames.proofs.Reaching.{still, thence, counted, kept-on}
-use Rattle.oat_frames.proofs.Slots.{slot-opens, slot-small}
-use Rattle.oat_frames.proofs.Registers.{with_x, set-same, set-other}
-use Rattle.oat_frames.proofs.Steps.{ldr}
-use Rattle.oat_frames.proofs.Homes.{home-cases, reg-low, HomeWritten, writes-home}
+use Rattle.oat_asm.specs.{Regs, reg, word_in}
+use Rattle.oat_follow.specs.{Running}
+use Rattle.oat_frames.specs.{Code.CodeStands, Code.argument_loads, Code.local_stores, Frames.World, Frames.IsLow, Frames.home_of, Frames.home_word, Phases.HasSlots, Phases.ArgumentsLoaded}
+use Rattle.oat_frames.specs.{Phases.LocalsStored, Phases.first_value, Moments.next_moment}
+use Rattle.oat_frames.proofs.{Reaching.still, Reaching.thence, Reaching.counted, Reaching.kept-on, Slots.slot-opens, Slots.slot-small, Registers.with_x, Registers.set-same, Registers.set-other}
+use Rattle.oat_frames.proofs.{Steps.ldr, Homes.home-cases, Homes.reg-low, Homes.HomeWritten, Homes.writes-home}
 
 reg-filler : (r : Regs) (params i : ℕ) (t : Bool) → ltb i params ≡ t → params ≤ 31 → reg r (cond (ltb i params) i 31) ≡ first_value r.x params i
 reg-filler r params i true is few =

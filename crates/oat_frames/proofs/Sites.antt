@@ -1,11 +1,9 @@
 -- The row over an address is a row of the map, and behind the group of a call there is a return site.
 use Rattle.std.proofs.Common.{◌≡◌, ◌+◌, ◌*◌, ◌%◌, ◌^◌, ◌<◌, ℕ, Bool, true, false, cond, List, [], ◌∷◌, Some, Contains, refl, sym, ap, ◌∙◌, arith, eq-eqb}
 use Rattle.std.specs.List.{find, list_any}
-use Rattle.std.proofs.lemmas.List.Elements.{Contains-append_right}
-use Rattle.std.proofs.lemmas.List.Folds.{list_any-from_Any}
-use Rattle.oat_map.specs.declared.row.Row.{Row}
-use Rattle.oat_map.specs.declared.row.Row.TheVariants as rows
-use Rattle.oat_map.specs.Rows.{is_over, row_over, is_returned_to}
+use Rattle.std.proofs.lemmas.{List.Elements.Contains-append_right, List.Folds.list_any-from_Any}
+use Rattle.oat_asm.specs.{Row, is_over, row_over, is_returned_to}
+use Rattle.oat_follow.specs.rows as rows
 
 -- what is found is in the list
 pub found-contains : (test : Row → Bool) (all : List Row) (r : Row) → find test all ≡ Some r → Contains all r

@@ -1,10 +1,9 @@
 -- Bounds of slots and of stack pointers.
 use Rattle.std.proofs.Common.{◌≡◌, ◌+◌, ◌*◌, ◌%◌, ◌^◌, ◌<◌, ◌≤◌, ℕ, suc, true, eqb, leb, List, [], ◌∷◌, length, arith, eq-eqb}
 use Rattle.std.proofs.lemmas.Bool.{le-leb, and_from, or_left, or_right}
-use Rattle.oat_mem.specs.DataMemory.{can_access, fits, lies_in, global_base, global_size, stack_base, stack_size, global_address}
+use Rattle.oat_asm.specs.{can_access, fits, lies_in, global_base, global_size, stack_base, stack_size, global_address}
 use Rattle.oat_check.specs.Steps.{Frame}
-use Rattle.oat_frames.specs.Frames.{World, IsWorld, CallersAt, IsStackPointer, frame_size}
-use Rattle.oat_frames.specs.Phases.{HasSlots}
+use Rattle.oat_frames.specs.{Frames.World, Frames.IsWorld, Frames.CallersAt, Frames.IsStackPointer, Frames.frame_size, Phases.HasSlots}
 
 -- a word of the stack can be read and written
 pub stack-opens : (a : ℕ) → a % 8 ≡ 0 → 0x7FF0_0000 ≤ a → a + 8 ≤ 0x8000_0000 → can_access a ≡ true

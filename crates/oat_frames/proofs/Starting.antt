@@ -1,11 +1,8 @@
 -- The start of a run leads to the start of main.
 use Rattle.std.proofs.Common.{◌≡◌, ◌+◌, ◌*◌, ◌≤◌, ◌-◌, inl, inr, ℕ, Bool, true, false, cond, ltb, refl, sym, ap, ◌∙◌, arith}
-use Rattle.oat_journal.specs.Run.{Running, started, start_memory}
-use Rattle.oat_frames.specs.Frames.{frame_size}
-use Rattle.oat_frames.specs.Returns.{StartLeads}
-use Rattle.oat_frames.specs.Phases.{FrameLaid}
-use Rattle.oat_frames.proofs.Holding.{globals-stay, word-is, zero-value}
-use Rattle.oat_frames.proofs.Opening.{HasRoom, has-room, opened}
+use Rattle.oat_follow.specs.{Running, started, start_memory}
+use Rattle.oat_frames.specs.{Frames.frame_size, Returns.StartLeads, Phases.FrameLaid}
+use Rattle.oat_frames.proofs.{Holding.globals-stay, Holding.word-is, Holding.zero-value, Opening.HasRoom, Opening.has-room, Opening.opened}
 
 pub start-leads : StartLeads
 start-leads w ok main inputs globals label code first words =

@@ -1,21 +1,13 @@
 -- One instruction of each form that compiled code has, from where it stands to the explicit next moment.
 use Rattle.std.proofs.Common.{◌≡◌, ◌+◌, ◌*◌, ◌%◌, ◌/◌, ◌^◌, ◌<◌, ◌≤◌, ◌-◌, ℕ, Bool, true, cond, [], Option, None, refl, ap, subst, ◌∙◌, arith}
-use Rattle.std.proofs.lemmas.Bool.{lt-ltb}
 use Rattle.std.specs.List.{cons_option}
-use Rattle.oat_a64.specs.declared.event.FaultKind.TheVariants.{Access}
-use Rattle.oat_a64.specs.declared.inst.Inst.{Inst}
-use Rattle.oat_a64.specs.declared.inst.Inst.TheVariants.{AddImm, SubImm, Movz, Movk, Ldr, Str}
-use Rattle.oat_a64.specs.Step.{Regs, Machine, act, goes_on, fault, loads, stores, subtracts, reg, reg_or_sp, set, with_reg, with_flags, wrap, difference, shifted_left, with_bits}
-use Rattle.oat_image.specs.declared.image.Image.{Image}
-use Rattle.oat_mem.specs.DataMemory.{can_access, word_in}
-use Rattle.oat_shape.specs.Groups.{Stands}
-use Rattle.oat_journal.specs.Run.{Running, makes}
-use Rattle.oat_follow.specs.Events.{MachineEvent, told_by}
-use Rattle.oat_frames.specs.Frames.{IsLow}
-use Rattle.oat_follow.specs.Reaching.{RunsTo, inst_makes}
-use Rattle.oat_frames.specs.Moments.{next_moment}
-use Rattle.oat_frames.proofs.Reaching.{goes-as, thence}
-use Rattle.oat_frames.proofs.Registers.{wrap-is, difference-is, set-31, set-same, set-twice, with_x, with_sp, with_slot, compared, next-is}
+use Rattle.std.proofs.lemmas.Bool.{lt-ltb}
+use Rattle.oat_asm.specs.{Access, Inst, AddImm, SubImm, Movz, Movk, Ldr, Str, Regs, Machine, act, goes_on, fault, loads, stores, subtracts, reg, reg_or_sp, set, with_reg, with_flags, wrap, difference}
+use Rattle.oat_asm.specs.{shifted_left, with_bits, Image, can_access, word_in, Stands}
+use Rattle.oat_follow.specs.{Running, makes, Events.MachineEvent, Events.told_by, Reaching.RunsTo, Reaching.inst_makes}
+use Rattle.oat_frames.specs.{Frames.IsLow, Moments.next_moment}
+use Rattle.oat_frames.proofs.{Reaching.goes-as, Reaching.thence, Registers.wrap-is, Registers.difference-is, Registers.set-31, Registers.set-same, Registers.set-twice, Registers.with_x}
+use Rattle.oat_frames.proofs.{Registers.with_sp, Registers.with_slot, Registers.compared, Registers.next-is}
 
 -- an instruction that shows nothing, whatever it finds and leaves
 abbrev pub IsQuiet : Image → Inst → Type 0

@@ -1,26 +1,12 @@
 -- Transfers: tests that skip a trap, calls, returns and branches, each from where it stands to the explicit next moment.
 use Rattle.std.proofs.Common.{◌≡◌, ◌+◌, ◌^◌, ◌<◌, ℕ, ℤ, pos, Bool, true, false, cond, not, eqb, [], ◌∷◌, Option, Some, None, ap, ◌∙◌, arith}
-use Rattle.std.specs.List.{cons_option, list_any}
-use Rattle.std.specs.Option.{option_map}
-use Rattle.oat_a64.specs.declared.inst.Inst.TheVariants.{BCond, Cbnz, Bl, Blr, Ret}
-use Rattle.oat_a64.specs.Step.{jumps, jumps_if, links, branch_target, holds, reg, with_reg}
-use Rattle.oat_image.specs.declared.image.Image.{Image}
-use Rattle.oat_map.specs.declared.row.Row.{Row}
-use Rattle.oat_map.specs.declared.row.Row.TheVariants as rows
-use Rattle.oat_map.specs.declared.edge.Edge.TheVariants as edges
-use Rattle.oat_shape.specs.Groups.{Stands}
-use Rattle.oat_journal.specs.Run.{Running, makes}
-use Rattle.oat_map.specs.Rows.{row_over, is_returned_to, is_called_at}
-use Rattle.oat_journal.specs.Window.{edge_over}
-use Rattle.oat_follow.specs.Events.{moves}
-use Rattle.oat_frames.specs.Frames.{IsLow}
-use Rattle.oat_follow.specs.Reaching.{RunsTo}
-use Rattle.oat_frames.specs.Moments.{next_moment, jumped}
-use Rattle.oat_frames.proofs.Reaching.{goes-as}
-use Rattle.oat_map.specs.declared.edge.Edge.{Edge}
-use Rattle.oat_a64.specs.declared.inst.Inst.TheVariants.{B}
-use Rattle.oat_frames.proofs.Registers.{wrap-is, next-is}
-use Rattle.oat_frames.proofs.Steps.{below, quietly}
+use Rattle.std.specs.{List.cons_option, List.list_any, Option.option_map}
+use Rattle.oat_asm.specs.{BCond, Cbnz, Bl, Blr, Ret, jumps, jumps_if, links, branch_target, holds, reg, with_reg, Image, Row, Stands, row_over, is_returned_to, is_called_at, Edge, B}
+use Rattle.oat_follow.specs.{Running, makes, edge_over, Events.moves, Reaching.RunsTo}
+use Rattle.oat_frames.specs.{Frames.IsLow, Moments.next_moment, Moments.jumped}
+use Rattle.oat_frames.proofs.{Reaching.goes-as, Registers.wrap-is, Registers.next-is, Steps.below, Steps.quietly}
+use Rattle.oat_follow.specs.rows as rows
+use Rattle.oat_asm.specs.edges as edges
 
 module _ (image : Image) (low : IsLow image) where
   -- ---- a test over a BRK

@@ -1,24 +1,13 @@
 -- The smallest image with a call meets all that the laws of a call ask for, and so runs as its source.
 use Rattle.std.proofs.Common.{◌≡◌, ◌+◌, ◌^◌, ◌<◌, ℕ, zero, suc, Bool, true, false, cond, eqb, pos, List, [], ◌∷◌, get_or, refl, arith, lit<}
-use Rattle.std.specs.List.{slice_get, list_all}
-use Rattle.std.specs.Option.{option_and_then}
-use Rattle.oat_a64.specs.declared.inst.Inst.{Inst}
-use Rattle.oat_a64.specs.declared.inst.Inst.TheVariants.{OrrReg, AddImm, SubImm, SubsImm, Ldr, Str, BCond, Bl, Ret, Svc, Brk}
-use Rattle.oat_a64.specs.Fetch.{inst_of, is_word}
-use Rattle.oat_map.specs.declared.row.Row.TheVariants as rows
-use Rattle.oat_journal.specs.Run.{started}
-use Rattle.oat_asm.specs.Standing.{IsOver}
-use Rattle.oat_frames.specs.Code.{CodeStands, call_code, prologue, return_code}
-use Rattle.oat_frames.specs.Frames.{World, IsWorld, register}
-use Rattle.oat_frames.specs.Calls.{CallSite, IsCallAt, callee_frame}
-use Rattle.oat_frames.specs.Returns.{main_frame}
-use Rattle.oat_frames.specs.Worked.{one_call, one_call_map, one_call_world, OneCallReturns}
-use Rattle.oat_frames.proofs.Reaching.{thence}
-use Rattle.oat_frames.proofs.LowCode.{low-code}
-use Rattle.oat_frames.proofs.WorkedCode.{is_encodable, decodes_at, over, beyond}
-use Rattle.oat_frames.proofs.Calling.{calls-lead}
-use Rattle.oat_frames.proofs.Returning.{returns-lead}
-use Rattle.oat_frames.proofs.Starting.{start-leads}
+use Rattle.std.specs.{List.slice_get, List.list_all, Option.option_and_then}
+use Rattle.oat_asm.specs.{Inst, OrrReg, AddImm, SubImm, SubsImm, Ldr, Str, BCond, Bl, Ret, Svc, Brk, inst_of, is_word, Standing.IsOver}
+use Rattle.oat_follow.specs.{started}
+use Rattle.oat_frames.specs.{Code.CodeStands, Code.call_code, Code.prologue, Code.return_code, Frames.World, Frames.IsWorld, Frames.register, Calls.CallSite, Calls.IsCallAt, Calls.callee_frame}
+use Rattle.oat_frames.specs.{Returns.main_frame, Worked.one_call, Worked.one_call_map, Worked.one_call_world, Worked.OneCallReturns}
+use Rattle.oat_frames.proofs.{Reaching.thence, LowCode.low-code, WorkedCode.is_encodable, WorkedCode.decodes_at, WorkedCode.over, WorkedCode.beyond, Calling.calls-lead, Returning.returns-lead}
+use Rattle.oat_frames.proofs.{Starting.start-leads}
+use Rattle.oat_follow.specs.rows as rows
 
 -- ---- the words
 

@@ -1,14 +1,9 @@
 -- Code and rows that are given by literal lists: which instructions the words are, and where a row is over an address.
 use Rattle.std.proofs.Common.{◌≡◌, ◌+◌, ◌*◌, ◌<◌, ◌≤◌, ℕ, zero, suc, Bool, true, false, List, [], ◌∷◌, map, Some, refl}
-use Rattle.std.specs.List.{slice_get, list_all}
-use Rattle.std.specs.Option.{option_and_then}
+use Rattle.std.specs.{List.slice_get, List.list_all, Option.option_and_then}
 use Rattle.std.proofs.lemmas.Bool.{le-leb, lt-ltb, le-ltb, and_from, and_right, and_parts}
-use Rattle.oat_a64.specs.declared.inst.Inst.{Inst}
-use Rattle.oat_a64.specs.Fetch.{inst_of, is_word}
-use Rattle.oat_a64.specs.Table.{word_of}
 use Rattle.oat_a64.proofs.FetchLemmas.{word_from_test, inst_from_word}
-use Rattle.oat_map.specs.declared.row.Row.{Row}
-use Rattle.oat_map.specs.Rows.{address_of, word_count, is_over}
+use Rattle.oat_asm.specs.{Inst, inst_of, is_word, word_of, Row, address_of, word_count, is_over}
 
 abbrev pub is_encodable : Inst → Bool
 is_encodable i = is_word i (word_of i)

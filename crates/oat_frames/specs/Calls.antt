@@ -1,19 +1,13 @@
 -- What a call comes to: the callee's frame lies below the caller's, and the run stands behind its prologue; or a trap, where the reference is null or 256 calls are active.
-use Rattle.std.specs.Prelude.{◌≡◌, ◌+◌, ◌-◌, true, ◌*◌, ◌<◌, ◌≤◌, ℕ, List, [], ◌∷◌, length, map, Some, None, get_or}
-use Rattle.std.specs.List.{list_any}
-use Rattle.oat_map.specs.declared.edge.Edge.TheVariants as edges
-use Rattle.oat_map.specs.declared.trap.TrapKind.TheVariants.{Depth, NullCall}
-use Rattle.oat_map.specs.Rows.{is_called_at}
-use Rattle.oat_journal.specs.declared.end.DeviceEnd.TheVariants as ends
-use Rattle.oat_journal.specs.Run.{Running}
-use Rattle.oat_ir.specs.declared.func.Ty.TheVariants.{I64, Fn}
-use Rattle.oat_check.specs.Steps.{Frame}
-use Rattle.oat_follow.specs.Events.{MachineEvent, moves}
-use Rattle.oat_follow.specs.Reaching.{RunsTo}
-use Rattle.oat_frames.specs.Moments.{KeepsGoing}
-use Rattle.oat_frames.specs.Frames.{World, IsWorld, IsSlotted, IsAt, HoldsState, line_address}
-use Rattle.oat_frames.specs.Comes.{StepsTo, EndsWithin}
-use Rattle.oat_frames.specs.Code.{CodeStands, call_code, icall_code, prologue}
+use Rattle.std.specs.{Prelude.◌≡◌, Prelude.◌+◌, Prelude.◌-◌, Prelude.true, Prelude.◌*◌, Prelude.◌<◌, Prelude.◌≤◌, Prelude.ℕ, Prelude.List, Prelude.[], Prelude.◌∷◌, Prelude.length, Prelude.map}
+use Rattle.std.specs.{Prelude.Some, Prelude.None, Prelude.get_or, List.list_any}
+use Rattle.oat_asm.specs.{Depth, NullCall, is_called_at}
+use Rattle.oat_check.specs.{I64, Fn, Steps.Frame}
+use Rattle.oat_follow.specs.{Running, Events.MachineEvent, Events.moves, Reaching.RunsTo}
+use Rattle.oat_frames.specs.{Moments.KeepsGoing, Frames.World, Frames.IsWorld, Frames.IsSlotted, Frames.IsAt, Frames.HoldsState, Frames.line_address, Comes.StepsTo, Comes.EndsWithin, Code.CodeStands}
+use Rattle.oat_frames.specs.{Code.call_code, Code.icall_code, Code.prologue}
+use Rattle.oat_asm.specs.edges as edges
+use Rattle.oat_follow.specs.ends as ends
 
 -- which function is called, of which locals, and where the result goes
 pub record CallSite : Type 0 where

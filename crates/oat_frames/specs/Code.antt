@@ -1,13 +1,10 @@
 -- The code of a call, of a function's start and of a return, as items (the instructions are those of the Arm A64 manual).
 use Rattle.std.specs.Prelude.{◌+◌, ◌<◌, ℕ, Bool, zero, suc, pos, nat_lt, if◌then◌else◌, List, [], ◌∷◌, ◌++◌, length}
-use Rattle.oat_a64.specs.declared.inst.Inst.{Inst}
-use Rattle.oat_a64.specs.declared.inst.Inst.TheVariants.{OrrReg, AddImm, SubImm, SubsImm, Ldr, Str, BCond, Cbnz, Brk, Svc, Blr, Ret}
-use Rattle.oat_asm.specs.declared.branch_form.BranchForm.TheVariants.{Bl}
-use Rattle.oat_asm.specs.declared.item.Item.{Item}
+use Rattle.oat_asm.specs.{Inst, OrrReg, AddImm, SubImm, SubsImm, Ldr, Str, BCond, Cbnz, Brk, Svc, Blr, Ret, declared.branch_form.BranchForm.TheVariants.Bl, declared.item.Item.Item}
+use Rattle.oat_asm.specs.{Standing.ItemsStand}
+use Rattle.oat_frames.specs.Frames.{World, Home, slot, register, home_of, frame_size}
 use Rattle.oat_asm.specs.declared.item.Item.TheVariants as item
 use Rattle.oat_asm.specs.declared.note.Note.TheVariants as note
-use Rattle.oat_asm.specs.Standing.{ItemsStand}
-use Rattle.oat_frames.specs.Frames.{World, Home, slot, register, home_of, frame_size}
 
 -- items stand in the image of a compiled program, from an address on
 abbrev pub CodeStands : World → ℕ → List Item → Type 0

@@ -1,11 +1,8 @@
 -- What some instructions of compiled code come to: to where the source is, or to the end of the run.
 use Rattle.std.specs.Prelude.{◌≡◌, ◌+◌, ◌≤◌, ℕ, ℤ, List, [], Some}
 use Rattle.oat_check.specs.Steps.{Frame, assigned}
-use Rattle.oat_journal.specs.declared.end.DeviceEnd.{DeviceEnd}
-use Rattle.oat_journal.specs.Run.{Running}
-use Rattle.oat_follow.specs.Events.{MachineEvent}
+use Rattle.oat_follow.specs.{DeviceEnd, Running, Events.MachineEvent, Reaching.RunsTo}
 use Rattle.oat_frames.specs.Frames.{World, IsAt}
-use Rattle.oat_follow.specs.Reaching.{RunsTo}
 
 -- Some instructions, at least one and at most so many, show these events and lead to where the source is, with these inputs left and these outputs put.
 pub record ComesTo (w : World) (most : ℕ) (f : Frame) (callers : List Frame) (globals : ℕ → ℕ) (es : List MachineEvent) (asked put : List ℤ) (m : Running) : Type 0 where

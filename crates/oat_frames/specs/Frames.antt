@@ -1,16 +1,10 @@
 -- The relation of a compiled program's run to its source: where each value is held, and how the frames of the active calls lie in the stack. Frames are this compiler's own; of the AAPCS64 they take that X0 to X3 pass arguments, X0 a result, X30 a return address, and that SP stays a multiple of 16, and nothing else.
-use Rattle.std.specs.Prelude.{◌≡◌, ◌+◌, ◌-◌, ◌*◌, ◌/◌, ◌%◌, ◌^◌, ◌<◌, ◌≤◌, ◌⊎◌, ℕ, Bool, true, nat_eq, nat_lt, ◌&&◌, false, if◌then◌else◌, List, [], ◌∷◌, length, Option, Some, None, ⊤}
-use Rattle.std.specs.List.{list_any}
-use Rattle.oat_a64.specs.declared.inst.Inst.{Inst}
-use Rattle.oat_a64.specs.declared.inst.Inst.TheVariants.{SubImm, Str}
-use Rattle.oat_image.specs.declared.image.Image.{Image}
-use Rattle.oat_mem.specs.DataMemory.{word_in, global_address}
-use Rattle.oat_map.specs.Rows.{is_returned_to}
-use Rattle.oat_journal.specs.Run.{Running}
-use Rattle.oat_shape.specs.Groups.{Stands}
-use Rattle.oat_ir.specs.declared.func.Ty.{Ty}
-use Rattle.oat_ir.specs.declared.func.Ty.TheVariants.{I64, Fn}
-use Rattle.oat_check.specs.Steps.{Frame}
+use Rattle.std.specs.{Prelude.◌≡◌, Prelude.◌+◌, Prelude.◌-◌, Prelude.◌*◌, Prelude.◌/◌, Prelude.◌%◌, Prelude.◌^◌, Prelude.◌<◌, Prelude.◌≤◌, Prelude.◌⊎◌, Prelude.ℕ, Prelude.Bool, Prelude.true}
+use Rattle.std.specs.{Prelude.nat_eq, Prelude.nat_lt, Prelude.◌&&◌, Prelude.false, Prelude.if◌then◌else◌, Prelude.List, Prelude.[], Prelude.◌∷◌, Prelude.length, Prelude.Option, Prelude.Some}
+use Rattle.std.specs.{Prelude.None, Prelude.⊤, List.list_any}
+use Rattle.oat_asm.specs.{Inst, SubImm, Str, Image, word_in, global_address, is_returned_to, Stands}
+use Rattle.oat_check.specs.{Ty, I64, Fn, Steps.Frame}
+use Rattle.oat_follow.specs.{Running}
 
 -- where a local is held: in a slot of its frame, counted from SP, or in a register
 pub data Home : Type 0 where

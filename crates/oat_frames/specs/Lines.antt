@@ -1,11 +1,8 @@
 -- Where the lines of a function stand: the code of a line, the locals that it names, and the lines of a block one behind another.
 use Rattle.std.specs.Prelude.{◌≡◌, ◌+◌, ◌*◌, ◌<◌, ◌≤◌, ℕ, List, [], ◌∷◌, ◌++◌, length, take, slice_get, Some}
-use Rattle.oat_asm.specs.declared.item.Item.{Item}
-use Rattle.oat_asm.specs.Items.{words_needed}
-use Rattle.oat_ir.specs.declared.func.Ty.TheVariants.{I64}
-use Rattle.oat_check.specs.Steps.{Frame}
-use Rattle.oat_frames.specs.Code.{CodeStands}
-use Rattle.oat_frames.specs.Frames.{World, line_address}
+use Rattle.oat_asm.specs.{declared.item.Item.Item, Items.words_needed}
+use Rattle.oat_check.specs.{I64, Steps.Frame}
+use Rattle.oat_frames.specs.{Code.CodeStands, Frames.World, Frames.line_address}
 
 -- the code of the line at which a frame stands, with the next line behind it
 pub record IsLineAt (w : World) (f : Frame) (is : List Item) : Type 0 where

@@ -1,7 +1,7 @@
 -- The next moments of a run, and what a run keeps.
 use Rattle.std.specs.Prelude.{◌≡◌, ◌+◌, ℕ, None}
-use Rattle.oat_a64.specs.Step.{Machine, Regs}
-use Rattle.oat_journal.specs.Run.{Running}
+use Rattle.oat_asm.specs.{Machine, Regs}
+use Rattle.oat_follow.specs.{Running}
 
 -- The next moments, whose addresses are sums that don't wrap: with this machine at the next instruction,
 abbrev pub next_moment : Running → Machine → Running

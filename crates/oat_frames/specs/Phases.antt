@@ -1,11 +1,8 @@
 -- What the parts of a call leave: runs of loads and of stores, each as one record.
 use Rattle.std.specs.Prelude.{◌≡◌, ◌+◌, ◌*◌, ◌%◌, ◌<◌, ◌≤◌, ◌⊎◌, ℕ, Bool, nat_lt, if◌then◌else◌, List, [], length, get_or}
-use Rattle.oat_image.specs.declared.image.Image.{Image}
-use Rattle.oat_mem.specs.DataMemory.{word_in}
-use Rattle.oat_journal.specs.Run.{Running}
-use Rattle.oat_follow.specs.Reaching.{RunsTo}
-use Rattle.oat_frames.specs.Frames.{home_of, home_word}
-use Rattle.oat_frames.specs.Moments.{KeepsGoing}
+use Rattle.oat_asm.specs.{Image, word_in}
+use Rattle.oat_follow.specs.{Running, Reaching.RunsTo}
+use Rattle.oat_frames.specs.{Frames.home_of, Frames.home_word, Moments.KeepsGoing}
 
 -- n slots from a stack pointer on can be read and written
 pub record HasSlots (sp n : ℕ) : Type 0 where

@@ -1,9 +1,7 @@
 -- The front of a line: instructions over so many bytes that change scratch registers, flags and inputs alone, and may show something. X19 to X26 and X28 are no scratch.
 use Rattle.std.specs.Prelude.{◌≡◌, ◌+◌, ◌<◌, ℕ, ℤ, List, None}
-use Rattle.oat_image.specs.declared.image.Image.{Image}
-use Rattle.oat_journal.specs.Run.{Running}
-use Rattle.oat_follow.specs.Events.{MachineEvent}
-use Rattle.oat_follow.specs.Reaching.{RunsTo}
+use Rattle.oat_asm.specs.{Image}
+use Rattle.oat_follow.specs.{Running, Events.MachineEvent, Reaching.RunsTo}
 
 -- the registers that may hold locals are as they were
 abbrev pub KeepsHomes : (ℕ → ℕ) → (ℕ → ℕ) → Type 0

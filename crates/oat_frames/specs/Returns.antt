@@ -1,15 +1,10 @@
 -- What a return comes to: the run stands at the line behind the caller's call, through the return address that memory holds. And what the start of a run comes to.
 use Rattle.std.specs.Prelude.{◌≡◌, ◌+◌, ◌<◌, ℕ, ℤ, List, [], ◌∷◌, Some, None}
-use Rattle.oat_map.specs.declared.edge.Edge.TheVariants as edges
-use Rattle.oat_journal.specs.Run.{Running, started, start_memory}
 use Rattle.oat_check.specs.Steps.{Frame}
-use Rattle.oat_follow.specs.Events.{MachineEvent, moves}
-use Rattle.oat_follow.specs.Reaching.{RunsTo}
-use Rattle.oat_frames.specs.Moments.{KeepsGoing}
-use Rattle.oat_frames.specs.Frames.{World, IsWorld, IsSlotted, IsAt, HoldsState, GlobalsAt, home_in, line_address, return_address}
-use Rattle.oat_frames.specs.Comes.{StepsTo, with_result}
-use Rattle.oat_frames.specs.Calls.{prologue_end}
-use Rattle.oat_frames.specs.Code.{CodeStands, prologue, return_code}
+use Rattle.oat_follow.specs.{Running, started, start_memory, Events.MachineEvent, Events.moves, Reaching.RunsTo}
+use Rattle.oat_frames.specs.{Moments.KeepsGoing, Frames.World, Frames.IsWorld, Frames.IsSlotted, Frames.IsAt, Frames.HoldsState, Frames.GlobalsAt, Frames.home_in, Frames.line_address}
+use Rattle.oat_frames.specs.{Frames.return_address, Comes.StepsTo, Comes.with_result, Calls.prologue_end, Code.CodeStands, Code.prologue, Code.return_code}
+use Rattle.oat_asm.specs.edges as edges
 
 -- a return of a local whose type is that of the caller's result
 pub record IsReturnOf (w : World) (f g : Frame) (from to : ℕ) : Type 0 where

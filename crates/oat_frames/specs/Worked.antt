@@ -1,14 +1,11 @@
 -- The smallest image with a call: main calls a function with one argument, which gives it back.
 use Rattle.std.specs.Prelude.{◌+◌, ℕ, false, not, nat_eq, if◌then◌else◌, [], ◌∷◌, Some, None, codes}
-use Rattle.oat_image.specs.declared.image.Image.{Image}
-use Rattle.oat_map.specs.declared.map.Map.{Map}
-use Rattle.oat_map.specs.declared.edge.Edge.TheVariants as edges
-use Rattle.oat_map.specs.declared.row.Row.TheVariants as rows
-use Rattle.oat_journal.specs.Run.{Running, started}
-use Rattle.oat_follow.specs.Events.{moves}
-use Rattle.oat_ir.specs.declared.func.Ty.TheVariants.{I64}
+use Rattle.oat_asm.specs.{Image, Map}
+use Rattle.oat_check.specs.{I64}
+use Rattle.oat_follow.specs.{Running, started, Events.moves, Reaching.RunsTo}
 use Rattle.oat_frames.specs.Frames.{World, IsAt}
-use Rattle.oat_follow.specs.Reaching.{RunsTo}
+use Rattle.oat_asm.specs.edges as edges
+use Rattle.oat_follow.specs.rows as rows
 
 abbrev pub one_call_map : Map
 one_call_map = record {

@@ -1,29 +1,15 @@
 -- How many labels a checked program has, and what its functions keep.
 use Rattle.std.proofs.Common.{◌≡◌, ℕ, ◌+◌, ◌<◌, ◌≤◌, List, [], ◌∷◌, ◌++◌, length, take, drop, get_or, Bool, true, false, cond, Some, None, refl, sym, ap, ◌∙◌, subst, arith, length-append, zero, suc}
-use Rattle.std.specs.List.{sum_by, flat_map, AllByRecursion, position}
-use Rattle.std.proofs.lemmas.Bool.{lt-ltb}
-use Rattle.std.proofs.lemmas.Option.{slice_get_read, get_or_from_slice_get}
-use Rattle.std.proofs.lemmas.List.{length-map, at_drop_more, take-append-drop}
-use Rattle.std.proofs.lemmas.List.Elements.{All-contains, All-from_recursion}
-use Rattle.std.proofs.lemmas.List.Sums.{sum_by-cons}
-use Rattle.oat_ir.specs.declared.program.Program.{Program}
-use Rattle.oat_ir.specs.declared.func.Func.{Func}
-use Rattle.oat_ir.specs.declared.func.BlockIr.{BlockIr}
-use Rattle.std.specs.Prelude.{slice_get}
-use Rattle.std.proofs.lemmas.List.Concat.{flat_map-append}
-use Rattle.oat_ir.specs.Size.{block_size, func_size}
-use Rattle.oat_ir.specs.declared.program.GlobalItem.{GlobalItem}
-use Rattle.oat_ir.specs.declared.program.GlobalItem.TheVariants.{Scalar, FnScalar, Array, CriticalArray}
-use Rattle.oat_check.specs.Globals.{size_in_words, size_in_cells}
-use Rattle.oat_check.specs.RuleLaws.{KeepsRules, FuncKeepsRules}
-use Rattle.oat_check.specs.Rules.{is_main, IsChecked}
-use Rattle.oat_check.proofs.Checking.{keeps_rules, func_formed}
-use Rattle.oat_gen.specs.declared.globals.GlobalPlace.{GlobalPlace}
-use Rattle.oat_gen.specs.GlobalPlaces.{places_from, global_places, placed}
+use Rattle.std.specs.{List.sum_by, List.flat_map, List.AllByRecursion, List.position, Prelude.slice_get}
+use Rattle.std.proofs.lemmas.{Bool.lt-ltb, Option.slice_get_read, Option.get_or_from_slice_get, List.length-map, List.at_drop_more, List.take-append-drop, List.Elements.All-contains}
+use Rattle.std.proofs.lemmas.{List.Elements.All-from_recursion, List.Sums.sum_by-cons, List.Concat.flat_map-append}
 use Rattle.oat_parts.proofs.Lists.{get_in}
+use Rattle.oat_check.proofs.Checking.{keeps_rules, func_formed}
+use Rattle.oat_globals.specs.{Program, Func, BlockIr, block_size, func_size, GlobalItem, Scalar, FnScalar, Array, CriticalArray, size_in_words, size_in_cells, KeepsRules, FuncKeepsRules, is_main}
+use Rattle.oat_globals.specs.{IsChecked}
 use Rattle.oat_symbols.specs.Programs.{block_names, label_of_block, main_at}
 use Rattle.oat_symbols.proofs.Programs.{main_within}
-use Rattle.oat_gen.specs.Steps.{HasLowWord, IsFuncAmong, block_total}
+use Rattle.oat_gen.specs.{declared.globals.GlobalPlace.GlobalPlace, GlobalPlaces.places_from, GlobalPlaces.global_places, GlobalPlaces.placed, Steps.HasLowWord, Steps.IsFuncAmong, Steps.block_total}
 
 pub block_total_cons : (g : Func) (gs : List Func) → block_total (g ∷ gs) ≡ length g.blocks + block_total gs
 block_total_cons g gs = length-append (block_names g) (flat_map block_names gs) ∙ ap (λ (n : ℕ). n + block_total gs) (length-map g.blocks (λ (b : BlockIr). b.label))

@@ -1,11 +1,7 @@
 -- From the code of a checked program's functions to its items, and to the image.
-use Rattle.oat_ir.specs.declared.program.Program.{Program}
-use Rattle.oat_check.specs.Rules.{IsChecked}
-use Rattle.oat_parts.specs.Making.{AreCodes}
-use Rattle.oat_symbols.specs.Programs.{symbols_of}
-use Rattle.oat_symbols.specs.Codes.{codes_of, CodesAreOfTheProgram, ProgramsAreBuilt}
-use Rattle.oat_gen.specs.Code.{function_code}
-use Rattle.oat_gen.specs.Laws.{FunctionsHaveTheirCode, ProgramItemsCanBeExpanded, FittingProgramsAreBuilt}
+use Rattle.oat_globals.specs.{Program, IsChecked}
+use Rattle.oat_symbols.specs.{AreCodes, Programs.symbols_of, Codes.codes_of, Codes.CodesAreOfTheProgram, Codes.ProgramsAreBuilt}
+use Rattle.oat_gen.specs.{Code.function_code, Laws.FunctionsHaveTheirCode, Laws.ProgramItemsCanBeExpanded, Laws.FittingProgramsAreBuilt}
 
 module _ (codes : CodesAreOfTheProgram) (functions : FunctionsHaveTheirCode) where
   pub are_codes : (p : Program) → IsChecked p → AreCodes (symbols_of p) (symbols_of p).functions (codes_of (function_code p) p)

@@ -1,30 +1,18 @@
 -- The expansion of each line, and of a block line by line.
-use Rattle.std.proofs.Common.{◌≡◌, ℕ, zero, suc, pos, nat_lt, if◌then◌else◌, ◌+◌, ◌<◌, Bool, true, false, cond, eqb, ltb, List, [], ◌∷◌, ◌++◌, length, map, refl, sym, ap, ◌∙◌, Option, Some, None, arith, length-append}
-use Rattle.std.specs.Prelude.{slice_get}
-use Rattle.std.specs.Option.{option_map}
-use Rattle.std.proofs.lemmas.Bool.{eqb-true, ltb-true}
-use Rattle.std.proofs.lemmas.List.{length-map}
-use Rattle.std.proofs.lemmas.List.Concat.{flat_map-append}
-use Rattle.oat_a64.specs.declared.inst.Inst.TheVariants.{AddImm, SubImm, SubsImm, Ldr, Str, BCond, Cbnz, Brk}
-use Rattle.oat_asm.specs.declared.item.Item.{Item}
+use Rattle.std.proofs.Common.{◌≡◌, ℕ, zero, suc, pos, nat_lt, if◌then◌else◌, ◌+◌, ◌<◌, Bool, true, false, cond, eqb, ltb, List, [], ◌∷◌, ◌++◌, length, map, refl, sym, ap, ◌∙◌, Option, Some, None}
+use Rattle.std.proofs.Common.{arith, length-append}
+use Rattle.std.specs.{Prelude.slice_get, Option.option_map}
+use Rattle.std.proofs.lemmas.{Bool.eqb-true, Bool.ltb-true, List.length-map, List.Concat.flat_map-append}
+use Rattle.oat_parts.proofs.Lists.{get_before, map_get}
+use Rattle.oat_globals.specs.{AddImm, SubImm, SubsImm, Ldr, Str, BCond, Cbnz, Brk, Item, expanded, expansion, BlockIr, Instr, BinOp, Add, Sub, Mul, And, Or, Xor, Shl, Shr, Sar, Eq, Ne, Lt, Le, Ltu}
+use Rattle.oat_globals.specs.{Leu, Div, Rem, Divu, Remu, CodeLine, instruction, terminator, line_in, home_load, home_store, argument_loads, local_stores, depth_tested, behind_call, prologue, Home}
+use Rattle.oat_globals.specs.{slot, register, home_of, frame_size, lines_code, Operations.begin_code, Operations.start_code, Operations.leave_code}
+use Rattle.oat_locals.specs.Code.{operand_in, operand_load, operand_store, operation_code, binary_code}
+use Rattle.oat_gen.specs.{Marked.begin_mark, Marked.marked_start, Marked.marked_return, Code.line_code, Code.code_lines, Laws.MarkedCodeExpands, Laws.OtherCodeStays, Laws.BlocksExpandByLine}
+use Rattle.oat_gen.specs.{Laws.BlocksHaveTheirLines}
 use Rattle.oat_asm.specs.declared.item.Item.TheVariants as item
 use Rattle.oat_asm.specs.declared.mark.Mark.TheVariants as mark
 use Rattle.oat_asm.specs.declared.note.Note.TheVariants as note
-use Rattle.oat_asm.specs.Expansion.{expanded, expansion}
-use Rattle.oat_ir.specs.declared.func.BlockIr.{BlockIr}
-use Rattle.oat_ir.specs.declared.instr.Instr.{Instr}
-use Rattle.oat_ir.specs.declared.instr.BinOp.{BinOp}
-use Rattle.oat_ir.specs.declared.instr.BinOp.TheVariants.{Add, Sub, Mul, And, Or, Xor, Shl, Shr, Sar, Eq, Ne, Lt, Le, Ltu, Leu, Div, Rem, Divu, Remu}
-use Rattle.oat_check.specs.Lines.{CodeLine, instruction, terminator, line_in}
-use Rattle.oat_parts.proofs.Lists.{get_before, map_get}
-use Rattle.oat_frames.specs.Code.{home_load, home_store, argument_loads, local_stores, depth_tested, behind_call, prologue}
-use Rattle.oat_frames.specs.Frames.{Home, slot, register, home_of, frame_size}
-use Rattle.oat_frames.specs.Lines.{lines_code}
-use Rattle.oat_locals.specs.Code.{operand_in, operand_load, operand_store, operation_code, binary_code}
-use Rattle.oat_globals.specs.Operations.{begin_code, start_code, leave_code}
-use Rattle.oat_gen.specs.Marked.{begin_mark, marked_start, marked_return}
-use Rattle.oat_gen.specs.Code.{line_code, code_lines}
-use Rattle.oat_gen.specs.Laws.{MarkedCodeExpands, OtherCodeStays, BlocksExpandByLine, BlocksHaveTheirLines}
 
 -- ---- lines
 

@@ -1,56 +1,28 @@
 -- The code of each function of a checked program is a prologue that begins its operation, and a stretch for each block.
 use Rattle.std.proofs.Common.{◌≡◌, ℕ, ◌+◌, ◌<◌, ◌≤◌, Bool, true, false, ◌&&◌, List, [], ◌∷◌, length, map, take, refl, sym, ap, ◌∙◌, subst, All, Some, None, arith, lit<, inl, inr}
-use Rattle.std.specs.Prelude.{slice_get, Contains}
-use Rattle.std.specs.List.{sum_by, AllByRecursion}
-use Rattle.std.proofs.lemmas.Bool.{and_parts, false≢true}
-use Rattle.std.proofs.lemmas.Option.{slice_get_cases}
-use Rattle.std.proofs.lemmas.List.{length-map}
-use Rattle.std.proofs.lemmas.List.Elements.{All-contains, Contains-append_cases}
-use Rattle.oat_a64.specs.declared.inst.Inst.TheVariants.{Ldr}
-use Rattle.oat_asm.specs.declared.mark.Mark.TheVariants as mark
-use Rattle.oat_image.specs.Grammar.{IsOperationNumber}
-use Rattle.oat_ir.specs.declared.program.Program.{Program}
-use Rattle.oat_ir.specs.declared.program.GlobalItem.{GlobalItem}
-use Rattle.oat_ir.specs.declared.program.GlobalItem.TheVariants.{Scalar, FnScalar, Array, CriticalArray}
-use Rattle.oat_ir.specs.declared.func.Func.{Func}
-use Rattle.oat_ir.specs.declared.func.Role.{Role}
-use Rattle.oat_ir.specs.declared.func.Role.TheVariants.{Plain, Operation, Main}
-use Rattle.oat_ir.specs.declared.func.BlockIr.{BlockIr}
-use Rattle.oat_ir.specs.declared.instr.Instr.{Instr}
-use Rattle.oat_ir.specs.declared.instr.Instr.TheVariants.{Const, Copy, Binary, Load, Store, LoadX, StoreX, RefTo, Call, ICall, Input, Output}
-use Rattle.oat_ir.specs.declared.instr.Term.{Term}
-use Rattle.oat_ir.specs.declared.instr.Term.TheVariants.{Jump, Branch, Ret, Halt}
-use Rattle.oat_ir.specs.Indices.{HasLocal, IsInstr, IsTerm}
-use Rattle.oat_ir.specs.WellFormed.{IsGlobal, IsBlockIr, IsFunc, IsProgram, IsRole}
-use Rattle.oat_check.specs.Globals.{size_in_words, size_in_cells, word_number, cell_number}
-use Rattle.oat_check.specs.Lines.{CodeLine, instruction, terminator}
-use Rattle.oat_check.specs.Rules.{IsChecked, holds_number, names_array, is_array, passes}
-use Rattle.oat_check.specs.RuleLaws.{IsAllowed}
-use Rattle.oat_check.specs.RunLaws.{WordsAreFew}
-use Rattle.oat_check.specs.Steps.{operation_number}
-use Rattle.oat_check.proofs.Checking.{func_formed, instr_allowed}
-use Rattle.oat_parts.specs.Symbols.{SymbolTable, IsBlockLabel}
-use Rattle.oat_parts.specs.Making.{IsStretch}
-use Rattle.oat_parts.specs.Parts.{is_set}
+use Rattle.std.specs.{Prelude.slice_get, Prelude.Contains, List.sum_by, List.AllByRecursion}
+use Rattle.std.proofs.lemmas.{Bool.and_parts, Bool.false≢true, Option.slice_get_cases, List.length-map, List.Elements.All-contains, List.Elements.Contains-append_cases}
 use Rattle.oat_parts.proofs.Lists.{first_in, later_in, cons_cases, not_in_none, get_in, in_get, of_map}
-use Rattle.oat_symbols.specs.Programs.{symbols_of, label_of_block, HasItsLabels, HasItsCells, ProgramsHaveTheirLabels, ProgramsHaveTheirCells}
-use Rattle.oat_symbols.specs.Codes.{IsCodeOf}
-use Rattle.oat_symbols.proofs.Elements.{numbered}
+use Rattle.oat_ir.specs.declared.instr.Term.TheVariants.{Jump, Branch, Ret}
+use Rattle.oat_check.proofs.Checking.{func_formed, instr_allowed}
+use Rattle.oat_frames.proofs.FrameLaws.{is-home}
+use Rattle.oat_globals.specs.{Ldr, IsOperationNumber, Program, GlobalItem, Scalar, FnScalar, Array, CriticalArray, Func, Role, Plain, Operation, Main, BlockIr, Instr, Const, Copy, Binary, Load, Store}
+use Rattle.oat_globals.specs.{LoadX, StoreX, RefTo, Call, ICall, Input, Output, Term, Halt, HasLocal, IsInstr, IsTerm, IsGlobal, IsBlockIr, IsFunc, IsProgram, IsRole, size_in_words, size_in_cells}
+use Rattle.oat_globals.specs.{word_number, cell_number, CodeLine, instruction, terminator, IsChecked, holds_number, names_array, is_array, passes, IsAllowed, WordsAreFew, operation_number, IsHome}
+use Rattle.oat_globals.specs.{home_store, home_of, is_leaf}
 use Rattle.oat_locals.specs.Code.{halt_code}
 use Rattle.oat_locals.proofs.LineLaws.{lines-are-in-range}
-use Rattle.oat_frames.specs.Code.{IsHome, home_store}
-use Rattle.oat_frames.specs.Frames.{home_of}
-use Rattle.oat_frames.specs.Leaves.{is_leaf}
-use Rattle.oat_frames.proofs.FrameLaws.{is-home}
-use Rattle.oat_gen.specs.declared.globals.GlobalPlace.{GlobalPlace}
-use Rattle.oat_gen.specs.GlobalPlaces.{global_places, place_in, placed}
-use Rattle.oat_gen.specs.Code.{instruction_code, terminator_code, line_code, code_lines, block_code, function_code}
-use Rattle.oat_gen.specs.Laws.{FunctionsHaveTheirCode}
-use Rattle.oat_gen.proofs.Bounds.{few_locals}
-use Rattle.oat_gen.proofs.Placing.{globals_have_their_places}
-use Rattle.oat_gen.proofs.Stretches.{Made, nothing, inst_then, check_now, plain_then, reference_then, mark_then, lines_made}
-use Rattle.oat_gen.proofs.LineParts.{load_then, store_last, const_made, copy_made, input_made, output_made, binary_made, loads_slot, tested_made, followed, return_made, start_made, IsScalarPlace, IsArrayPlace, load_made, store_made, element_made, element_stored}
-use Rattle.oat_gen.proofs.Words.{block_words, some_words}
+use Rattle.oat_symbols.specs.{SymbolTable, IsBlockLabel, IsStretch, is_set, Programs.symbols_of, Programs.label_of_block, Programs.HasItsLabels, Programs.HasItsCells, Programs.ProgramsHaveTheirLabels}
+use Rattle.oat_symbols.specs.{Programs.ProgramsHaveTheirCells, Codes.IsCodeOf}
+use Rattle.oat_symbols.proofs.Elements.{numbered}
+use Rattle.oat_gen.specs.{declared.globals.GlobalPlace.GlobalPlace, GlobalPlaces.global_places, GlobalPlaces.place_in, GlobalPlaces.placed, Code.instruction_code, Code.terminator_code, Code.line_code}
+use Rattle.oat_gen.specs.{Code.code_lines, Code.block_code, Code.function_code, Laws.FunctionsHaveTheirCode}
+use Rattle.oat_gen.proofs.{Bounds.few_locals, Placing.globals_have_their_places, Stretches.Made, Stretches.nothing, Stretches.inst_then, Stretches.check_now, Stretches.plain_then}
+use Rattle.oat_gen.proofs.{Stretches.reference_then, Stretches.mark_then, Stretches.lines_made, LineParts.load_then, LineParts.store_last, LineParts.const_made, LineParts.copy_made}
+use Rattle.oat_gen.proofs.{LineParts.input_made, LineParts.output_made, LineParts.binary_made, LineParts.loads_slot, LineParts.tested_made, LineParts.followed, LineParts.return_made}
+use Rattle.oat_gen.proofs.{LineParts.start_made, LineParts.IsScalarPlace, LineParts.IsArrayPlace, LineParts.load_made, LineParts.store_made, LineParts.element_made, LineParts.element_stored}
+use Rattle.oat_gen.proofs.{Words.block_words, Words.some_words}
+use Rattle.oat_asm.specs.declared.mark.Mark.TheVariants as mark
 
 first_holds : (a b c : Bool) → (a && b && c) ≡ true → a ≡ true
 first_holds a b c all = (and_parts a b (and_parts (a && b) c all).0).0

@@ -1,25 +1,14 @@
 -- The items of a program are those of main, and those of the others in their order.
 use Rattle.std.proofs.Common.{◌≡◌, ℕ, zero, suc, ◌+◌, ◌<◌, Bool, cond, List, [], ◌∷◌, ◌++◌, length, map, take, drop, refl, sym, ap, ◌∙◌, Some, arith, append_assoc, length-append}
 use Rattle.std.specs.Prelude.{slice_get}
-use Rattle.std.proofs.lemmas.Bool.{eq-eqb, ne_eqb}
-use Rattle.std.proofs.lemmas.List.{length-map, take_at}
-use Rattle.oat_asm.specs.declared.item.Item.{Item}
-use Rattle.oat_asm.specs.declared.item.Item.TheVariants as item
-use Rattle.oat_ir.specs.declared.program.Program.{Program}
-use Rattle.oat_ir.specs.declared.func.Func.{Func}
-use Rattle.oat_ir.specs.declared.func.BlockIr.{BlockIr}
-use Rattle.oat_check.specs.Steps.{operation_number}
-use Rattle.oat_parts.specs.Symbols.{FunctionSymbol}
-use Rattle.oat_parts.specs.Making.{FunctionCode, blocks_code, code_from}
-use Rattle.oat_symbols.specs.Programs.{block_names, symbol_for, symbols_from, label_of_block, main_at}
-use Rattle.oat_symbols.specs.Codes.{codes_from}
-use Rattle.oat_gen.specs.declared.globals.GlobalPlace.{GlobalPlace}
-use Rattle.oat_gen.specs.GlobalPlaces.{global_places}
-use Rattle.oat_frames.specs.Leaves.{is_leaf}
-use Rattle.oat_gen.specs.Marked.{marked_start}
-use Rattle.oat_gen.specs.Code.{block_code, function_code, program_items}
-use Rattle.oat_gen.specs.Steps.{function_items, others_items, block_total}
+use Rattle.std.proofs.lemmas.{Bool.eq-eqb, Bool.ne_eqb, List.length-map, List.take_at}
+use Rattle.oat_globals.specs.{Item, Program, Func, BlockIr, operation_number, is_leaf}
+use Rattle.oat_symbols.specs.{FunctionSymbol, FunctionCode, blocks_code, code_from, Programs.block_names, Programs.symbol_for, Programs.symbols_from, Programs.label_of_block, Programs.main_at}
+use Rattle.oat_symbols.specs.{Codes.codes_from}
+use Rattle.oat_gen.specs.{declared.globals.GlobalPlace.GlobalPlace, GlobalPlaces.global_places, Marked.marked_start, Code.block_code, Code.function_code, Code.program_items, Steps.function_items}
+use Rattle.oat_gen.specs.{Steps.others_items, Steps.block_total}
 use Rattle.oat_gen.proofs.Bounds.{block_total_cons, block_total_both}
+use Rattle.oat_asm.specs.declared.item.Item.TheVariants as item
 
 -- functions behind f others, whose first block has label n
 record IsReached (p : Program) (f n : ℕ) (funcs : List Func) : Type 0 where

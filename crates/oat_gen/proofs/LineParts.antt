@@ -1,35 +1,21 @@
 -- Each line of a checked program is made of parts.
 use Rattle.std.proofs.Common.{◌≡◌, ℕ, ℤ, zero, suc, ◌+◌, ◌<◌, ◌≤◌, Bool, true, cond, ltb, ◌&&◌, ap, ◌∙◌, List, [], ◌∷◌, ◌++◌, length, refl, Option, Some, None, arith, lit<}
-use Rattle.std.specs.Prelude.{slice_get, Contains}
-use Rattle.std.specs.Option.{option_to_list}
-use Rattle.oat_a64.specs.declared.inst.Inst.TheVariants.{AddImm, SubImm, SubsImm, Ldr, Str, Svc}
-use Rattle.oat_a64.specs.Table.{IsInRange}
-use Rattle.oat_asm.specs.declared.mark.Mark.{Mark}
-use Rattle.oat_asm.specs.declared.mark.Mark.TheVariants as mark
-use Rattle.oat_asm.specs.declared.item.Item.{Item}
-use Rattle.oat_asm.specs.declared.item.Item.TheVariants as item
-use Rattle.oat_asm.specs.Ranges.{AreItemsInRange}
-use Rattle.oat_image.specs.Grammar.{IsLength, IsOperationNumber}
-use Rattle.oat_shape.specs.Groups.{AreElements}
-use Rattle.oat_ir.specs.declared.program.Program.{Program}
-use Rattle.oat_ir.specs.declared.instr.BinOp.{BinOp}
-use Rattle.oat_ir.specs.declared.instr.BinOp.TheVariants.{Add, Sub, Mul, And, Or, Xor, Shl, Shr, Sar, Eq, Ne, Lt, Le, Ltu, Leu, Div, Rem, Divu, Remu}
-use Rattle.oat_parts.specs.Symbols.{SymbolTable}
-use Rattle.oat_parts.specs.Parts.{is_set, is_met, begun_by, IsMarkOf, IsLoose}
-use Rattle.oat_parts.specs.Parts as part
+use Rattle.std.specs.{Prelude.slice_get, Prelude.Contains, Option.option_to_list}
 use Rattle.oat_parts.proofs.Lists.{first_in, later_in}
-use Rattle.oat_symbols.specs.Programs.{symbols_of}
-use Rattle.oat_frames.specs.Code.{IsHome, load_inst, store_inst, home_load, home_store, argument_loads, local_stores, depth_tested, behind_call, prologue}
-use Rattle.oat_frames.specs.Frames.{Home, slot, register, home_of, frame_size}
 use Rattle.oat_frames.proofs.FrameLaws.{load-range, store-range}
-use Rattle.oat_locals.specs.Code.{operand_in, operand_load, operand_store, operation_code, binary_code, const_code, copy_code, input_code, output_code}
-use Rattle.oat_locals.proofs.LineLaws.{lines-are-in-range}
+use Rattle.oat_globals.specs.{AddImm, SubImm, SubsImm, Ldr, Str, Svc, IsInRange, Item, AreItemsInRange, IsLength, IsOperationNumber, AreElements, Program, BinOp, Add, Sub, Mul, And, Or, Xor, Shl, Shr}
+use Rattle.oat_globals.specs.{Sar, Eq, Ne, Lt, Le, Ltu, Leu, Div, Rem, Divu, Remu, IsHome, load_inst, store_inst, home_load, home_store, argument_loads, local_stores, depth_tested, behind_call}
+use Rattle.oat_globals.specs.{prologue, Home, slot, register, home_of, frame_size}
 use Rattle.oat_globals.proofs.GlobalLaws.{global_lines_are_in_range}
-use Rattle.oat_gen.specs.declared.globals.GlobalPlace.{GlobalPlace}
-use Rattle.oat_gen.specs.declared.globals.GlobalPlace.TheVariants.{Ordinary, Critical}
-use Rattle.oat_gen.specs.GlobalPlaces.{global_places}
-use Rattle.oat_gen.specs.Marked.{begin_mark, marked_start, marked_return, scalar_load, scalar_store, element_load, element_store}
+use Rattle.oat_locals.specs.{Mark, Code.operand_in, Code.operand_load, Code.operand_store, Code.operation_code, Code.binary_code, Code.const_code, Code.copy_code, Code.input_code, Code.output_code}
+use Rattle.oat_locals.proofs.LineLaws.{lines-are-in-range}
+use Rattle.oat_symbols.specs.{SymbolTable, is_set, is_met, begun_by, IsMarkOf, IsLoose, Programs.symbols_of}
+use Rattle.oat_gen.specs.{declared.globals.GlobalPlace.GlobalPlace, declared.globals.GlobalPlace.TheVariants.Ordinary, declared.globals.GlobalPlace.TheVariants.Critical, GlobalPlaces.global_places}
+use Rattle.oat_gen.specs.{Marked.begin_mark, Marked.marked_start, Marked.marked_return, Marked.scalar_load, Marked.scalar_store, Marked.element_load, Marked.element_store}
 use Rattle.oat_gen.proofs.Stretches.{Made, in_two, is_plain, are_plain, nothing, inst_then, plain_now, check_now, plain_then, check_then, mark_then, call_then}
+use Rattle.oat_asm.specs.declared.mark.Mark.TheVariants as mark
+use Rattle.oat_asm.specs.declared.item.Item.TheVariants as item
+use Rattle.oat_parts.specs.Parts as part
 
 -- ---- loads and stores of homes
 

@@ -1,11 +1,7 @@
 -- The loops: what is written and what the rest gives is all that is to be written.
 use Rattle.std.proofs.Common.{◌≡◌, ℕ, suc, ◌+◌, ◌-◌, ◌<◌, nat_lt, if◌then◌else◌, Bool, List, [], ◌∷◌, ◌++◌, sym, ap, ◌∙◌, arith, append_assoc}
-use Rattle.oat_a64.specs.declared.inst.Inst.TheVariants.{AddReg}
-use Rattle.oat_asm.specs.declared.item.Item.{Item}
+use Rattle.oat_globals.specs.{AddReg, Item, home_load, home_store, local_stores, Home, home_of, Code.number_code, Code.address_code, Code.index_test, Code.element_code}
 use Rattle.oat_asm.specs.declared.item.Item.TheVariants as item
-use Rattle.oat_frames.specs.Code.{home_load, home_store, local_stores}
-use Rattle.oat_frames.specs.Frames.{Home, home_of}
-use Rattle.oat_globals.specs.Code.{number_code, address_code, index_test, element_code}
 
 -- of what is left the first is written
 pub written : (out x rest whole left new : List Item) → out ++ left ≡ whole → left ≡ x ++ rest → new ≡ out ++ x → new ++ rest ≡ whole

@@ -1,10 +1,8 @@
 -- Where the globals lie, one behind the other.
 use Rattle.std.proofs.Common.{◌≡◌, ℕ, zero, suc, ◌+◌, List, [], ◌∷◌, take, ap, ap₂, ◌∙◌, Some, arith}
-use Rattle.std.specs.Prelude.{slice_get}
-use Rattle.std.specs.List.{sum_by}
+use Rattle.std.specs.{Prelude.slice_get, List.sum_by}
 use Rattle.std.proofs.lemmas.List.Sums.{sum_by-cons}
-use Rattle.oat_ir.specs.declared.program.GlobalItem.{GlobalItem}
-use Rattle.oat_check.specs.Globals.{size_in_words, size_in_cells}
+use Rattle.oat_globals.specs.{GlobalItem, size_in_words, size_in_cells}
 use Rattle.oat_gen.specs.GlobalPlaces.{placed, places_from, place_in, GlobalsHaveTheirPlaces}
 
 behind : (size : GlobalItem → ℕ) (x : GlobalItem) (xs : List GlobalItem) (g n : ℕ) → n + size x + sum_by size (take g xs) ≡ n + sum_by size (take (suc g) (x ∷ xs))

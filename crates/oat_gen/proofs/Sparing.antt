@@ -1,49 +1,26 @@
 -- The items of a leaf with at most eight locals spare the stack.
-use Rattle.std.proofs.Common.{◌≡◌, ◌+◌, ◌<◌, ◌≤◌, ◌&&◌, ◌||◌, ℕ, zero, suc, pos, Bool, true, false, not, cond, ltb, leb, eqb, List, [], ◌∷◌, ◌++◌, length, map, Option, Some, None, option_map, unwrap_or, refl, sym, ap, ◌∙◌, arith, append_assoc}
-use Rattle.std.specs.Prelude.{slice_get, Contains}
-use Rattle.std.specs.List.{list_all, list_any}
-use Rattle.std.proofs.lemmas.Bool.{lt-ltb, le-leb, le-ltb, leb-true, and_parts, false≢true}
-use Rattle.std.proofs.lemmas.Option.{slice_get_within}
-use Rattle.std.proofs.lemmas.List.Elements.{All-contains}
-use Rattle.std.proofs.lemmas.List.Folds.{list_any_at}
-use Rattle.oat_a64.specs.declared.inst.Inst.TheVariants.{AddImm, AddReg, Ldr, Str, Cbnz, Brk, Svc}
-use Rattle.oat_asm.specs.declared.item.Item.{Item}
+use Rattle.std.proofs.Common.{◌≡◌, ◌+◌, ◌<◌, ◌≤◌, ◌&&◌, ◌||◌, ℕ, zero, suc, pos, Bool, true, false, not, cond, ltb, leb, eqb, List, [], ◌∷◌, ◌++◌, length, map, Option, Some, None, option_map}
+use Rattle.std.proofs.Common.{unwrap_or, refl, sym, ap, ◌∙◌, arith, append_assoc}
+use Rattle.std.specs.{Prelude.slice_get, Prelude.Contains, List.list_all, List.list_any}
+use Rattle.std.proofs.lemmas.{Bool.lt-ltb, Bool.le-leb, Bool.le-ltb, Bool.leb-true, Bool.and_parts, Bool.false≢true, Option.slice_get_within, List.Elements.All-contains, List.Folds.list_any_at}
+use Rattle.oat_parts.proofs.Lists.{first_in, later_in}
+use Rattle.oat_ir.specs.declared.instr.Term.TheVariants.{Jump, Branch, Ret}
+use Rattle.oat_check.proofs.{Checking.func_formed, Frames.There, Frames.there}
+use Rattle.oat_globals.specs.{AddImm, AddReg, Ldr, Str, Cbnz, Brk, Svc, Item, Program, Func, BlockIr, BinOp, Add, Sub, Mul, And, Or, Xor, Shl, Shr, Sar, Eq, Ne, Lt, Le, Ltu, Leu, Div, Rem, Divu, Remu}
+use Rattle.oat_globals.specs.{Instr, Const, Copy, Binary, Load, Store, LoadX, StoreX, RefTo, Call, ICall, Input, Output, Term, Halt, HasLocal, IsInstr, IsTerm, IsBlockIr, IsFunc, instruction}
+use Rattle.oat_globals.specs.{terminator, is_calling, operation_number, Home, slot, register, home_of, frame_size, home_load, home_store, argument_loads, local_stores, depth_tested, behind_call}
+use Rattle.oat_globals.specs.{is_leaf, lines_code, Code.number_code, Code.address_code, Code.index_test}
+use Rattle.oat_locals.specs.Code.{operand_in, operand_load, operand_store, operation_code}
+use Rattle.oat_symbols.specs.{blocks_code, Programs.label_of_block, Programs.main_at}
+use Rattle.oat_symbols.proofs.Programs.{main_within}
+use Rattle.oat_gen.specs.{declared.globals.GlobalPlace.GlobalPlace, declared.globals.GlobalPlace.TheVariants.Ordinary, declared.globals.GlobalPlace.TheVariants.Critical, GlobalPlaces.global_places}
+use Rattle.oat_gen.specs.{GlobalPlaces.place_in, Marked.begin_mark, Marked.marked_start, Marked.marked_return, Marked.scalar_load, Marked.scalar_store, Marked.element_load, Marked.element_store}
+use Rattle.oat_gen.specs.{Code.instruction_code, Code.terminator_code, Code.line_code, Code.block_code, Code.program_items, Steps.function_items, Steps.others_items, Leaves.spares_stack}
+use Rattle.oat_gen.specs.{Leaves.is_function_label, Leaves.LeavesSpareStack, Leaves.ProgramsSpareStack}
+use Rattle.oat_gen.proofs.Laying.{laid_by}
 use Rattle.oat_asm.specs.declared.item.Item.TheVariants as item
 use Rattle.oat_asm.specs.declared.mark.Mark.TheVariants as mark
 use Rattle.oat_asm.specs.declared.note.Note.TheVariants as note
-use Rattle.oat_ir.specs.declared.program.Program.{Program}
-use Rattle.oat_ir.specs.declared.func.Func.{Func}
-use Rattle.oat_ir.specs.declared.func.BlockIr.{BlockIr}
-use Rattle.oat_ir.specs.declared.instr.BinOp.{BinOp}
-use Rattle.oat_ir.specs.declared.instr.BinOp.TheVariants.{Add, Sub, Mul, And, Or, Xor, Shl, Shr, Sar, Eq, Ne, Lt, Le, Ltu, Leu, Div, Rem, Divu, Remu}
-use Rattle.oat_ir.specs.declared.instr.Instr.{Instr}
-use Rattle.oat_ir.specs.declared.instr.Instr.TheVariants.{Const, Copy, Binary, Load, Store, LoadX, StoreX, RefTo, Call, ICall, Input, Output}
-use Rattle.oat_ir.specs.declared.instr.Term.{Term}
-use Rattle.oat_ir.specs.declared.instr.Term.TheVariants.{Jump, Branch, Ret, Halt}
-use Rattle.oat_ir.specs.Indices.{HasLocal, IsInstr, IsTerm}
-use Rattle.oat_ir.specs.WellFormed.{IsBlockIr, IsFunc}
-use Rattle.oat_check.specs.Lines.{instruction, terminator, is_calling}
-use Rattle.oat_check.specs.Steps.{operation_number}
-use Rattle.oat_check.proofs.Checking.{func_formed}
-use Rattle.oat_check.proofs.Frames.{There, there}
-use Rattle.oat_parts.specs.Making.{blocks_code}
-use Rattle.oat_parts.proofs.Lists.{first_in, later_in}
-use Rattle.oat_symbols.specs.Programs.{label_of_block, main_at}
-use Rattle.oat_symbols.proofs.Programs.{main_within}
-use Rattle.oat_frames.specs.Frames.{Home, slot, register, home_of, frame_size}
-use Rattle.oat_frames.specs.Code.{home_load, home_store, argument_loads, local_stores, depth_tested, behind_call}
-use Rattle.oat_frames.specs.Leaves.{is_leaf}
-use Rattle.oat_frames.specs.Lines.{lines_code}
-use Rattle.oat_locals.specs.Code.{operand_in, operand_load, operand_store, operation_code}
-use Rattle.oat_globals.specs.Code.{number_code, address_code, index_test}
-use Rattle.oat_gen.specs.declared.globals.GlobalPlace.{GlobalPlace}
-use Rattle.oat_gen.specs.declared.globals.GlobalPlace.TheVariants.{Ordinary, Critical}
-use Rattle.oat_gen.specs.GlobalPlaces.{global_places, place_in}
-use Rattle.oat_gen.specs.Marked.{begin_mark, marked_start, marked_return, scalar_load, scalar_store, element_load, element_store}
-use Rattle.oat_gen.specs.Code.{instruction_code, terminator_code, line_code, block_code, program_items}
-use Rattle.oat_gen.specs.Steps.{function_items, others_items}
-use Rattle.oat_gen.specs.Leaves.{spares_stack, is_function_label, LeavesSpareStack, ProgramsSpareStack}
-use Rattle.oat_gen.proofs.Laying.{laid_by}
 
 -- ---- along the items: whether the function that they are of is such a leaf
 

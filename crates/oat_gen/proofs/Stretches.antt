@@ -2,21 +2,13 @@
 use Rattle.std.proofs.Common.{◌≡◌, ℕ, ◌^◌, ◌<◌, ◌≤◌, Bool, true, false, not, ◌&&◌, ◌||◌, List, [], ◌∷◌, ◌++◌, map, refl, sym, ap, ◌∙◌, subst}
 use Rattle.std.specs.Prelude.{Contains}
 use Rattle.std.proofs.lemmas.Bool.{and_parts, false≢true}
-use Rattle.oat_a64.specs.declared.inst.Inst.{Inst}
-use Rattle.oat_a64.specs.declared.inst.Inst.TheVariants.{Brk}
-use Rattle.oat_a64.specs.Kinds.{is_transfer, is_measured}
-use Rattle.oat_a64.specs.Table.{IsInRange}
-use Rattle.oat_asm.specs.declared.mark.Mark.{Mark}
+use Rattle.oat_parts.proofs.{Lists.first_in, Lists.later_in, Making.join}
+use Rattle.oat_globals.specs.{Brk, is_transfer, is_measured, IsInRange, Item, AreItemsInRange, lines_code}
+use Rattle.oat_locals.specs.{Inst, Mark}
+use Rattle.oat_symbols.specs.{SymbolTable, IsFunctionLabel, CheckTest, is_set, is_met, skip, CodePart, simple, reference, check, waits, ArePaced, begun_by, IsMarkOf, IsLoose, IsMadeOfParts}
 use Rattle.oat_asm.specs.declared.note.Note.TheVariants as note
-use Rattle.oat_asm.specs.declared.item.Item.{Item}
 use Rattle.oat_asm.specs.declared.item.Item.TheVariants as item
-use Rattle.oat_asm.specs.Ranges.{AreItemsInRange}
-use Rattle.oat_parts.specs.Symbols.{SymbolTable, IsFunctionLabel}
-use Rattle.oat_parts.specs.Parts.{CheckTest, is_set, is_met, skip, CodePart, simple, reference, check, waits, ArePaced, begun_by, IsMarkOf, IsLoose, IsMadeOfParts}
 use Rattle.oat_parts.specs.Parts as part
-use Rattle.oat_parts.proofs.Lists.{first_in, later_in}
-use Rattle.oat_parts.proofs.Making.{join}
-use Rattle.oat_frames.specs.Lines.{lines_code}
 
 -- ---- items that are parts by themselves
 

@@ -1,52 +1,27 @@
 -- How many words the code of a program needs: at most 15 for a line and 259 for a function's start.
 use Rattle.std.proofs.Common.{◌≡◌, ℕ, Bool, suc, ◌+◌, ◌*◌, ◌<◌, ◌≤◌, List, [], ◌∷◌, ◌++◌, length, map, take, drop, refl, ap, ◌∙◌, Option, Some, None, arith}
-use Rattle.std.specs.Prelude.{Contains}
-use Rattle.std.specs.List.{sum_by}
-use Rattle.std.proofs.lemmas.List.Elements.{All-contains}
-use Rattle.std.proofs.lemmas.List.Sums.{sum_by-cons}
-use Rattle.oat_a64.specs.declared.inst.Inst.TheVariants.{Svc, Blr}
-use Rattle.oat_asm.specs.declared.branch_form.BranchForm.TheVariants.{Bl}
-use Rattle.oat_asm.specs.declared.note.Note.TheVariants as note
-use Rattle.oat_asm.specs.declared.item.Item.{Item}
-use Rattle.oat_asm.specs.declared.item.Item.TheVariants as item
-use Rattle.oat_asm.specs.Items.{words_needed}
-use Rattle.oat_asm.specs.Expansion.{expansion}
+use Rattle.std.specs.{Prelude.Contains, List.sum_by}
+use Rattle.std.proofs.lemmas.{List.Elements.All-contains, List.Sums.sum_by-cons}
 use Rattle.oat_asm.proofs.StandingItems.{words_of_two}
-use Rattle.oat_ir.specs.declared.program.Program.{Program}
-use Rattle.oat_ir.specs.declared.func.Func.{Func}
-use Rattle.oat_ir.specs.declared.func.BlockIr.{BlockIr}
-use Rattle.oat_ir.specs.declared.instr.Instr.{Instr}
-use Rattle.oat_ir.specs.declared.instr.Instr.TheVariants.{Const, Copy, Binary, Load, Store, LoadX, StoreX, RefTo, Call, ICall, Input, Output}
-use Rattle.oat_ir.specs.declared.instr.Term.{Term}
-use Rattle.oat_ir.specs.declared.instr.Term.TheVariants.{Jump, Branch, Ret, Halt}
-use Rattle.oat_ir.specs.Indices.{IsInstr}
-use Rattle.oat_ir.specs.WellFormed.{IsBlockIr, IsFunc}
-use Rattle.oat_check.specs.Lines.{CodeLine, instruction, terminator}
-use Rattle.oat_check.specs.Steps.{operation_number}
+use Rattle.oat_parts.proofs.{Lists.first_in, Lists.later_in, Lists.in_get, Making.words_add, Making.codes_have}
+use Rattle.oat_ir.specs.declared.instr.Term.TheVariants.{Jump, Branch, Ret}
 use Rattle.oat_check.proofs.Checking.{func_formed}
-use Rattle.oat_parts.specs.Making.{FunctionCode, words_become, blocks_words, codes_words}
-use Rattle.oat_parts.proofs.Lists.{first_in, later_in, in_get}
-use Rattle.oat_parts.proofs.Making.{words_add, codes_have}
-use Rattle.oat_symbols.specs.Programs.{symbols_of, with_first, main_at, label_of_block}
-use Rattle.oat_symbols.specs.Codes.{codes_from, codes_of, CodesAreOfTheProgram}
-use Rattle.oat_symbols.proofs.Programs.{split_at, main_within}
-use Rattle.oat_frames.specs.Code.{argument_loads, depth_tested, behind_call}
-use Rattle.oat_frames.specs.Frames.{Home, slot, home_of}
-use Rattle.oat_frames.specs.Leaves.{is_leaf}
-use Rattle.oat_frames.specs.Lines.{lines_code}
+use Rattle.oat_globals.specs.{Svc, Blr, Bl, Item, words_needed, expansion, Program, Func, BlockIr, Instr, Const, Copy, Binary, Load, Store, LoadX, StoreX, RefTo, Call, ICall, Input, Output, Term}
+use Rattle.oat_globals.specs.{Halt, IsInstr, IsBlockIr, IsFunc, CodeLine, instruction, terminator, operation_number, argument_loads, depth_tested, behind_call, Home, slot, home_of, is_leaf}
+use Rattle.oat_globals.specs.{lines_code, Operations.role_words}
+use Rattle.oat_globals.proofs.GlobalLaws.{words_of_global_lines}
 use Rattle.oat_locals.specs.Code.{binary_code}
 use Rattle.oat_locals.proofs.LineLaws.{words-of-lines}
-use Rattle.oat_globals.specs.Operations.{role_words}
-use Rattle.oat_globals.proofs.GlobalLaws.{words_of_global_lines}
-use Rattle.oat_gen.specs.declared.globals.GlobalPlace.{GlobalPlace}
-use Rattle.oat_gen.specs.declared.globals.GlobalPlace.TheVariants.{Ordinary, Critical}
-use Rattle.oat_gen.specs.GlobalPlaces.{global_places, place_in}
-use Rattle.oat_gen.specs.Marked.{marked_start, marked_return, marked_call, marked_icall, scalar_load, scalar_store, element_load, element_store}
-use Rattle.oat_gen.specs.Code.{instruction_code, terminator_code, line_code, block_code, function_code}
-use Rattle.oat_gen.specs.Laws.{FunctionsHaveTheirCode, ProgramsHaveFewWords}
-use Rattle.oat_gen.proofs.Bounds.{few_locals}
-use Rattle.oat_gen.proofs.Building.{are_codes}
-use Rattle.oat_gen.proofs.Expanding.{marked_code_expands, other_code_stays}
+use Rattle.oat_symbols.specs.{FunctionCode, words_become, blocks_words, codes_words, Programs.symbols_of, Programs.with_first, Programs.main_at, Programs.label_of_block, Codes.codes_from}
+use Rattle.oat_symbols.specs.{Codes.codes_of, Codes.CodesAreOfTheProgram}
+use Rattle.oat_symbols.proofs.Programs.{split_at, main_within}
+use Rattle.oat_gen.specs.{declared.globals.GlobalPlace.GlobalPlace, declared.globals.GlobalPlace.TheVariants.Ordinary, declared.globals.GlobalPlace.TheVariants.Critical, GlobalPlaces.global_places}
+use Rattle.oat_gen.specs.{GlobalPlaces.place_in, Marked.marked_start, Marked.marked_return, Marked.marked_call, Marked.marked_icall, Marked.scalar_load, Marked.scalar_store, Marked.element_load}
+use Rattle.oat_gen.specs.{Marked.element_store, Code.instruction_code, Code.terminator_code, Code.line_code, Code.block_code, Code.function_code, Laws.FunctionsHaveTheirCode}
+use Rattle.oat_gen.specs.{Laws.ProgramsHaveFewWords}
+use Rattle.oat_gen.proofs.{Bounds.few_locals, Building.are_codes, Expanding.marked_code_expands, Expanding.other_code_stays}
+use Rattle.oat_asm.specs.declared.note.Note.TheVariants as note
+use Rattle.oat_asm.specs.declared.item.Item.TheVariants as item
 
 -- the words of code whose expansion is known
 sized : (is js : List Item) (n : ℕ) → expansion is ≡ js → words_needed js ≡ n → words_become is ≡ n

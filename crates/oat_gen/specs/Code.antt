@@ -1,27 +1,12 @@
 -- The code of a program, line by line, with a mark for each row: by where the globals lie and by the label of the function's first block, behind which the others are numbered. Function f has label f. `main` is laid out first, and all other functions in their order.
 use Rattle.std.specs.Prelude.{◌+◌, ℕ, Bool, List, [], ◌∷◌, ◌++◌, length, map}
-use Rattle.oat_asm.specs.declared.item.Item.{Item}
-use Rattle.oat_asm.specs.Expansion.{expansion}
-use Rattle.oat_ir.specs.declared.program.Program.{Program}
-use Rattle.oat_ir.specs.declared.func.Func.{Func}
-use Rattle.oat_ir.specs.declared.func.BlockIr.{BlockIr}
-use Rattle.oat_ir.specs.declared.instr.Instr.{Instr}
-use Rattle.oat_ir.specs.declared.instr.Instr.TheVariants.{Const, Copy, Binary, Load, Store, LoadX, StoreX, RefTo, Call, ICall, Input, Output}
-use Rattle.oat_ir.specs.declared.instr.Term.{Term}
-use Rattle.oat_ir.specs.declared.instr.Term.TheVariants.{Jump, Branch, Ret, Halt}
-use Rattle.oat_check.specs.Lines.{CodeLine, instruction, terminator}
-use Rattle.oat_check.specs.Steps.{operation_number}
-use Rattle.oat_parts.specs.Making.{FunctionCode}
-use Rattle.oat_symbols.specs.Programs.{label_of_block}
-use Rattle.oat_symbols.specs.Codes.{codes_of, items_for}
-use Rattle.oat_frames.specs.Frames.{home_of}
-use Rattle.oat_frames.specs.Leaves.{is_leaf}
-use Rattle.oat_frames.specs.Lines.{lines_code}
+use Rattle.oat_ir.specs.declared.instr.Term.TheVariants.{Jump, Branch, Ret}
+use Rattle.oat_globals.specs.{Item, expansion, Program, Func, BlockIr, Instr, Const, Copy, Binary, Load, Store, LoadX, StoreX, RefTo, Call, ICall, Input, Output, Term, Halt, CodeLine, instruction}
+use Rattle.oat_globals.specs.{terminator, operation_number, home_of, is_leaf, lines_code, Code.ref_code}
 use Rattle.oat_locals.specs.Code.{binary_code, const_code, copy_code, input_code, output_code, halt_code}
-use Rattle.oat_globals.specs.Code.{ref_code}
-use Rattle.oat_gen.specs.declared.globals.GlobalPlace.{GlobalPlace}
-use Rattle.oat_gen.specs.GlobalPlaces.{global_places, place_in}
-use Rattle.oat_gen.specs.Marked.{marked_start, marked_return, marked_call, marked_icall, marked_jump, marked_branch, scalar_load, scalar_store, element_load, element_store}
+use Rattle.oat_symbols.specs.{FunctionCode, Programs.label_of_block, Codes.codes_of, Codes.items_for}
+use Rattle.oat_gen.specs.{declared.globals.GlobalPlace.GlobalPlace, GlobalPlaces.global_places, GlobalPlaces.place_in, Marked.marked_start, Marked.marked_return, Marked.marked_call}
+use Rattle.oat_gen.specs.{Marked.marked_icall, Marked.marked_jump, Marked.marked_branch, Marked.scalar_load, Marked.scalar_store, Marked.element_load, Marked.element_store}
 
 -- ---- lines
 

@@ -1,12 +1,7 @@
 -- Where the globals of a program lie: their words and cells are numbered in the order of declaration (docs/FORMATS.md, "Program text").
-use Rattle.std.specs.Prelude.{◌≡◌, ◌+◌, ℕ, if◌then◌else◌, List, [], ◌∷◌, take, slice_get, get_or, Some}
-use Rattle.std.specs.List.{sum_by}
-use Rattle.oat_ir.specs.declared.program.Program.{Program}
-use Rattle.oat_ir.specs.declared.program.GlobalItem.{GlobalItem}
-use Rattle.oat_ir.specs.declared.program.GlobalItem.TheVariants.{Scalar, FnScalar, Array, CriticalArray}
-use Rattle.oat_check.specs.Globals.{size_in_words, size_in_cells}
-use Rattle.oat_gen.specs.declared.globals.GlobalPlace.{GlobalPlace}
-use Rattle.oat_gen.specs.declared.globals.GlobalPlace.TheVariants.{Ordinary, Critical}
+use Rattle.std.specs.{Prelude.◌≡◌, Prelude.◌+◌, Prelude.ℕ, Prelude.if◌then◌else◌, Prelude.List, Prelude.[], Prelude.◌∷◌, Prelude.take, Prelude.slice_get, Prelude.get_or, Prelude.Some, List.sum_by}
+use Rattle.oat_globals.specs.{Program, GlobalItem, Scalar, FnScalar, Array, CriticalArray, size_in_words, size_in_cells}
+use Rattle.oat_gen.specs.{declared.globals.GlobalPlace.GlobalPlace, declared.globals.GlobalPlace.TheVariants.Ordinary, declared.globals.GlobalPlace.TheVariants.Critical}
 
 -- a global whose first word has this number, and whose first cell, if it is critical, has that one
 abbrev pub placed : GlobalItem → (word cell : ℕ) → GlobalPlace

@@ -1,27 +1,13 @@
 -- What holds of the code of each program: what its expansion is, that an image is built of it, and how many words it needs.
 use Rattle.std.specs.Prelude.{◌≡◌, ◌≤◌, ◌+◌, ℕ, ℤ, Bool, List, length, slice_get, Option, Some}
-use Rattle.oat_asm.specs.Items.{words_needed, code_limit}
-use Rattle.oat_asm.specs.Expansion.{expansion}
-use Rattle.oat_ir.specs.declared.program.Program.{Program}
-use Rattle.oat_ir.specs.declared.func.Func.{Func}
-use Rattle.oat_ir.specs.declared.func.BlockIr.{BlockIr}
-use Rattle.oat_ir.specs.declared.instr.BinOp.{BinOp}
-use Rattle.oat_ir.specs.Size.{most_words}
-use Rattle.oat_check.specs.Lines.{CodeLine, line_in}
-use Rattle.oat_check.specs.Rules.{IsChecked}
-use Rattle.oat_parts.specs.Built.{CanBeExpanded}
-use Rattle.oat_symbols.specs.Programs.{symbols_of, HasValidNames}
-use Rattle.oat_symbols.specs.Codes.{IsCodeOf, IsBuiltWhole}
-use Rattle.oat_frames.specs.Code.{call_code, icall_code}
-use Rattle.oat_frames.specs.Frames.{Home}
-use Rattle.oat_frames.specs.Lines.{lines_code}
+use Rattle.oat_globals.specs.{words_needed, code_limit, expansion, Program, Func, BlockIr, BinOp, most_words, CodeLine, line_in, IsChecked, call_code, icall_code, Home, lines_code, Code.load_code}
+use Rattle.oat_globals.specs.{Code.store_code, Code.ref_code, Code.loadx_code, Code.storex_code, Code.use_code, Code.define_code, Code.use_at_code, Code.define_at_code, Operations.start_code}
+use Rattle.oat_globals.specs.{Operations.leave_code}
 use Rattle.oat_locals.specs.Code.{binary_code, const_code, copy_code, input_code, output_code, jump_code, branch_code, halt_code}
-use Rattle.oat_globals.specs.Code.{load_code, store_code, ref_code, loadx_code, storex_code, use_code, define_code, use_at_code, define_at_code}
-use Rattle.oat_globals.specs.Operations.{start_code, leave_code}
-use Rattle.oat_gen.specs.declared.globals.GlobalPlace.{GlobalPlace}
-use Rattle.oat_gen.specs.declared.globals.GlobalPlace.TheVariants.{Critical}
-use Rattle.oat_gen.specs.Marked.{marked_start, marked_return, marked_call, marked_icall, marked_jump, marked_branch, scalar_load, scalar_store, element_load, element_store}
-use Rattle.oat_gen.specs.Code.{line_code, block_code, function_code, program_items, expanded_lines}
+use Rattle.oat_symbols.specs.{CanBeExpanded, Programs.symbols_of, Programs.HasValidNames, Codes.IsCodeOf, Codes.IsBuiltWhole}
+use Rattle.oat_gen.specs.{declared.globals.GlobalPlace.GlobalPlace, declared.globals.GlobalPlace.TheVariants.Critical, Marked.marked_start, Marked.marked_return, Marked.marked_call}
+use Rattle.oat_gen.specs.{Marked.marked_icall, Marked.marked_jump, Marked.marked_branch, Marked.scalar_load, Marked.scalar_store, Marked.element_load, Marked.element_store, Code.line_code}
+use Rattle.oat_gen.specs.{Code.block_code, Code.function_code, Code.program_items, Code.expanded_lines}
 
 -- ---- the expansion, line by line
 

@@ -1,14 +1,9 @@
 -- A leaf with few locals has them in registers: its items leave the stack alone, but for its frame and X30.
-use Rattle.std.specs.Prelude.{◌≡◌, ◌≤◌, ◌||◌, ℕ, Bool, true, false, not, nat_eq, nat_lt, List, ◌∷◌, ◌++◌, length, slice_get, Some}
-use Rattle.std.specs.List.{list_all, list_any}
-use Rattle.oat_a64.specs.declared.inst.Inst.TheVariants.{AddImm, SubImm, SubsImm, Ldr, Str, LdrReg, StrReg}
-use Rattle.oat_asm.specs.declared.item.Item.{Item}
-use Rattle.oat_asm.specs.declared.item.Item.TheVariants as item
-use Rattle.oat_ir.specs.declared.program.Program.{Program}
-use Rattle.oat_ir.specs.declared.func.Func.{Func}
-use Rattle.oat_check.specs.Rules.{IsChecked}
-use Rattle.oat_frames.specs.Leaves.{is_leaf}
+use Rattle.std.specs.{Prelude.◌≡◌, Prelude.◌≤◌, Prelude.◌||◌, Prelude.ℕ, Prelude.Bool, Prelude.true, Prelude.false, Prelude.not, Prelude.nat_eq, Prelude.nat_lt, Prelude.List, Prelude.◌∷◌}
+use Rattle.std.specs.{Prelude.◌++◌, Prelude.length, Prelude.slice_get, Prelude.Some, List.list_all, List.list_any}
+use Rattle.oat_globals.specs.{AddImm, SubImm, SubsImm, Ldr, Str, LdrReg, StrReg, Item, Program, Func, IsChecked, is_leaf}
 use Rattle.oat_gen.specs.Code.{program_items}
+use Rattle.oat_asm.specs.declared.item.Item.TheVariants as item
 
 -- a load or store off SP is that of X30, and a sum or difference of SP goes into SP
 abbrev pub spares_stack : Item → Bool

@@ -1,15 +1,11 @@
 -- Code whose rows are still to be written: a mark stands where the note of its row and the row's group will stand. All else is the code of calls, of lines on locals, and of lines on global data.
 use Rattle.std.specs.Prelude.{◌+◌, ℕ, Bool, pos, List, [], ◌∷◌, ◌++◌, length, Option, Some, None}
-use Rattle.oat_a64.specs.declared.inst.Inst.TheVariants.{AddImm, Ldr, Cbnz, Brk}
-use Rattle.oat_asm.specs.declared.item.Item.{Item}
+use Rattle.oat_globals.specs.{AddImm, Ldr, Cbnz, Brk, Item, home_load, home_store, depth_tested, behind_call, prologue, Home, slot, frame_size, Code.load_code, Code.store_code, Code.loadx_code}
+use Rattle.oat_globals.specs.{Code.storex_code}
+use Rattle.oat_gen.specs.{declared.globals.GlobalPlace.GlobalPlace, declared.globals.GlobalPlace.TheVariants.Ordinary, declared.globals.GlobalPlace.TheVariants.Critical}
 use Rattle.oat_asm.specs.declared.item.Item.TheVariants as item
 use Rattle.oat_asm.specs.declared.mark.Mark.TheVariants as mark
 use Rattle.oat_asm.specs.declared.note.Note.TheVariants as note
-use Rattle.oat_frames.specs.Code.{home_load, home_store, depth_tested, behind_call, prologue}
-use Rattle.oat_frames.specs.Frames.{Home, slot, frame_size}
-use Rattle.oat_globals.specs.Code.{load_code, store_code, loadx_code, storex_code}
-use Rattle.oat_gen.specs.declared.globals.GlobalPlace.{GlobalPlace}
-use Rattle.oat_gen.specs.declared.globals.GlobalPlace.TheVariants.{Ordinary, Critical}
 
 -- ---- functions: an operation begins behind its prologue, and ends before its return
 

@@ -1,22 +1,11 @@
 -- What the steps of the generator need of what they are given: locals that have slots, globals that have places, and labels that are numbers of 32 bits.
-use Rattle.std.specs.Prelude.{◌≡◌, ◌+◌, ◌<◌, ◌≤◌, ℕ, nat_eq, if◌then◌else◌, List, [], ◌∷◌, ◌++◌, length, map, All}
-use Rattle.std.specs.List.{flat_map}
-use Rattle.oat_asm.specs.declared.item.Item.{Item}
+use Rattle.std.specs.{Prelude.◌≡◌, Prelude.◌+◌, Prelude.◌<◌, Prelude.◌≤◌, Prelude.ℕ, Prelude.nat_eq, Prelude.if◌then◌else◌, Prelude.List, Prelude.[], Prelude.◌∷◌, Prelude.◌++◌, Prelude.length}
+use Rattle.std.specs.{Prelude.map, Prelude.All, List.flat_map}
+use Rattle.oat_globals.specs.{Item, Program, Func, BlockIr, Instr, IsInstr, IsBlockIr, IsFunc, operation_number, is_leaf}
+use Rattle.oat_symbols.specs.{blocks_code, Programs.block_names}
+use Rattle.oat_gen.specs.{declared.globals.GlobalPlace.GlobalPlace, declared.globals.GlobalPlace.TheVariants.Ordinary, declared.globals.GlobalPlace.TheVariants.Critical, Marked.marked_start}
+use Rattle.oat_gen.specs.{Code.block_code}
 use Rattle.oat_asm.specs.declared.item.Item.TheVariants as item
-use Rattle.oat_ir.specs.declared.program.Program.{Program}
-use Rattle.oat_ir.specs.declared.func.Func.{Func}
-use Rattle.oat_ir.specs.declared.func.BlockIr.{BlockIr}
-use Rattle.oat_ir.specs.declared.instr.Instr.{Instr}
-use Rattle.oat_ir.specs.Indices.{IsInstr}
-use Rattle.oat_ir.specs.WellFormed.{IsBlockIr, IsFunc}
-use Rattle.oat_check.specs.Steps.{operation_number}
-use Rattle.oat_frames.specs.Leaves.{is_leaf}
-use Rattle.oat_parts.specs.Making.{blocks_code}
-use Rattle.oat_symbols.specs.Programs.{block_names}
-use Rattle.oat_gen.specs.declared.globals.GlobalPlace.{GlobalPlace}
-use Rattle.oat_gen.specs.declared.globals.GlobalPlace.TheVariants.{Ordinary, Critical}
-use Rattle.oat_gen.specs.Marked.{marked_start}
-use Rattle.oat_gen.specs.Code.{block_code}
 
 -- a global's first word is one of the first 65,536, or none is left for an empty one
 abbrev pub HasLowWord : GlobalPlace → Type 0

@@ -1,11 +1,7 @@
 -- The code of a worked program: an operation that does nothing, and `main` that calls it.
 use Rattle.std.specs.Prelude.{◌≡◌, pos, List, [], ◌∷◌}
-use Rattle.oat_a64.specs.declared.inst.Inst.TheVariants.{AddImm, SubImm, SubsImm, Ldr, Str, OrrReg, BCond, Brk, Svc}
-use Rattle.oat_asm.specs.declared.mark.Mark.TheVariants.{Call, Ret, Begin, End}
-use Rattle.oat_asm.specs.declared.note.Note.TheVariants.{Check}
-use Rattle.oat_asm.specs.declared.item.Item.{Item}
-use Rattle.oat_asm.specs.declared.item.Item.TheVariants.{Inst, Label, Mark, Note}
-use Rattle.oat_ir.specs.WorkedPrograms.{idle_program}
+use Rattle.oat_globals.specs.{AddImm, SubImm, SubsImm, Ldr, Str, OrrReg, BCond, Brk, Svc, Ret, Begin, End, Check, Item, Inst, Label, Mark, Note, idle_program}
+use Rattle.oat_locals.specs.{Call}
 use Rattle.oat_gen.specs.Code.{program_items}
 
 -- main, with labels 1 and 3, and the operation, a leaf, with labels 0 and 2

@@ -2,15 +2,14 @@
 //! cell, X11 an address, and X12 the number of an element.
 
 ghost use Rattle.std.specs.Prelude.{◌≡◌, ◌++◌, ◌<◌, ◌≤◌, OnOk};
-ghost use Rattle.oat_frames.specs.Frames.{home_of};
+ghost use Rattle.oat_globals.specs.{home_of};
 ghost use Rattle.oat_globals.specs.Code.{address_code, element_code, index_test, ref_code};
 ghost use Rattle.oat_gen.specs.Marked.{element_load, element_store, scalar_load, scalar_store};
 ghost use Rattle.oat_gen.specs.Steps.{HasLowWord};
 
 use crate::globals::GlobalPlace;
 use crate::items::{from_home, into_home, push_all, push_check, push_inst, push_number};
-use oat_a64::Inst;
-use oat_asm::{Item, Mark};
+use oat_asm::{Inst, Item, Mark};
 use oat_mem::GLOBAL_BASE;
 use std::alloc::AllocError;
 

@@ -2,14 +2,13 @@
 //! a leaf the registers of the locals are used as they are.
 
 ghost use Rattle.std.specs.Prelude.{◌≡◌, [], ◌∷◌, ◌++◌, ◌<◌, OnOk};
-ghost use Rattle.oat_a64.specs.declared.inst.Inst.TheVariants as inst;
+ghost use Rattle.oat_globals.specs.{home_of};
+ghost use Rattle.oat_globals.specs.inst as inst;
 ghost use Rattle.oat_asm.specs.declared.item.Item.TheVariants as item;
-ghost use Rattle.oat_frames.specs.Frames.{home_of};
 ghost use Rattle.oat_locals.specs.Code.{binary_code, operation_code, compared_by, divisor_tested, one_inst};
 
 use crate::items::{operand_in, push_all, push_check, push_inst, push_operand, push_result};
-use oat_a64::Inst;
-use oat_asm::Item;
+use oat_asm::{Inst, Item};
 use oat_ir::BinOp;
 use std::alloc::AllocError;
 

@@ -1,8 +1,8 @@
 //! The code of blocks and functions, each behind its label.
 
 ghost use Rattle.std.specs.Prelude.{◌≡◌, [], ◌∷◌, ◌++◌, ◌+◌, ◌^◌, ◌<◌, ◌≤◌, length, map, OnOk};
-ghost use Rattle.oat_parts.specs.Making.{blocks_code};
-ghost use Rattle.oat_frames.specs.Leaves.{is_leaf};
+ghost use Rattle.oat_symbols.specs.{blocks_code};
+ghost use Rattle.oat_globals.specs.{is_leaf};
 ghost use Rattle.oat_gen.specs.Code.{block_code};
 ghost use Rattle.oat_gen.specs.Steps.{function_items, IsBlockAmong, IsFuncAmong};
 

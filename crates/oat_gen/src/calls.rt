@@ -1,15 +1,14 @@
 //! Calls: 256 callers trap, and so does null.
 
 ghost use Rattle.std.specs.Prelude.{◌≡◌, [], ◌∷◌, ◌++◌, ◌<◌, ◌≤◌, length, pos, All, OnOk};
-ghost use Rattle.oat_a64.specs.declared.inst.Inst.TheVariants as inst;
+ghost use Rattle.oat_globals.specs.{argument_loads, behind_call, depth_tested};
+ghost use Rattle.oat_globals.specs.inst as inst;
 ghost use Rattle.oat_asm.specs.declared.item.Item.TheVariants as item;
-ghost use Rattle.oat_frames.specs.Code.{argument_loads, behind_call, depth_tested};
 ghost use Rattle.oat_gen.specs.Marked.{marked_call, marked_icall};
 ghost use Rattle.oat_gen.specs.Steps.{AreInSlots};
 
 use crate::items::{from_slot, into_slot, push_all, push_check, push_inst};
-use oat_a64::Inst;
-use oat_asm::{Item, Mark};
+use oat_asm::{Inst, Item, Mark};
 use std::alloc::AllocError;
 
 pub(crate) fn push_call(

@@ -1,14 +1,11 @@
 //! The start of a function and its return. Slot 0 of a frame has the return address.
 
 ghost use Rattle.std.specs.Prelude.{◌≡◌, [], ◌∷◌, ◌++◌, ◌+◌, ◌<◌, ◌≤◌, nat_lt, if◌then◌else◌, OnOk};
-ghost use Rattle.oat_check.specs.Steps.{operation_number};
-ghost use Rattle.oat_frames.specs.Code.{local_stores};
-ghost use Rattle.oat_frames.specs.Frames.{frame_size, home_of};
+ghost use Rattle.oat_globals.specs.{operation_number, local_stores, frame_size, home_of};
 ghost use Rattle.oat_gen.specs.Marked.{begin_mark, end_mark, marked_return, marked_start};
 
 use crate::items::{from_home, into_home, push_all};
-use oat_a64::Inst;
-use oat_asm::{Item, Mark};
+use oat_asm::{Inst, Item, Mark};
 use oat_ir::Role;
 use std::alloc::AllocError;
 

@@ -2,14 +2,11 @@
 
 ghost use Rattle.std.specs.Prelude.{◌≡◌, [], ◌++◌, ◌+◌, ◌*◌, ◌≤◌, ◌<◌, IfOk, OnOk, length, nat_eq, if◌then◌else◌, ◌^◌};
 ghost use Rattle.std.specs.List.{position};
-ghost use Rattle.oat_asm.specs.Items.{words_needed};
-ghost use Rattle.oat_asm.specs.Expansion.{expansion};
-ghost use Rattle.oat_check.specs.Rules.{is_main, IsChecked};
+ghost use Rattle.oat_globals.specs.{words_needed, expansion, is_main, IsChecked, most_words};
 ghost use Rattle.oat_symbols.specs.Programs.{label_of_block, main_at};
 ghost use Rattle.oat_gen.specs.GlobalPlaces.{global_places};
 ghost use Rattle.oat_gen.specs.Code.{program_items};
 ghost use Rattle.oat_gen.specs.Leaves.{LeavesSpareStack};
-ghost use Rattle.oat_ir.specs.Size.{most_words};
 ghost use Rattle.oat_gen.specs.Steps.{IsFuncAmong, function_items, others_items};
 
 use crate::blocks::push_function;

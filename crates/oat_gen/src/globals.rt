@@ -2,8 +2,7 @@
 
 ghost use Rattle.std.specs.Prelude.{◌≡◌, ◌+◌, ◌≤◌, All, IfOk};
 ghost use Rattle.std.specs.List.{sum_by};
-ghost use Rattle.oat_ir.specs.WellFormed.{IsGlobal};
-ghost use Rattle.oat_check.specs.Globals.{size_in_cells, size_in_words};
+ghost use Rattle.oat_globals.specs.{IsGlobal, size_in_cells, size_in_words};
 ghost use Rattle.oat_gen.specs.GlobalPlaces.{global_places, placed};
 
 use oat_ir::{GlobalItem, Program};

@@ -1,17 +1,14 @@
 //! Items that lines share. X31 is the stack pointer where an address is wanted, and zero elsewhere.
 
 ghost use Rattle.std.specs.Prelude.{◌≡◌, ◌+◌, ◌&&◌, nat_lt, pos, [], ◌∷◌, ◌++◌, ◌^◌, ◌<◌, ◌≤◌, OnOk, map};
-ghost use Rattle.oat_a64.specs.declared.inst.Inst.TheVariants as inst;
+ghost use Rattle.oat_globals.specs.{puts, home_of, slot, home_load, home_store};
+ghost use Rattle.oat_globals.specs.inst as inst;
 ghost use Rattle.oat_asm.specs.declared.item.Item.TheVariants as item;
 ghost use Rattle.oat_asm.specs.declared.note.Note.TheVariants as note;
-ghost use Rattle.oat_asm.specs.Layout.{puts};
-ghost use Rattle.oat_frames.specs.Frames.{home_of, slot};
-ghost use Rattle.oat_frames.specs.Code.{home_load, home_store};
 ghost use Rattle.oat_globals.specs.Code.{number_code};
 ghost use Rattle.oat_locals.specs.Code.{operand_in, operand_load, operand_store};
 
-use oat_a64::Inst;
-use oat_asm::{Item, Note, puts};
+use oat_asm::{Inst, Item, Note, puts};
 use std::alloc::AllocError;
 
 /// All of these items, behind the others.

@@ -2,8 +2,7 @@
 
 ghost use Rattle.std.specs.Prelude.{◌≡◌};
 ghost use Rattle.std.specs.List.{list_any};
-ghost use Rattle.oat_check.specs.Lines.{is_calling};
-ghost use Rattle.oat_frames.specs.Leaves.{is_leaf};
+ghost use Rattle.oat_globals.specs.{is_calling, is_leaf};
 
 use oat_ir::{BlockIr, Func, Instr};
 

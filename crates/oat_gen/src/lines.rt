@@ -1,9 +1,7 @@
 //! Instructions and terminators, each the code of its line.
 
 ghost use Rattle.std.specs.Prelude.{◌≡◌, [], ◌∷◌, ◌++◌, ◌+◌, ◌^◌, ◌<◌, ◌≤◌, length, OnOk};
-ghost use Rattle.oat_ir.specs.Indices.{IsTerm};
-ghost use Rattle.oat_frames.specs.Frames.{home_of};
-ghost use Rattle.oat_frames.specs.Leaves.{is_leaf};
+ghost use Rattle.oat_globals.specs.{IsTerm, home_of, is_leaf};
 ghost use Rattle.oat_gen.specs.Code.{instruction_code, terminator_code};
 ghost use Rattle.oat_gen.specs.Marked.{marked_branch, marked_jump};
 ghost use Rattle.oat_gen.specs.Steps.{IsInstrAmong};

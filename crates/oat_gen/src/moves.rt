@@ -1,14 +1,13 @@
 //! Constants, copies, inputs and outputs.
 
 ghost use Rattle.std.specs.Prelude.{◌≡◌, ◌++◌, ◌<◌, OnOk};
-ghost use Rattle.oat_a64.specs.declared.inst.Inst.TheVariants as inst;
+ghost use Rattle.oat_globals.specs.{home_of};
+ghost use Rattle.oat_globals.specs.inst as inst;
 ghost use Rattle.oat_asm.specs.declared.item.Item.TheVariants as item;
-ghost use Rattle.oat_frames.specs.Frames.{home_of};
 ghost use Rattle.oat_locals.specs.Code.{const_code, copy_code, input_code, output_code};
 
 use crate::items::{from_home, into_home, push_all, svc};
-use oat_a64::Inst;
-use oat_asm::Item;
+use oat_asm::{Inst, Item};
 use std::alloc::AllocError;
 
 pub(crate) fn push_const(

@@ -1,26 +1,12 @@
 -- One word of global data, whose address stands in register 11, is read or written: for scalars and for elements. So each line on global data ends.
 use Rattle.std.proofs.Common.{◌≡◌, ◌+◌, ◌*◌, ◌%◌, ◌/◌, ◌^◌, ◌<◌, ◌≤◌, ℕ, List, [], ◌∷◌, ◌++◌, None, refl, sym, ap, subst, ◌∙◌, arith}
-use Rattle.oat_a64.specs.declared.inst.Inst.TheVariants.{Movz, Movk, Ldr, Str}
-use Rattle.oat_a64.specs.Step.{reg}
-use Rattle.oat_asm.specs.declared.item.Item.TheVariants as item
-use Rattle.oat_image.specs.declared.image.Image.{Image}
-use Rattle.oat_mem.specs.DataMemory.{word_in, with_word, global_address}
-use Rattle.oat_shape.specs.Groups.{Stands}
-use Rattle.oat_ir.specs.declared.func.Ty.{Ty}
-use Rattle.oat_ir.specs.declared.func.Ty.TheVariants.{I64}
-use Rattle.oat_check.specs.Steps.{Frame, assigned}
-use Rattle.oat_journal.specs.Run.{Running}
-use Rattle.oat_follow.specs.Events.{MachineEvent}
-use Rattle.oat_frames.specs.Frames.{World, IsWorld, Represents, HoldsState, IsAt, home_word, home_in, line_address}
-use Rattle.oat_frames.specs.Code.{CodeStands, store_inst, home_load, home_store}
-use Rattle.oat_frames.specs.Comes.{StepsTo, with_result}
-use Rattle.oat_frames.specs.Lines.{on_next_line}
-use Rattle.oat_frames.specs.Readied.{IsReadied, KeepsHomes}
-use Rattle.oat_follow.specs.Reaching.{RunsTo}
-use Rattle.oat_frames.specs.Moments.{next_moment}
-use Rattle.oat_frames.proofs.Kit.{thence, set-other, with_x, with_slot, ldr-at, str-at, moves-number}
-use Rattle.oat_frames.proofs.FrameLaws.{puts-global, global-opens, by-registers, assigns, local-word, loads-local}
+use Rattle.oat_frames.specs.{Movz, Movk, Ldr, Str, reg, Image, word_in, with_word, global_address, Stands, Ty, I64, Frame, assigned, Running, MachineEvent, Frames.World, Frames.IsWorld}
+use Rattle.oat_frames.specs.{Frames.Represents, Frames.HoldsState, Frames.IsAt, Frames.home_word, Frames.home_in, Frames.line_address, Code.CodeStands, Code.store_inst, Code.home_load}
+use Rattle.oat_frames.specs.{Code.home_store, Comes.StepsTo, Comes.with_result, Lines.on_next_line, Readied.IsReadied, Readied.KeepsHomes, RunsTo, Moments.next_moment}
+use Rattle.oat_frames.proofs.{Kit.thence, Kit.set-other, Kit.with_x, Kit.with_slot, Kit.ldr-at, Kit.str-at, Kit.moves-number, FrameLaws.puts-global, FrameLaws.global-opens, FrameLaws.by-registers}
+use Rattle.oat_frames.proofs.{FrameLaws.assigns, FrameLaws.local-word, FrameLaws.loads-local}
 use Rattle.oat_globals.specs.Scalars.{IsScalarPair}
+use Rattle.oat_asm.specs.declared.item.Item.TheVariants as item
 
 -- ---- the address of a word
 

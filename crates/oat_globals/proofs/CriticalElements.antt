@@ -1,34 +1,19 @@
 -- The lines on critical arrays, by the groups of a use and of a define of an element.
 use Rattle.std.proofs.Common.{◌≡◌, ◌+◌, ◌*◌, ◌^◌, ◌<◌, ◌≤◌, ℕ, Bool, cond, List, [], ◌∷◌, ◌++◌, None, refl, sym, ap, subst, ◌∙◌, arith}
-use Rattle.oat_a64.specs.declared.inst.Inst.TheVariants.{AddReg, Movz, Svc, LdrReg, StrReg}
-use Rattle.oat_asm.specs.declared.item.Item.{Item}
+use Rattle.oat_frames.specs.{AddReg, Movz, Svc, LdrReg, StrReg, Item, element_test, Access, Machine, goes_on, fault, loads, stores, with_reg, reg, wrap, shifted_left, Index, Ty, I64, word_in}
+use Rattle.oat_frames.specs.{global_address, Stands, Running, makes, Code.CodeStands, Code.home_store, Comes.EndsWithin, MachineEvent, monitors, Frames.World, Frames.IsWorld, Frames.Home}
+use Rattle.oat_frames.specs.{Frames.Represents, Frames.home_in, Frames.line_address, Readied.IsReadied, RunsTo, Moments.next_moment}
+use Rattle.oat_frames.proofs.{Kit.thence, Kit.with_x, Kit.with_slot, Kit.sets, Kit.quietly, Kit.next-is, Kit.below, FrameLaws.global-opens, FrameLaws.loads-number, FrameLaws.number-small}
+use Rattle.oat_frames.proofs.{FrameLaws.by-registers}
+use Rattle.oat_globals.specs.{Code.address_code, Code.use_at_code, Code.define_at_code, Elements.CriticalElementLoadsLead, Elements.CriticalElementStoresLead, Elements.CriticalElementLoadsTrap}
+use Rattle.oat_globals.specs.{Elements.CriticalElementStoresTrap}
+use Rattle.oat_globals.proofs.{Showing.GivesNothing, Showing.gives_nothing, Showing.movz, Showing.svc_shows, Showing.admitted, Showing.admits, Showing.refuses, Showing.ends_behind, Accessing.IsStored}
+use Rattle.oat_globals.proofs.{Accessing.stored_by, Accessing.shown_behind, Accessing.small_word, Accessing.addressed, Accessing.addresses, Accessing.number_word, Accessing.ends_in_home}
+use Rattle.oat_globals.proofs.{Accessing.ends_in_word, CriticalScalars.own_word}
 use Rattle.oat_asm.specs.declared.item.Item.TheVariants as item
-use Rattle.oat_asm.specs.Expansion.{element_test}
-use Rattle.oat_a64.specs.declared.event.FaultKind.TheVariants.{Access}
-use Rattle.oat_a64.specs.Step.{Machine, goes_on, fault, loads, stores, with_reg, reg, wrap, shifted_left}
-use Rattle.oat_map.specs.declared.row.Row.TheVariants as rows
-use Rattle.oat_map.specs.declared.trap.TrapKind.TheVariants.{Index}
-use Rattle.oat_ir.specs.declared.func.Ty.{Ty}
-use Rattle.oat_ir.specs.declared.func.Ty.TheVariants.{I64}
-use Rattle.oat_measure.specs.declared.call.MonitorCall.TheVariants as svc
-use Rattle.oat_mem.specs.DataMemory.{word_in, global_address}
-use Rattle.oat_shape.specs.Groups.{Stands}
-use Rattle.oat_journal.specs.declared.end.DeviceEnd.TheVariants as ends
-use Rattle.oat_journal.specs.Run.{Running, makes}
-use Rattle.oat_frames.specs.Code.{CodeStands, home_store}
-use Rattle.oat_frames.specs.Comes.{EndsWithin}
-use Rattle.oat_follow.specs.Events.{MachineEvent, monitors}
-use Rattle.oat_frames.specs.Frames.{World, IsWorld, Home, Represents, home_in, line_address}
-use Rattle.oat_frames.specs.Readied.{IsReadied}
-use Rattle.oat_follow.specs.Reaching.{RunsTo}
-use Rattle.oat_frames.specs.Moments.{next_moment}
-use Rattle.oat_frames.proofs.Kit.{thence, with_x, with_slot, sets, quietly, next-is, below}
-use Rattle.oat_frames.proofs.FrameLaws.{global-opens, loads-number, number-small, by-registers}
-use Rattle.oat_globals.specs.Code.{address_code, use_at_code, define_at_code}
-use Rattle.oat_globals.specs.Elements.{CriticalElementLoadsLead, CriticalElementStoresLead, CriticalElementLoadsTrap, CriticalElementStoresTrap}
-use Rattle.oat_globals.proofs.Showing.{GivesNothing, gives_nothing, movz, svc_shows, admitted, admits, refuses, ends_behind}
-use Rattle.oat_globals.proofs.Accessing.{IsStored, stored_by, shown_behind, small_word, addressed, addresses, number_word, ends_in_home, ends_in_word}
-use Rattle.oat_globals.proofs.CriticalScalars.{own_word}
+use Rattle.oat_frames.specs.rows as rows
+use Rattle.oat_frames.specs.svc as svc
+use Rattle.oat_frames.specs.ends as ends
 
 -- ---- one access by the address of the first word and the element's number
 

@@ -1,22 +1,12 @@
 -- The lines on critical scalars, by the groups of a use and of a define.
 use Rattle.std.proofs.Common.{◌≡◌, ◌+◌, ◌*◌, ℕ, List, [], ◌∷◌, refl, sym, subst, ◌∙◌, arith}
-use Rattle.oat_ir.specs.declared.func.Ty.{Ty}
-use Rattle.oat_ir.specs.declared.func.Ty.TheVariants.{I64}
-use Rattle.oat_measure.specs.declared.call.MonitorCall.TheVariants as svc
-use Rattle.oat_mem.specs.DataMemory.{word_in, global_address}
-use Rattle.oat_journal.specs.Run.{Running}
-use Rattle.oat_frames.specs.Code.{CodeStands}
-use Rattle.oat_follow.specs.Events.{MachineEvent, monitors}
-use Rattle.oat_frames.specs.Frames.{World, Represents, home_in, line_address}
-use Rattle.oat_frames.specs.Readied.{IsReadied}
-use Rattle.oat_follow.specs.Reaching.{RunsTo}
-use Rattle.oat_frames.specs.Moments.{next_moment}
-use Rattle.oat_frames.proofs.Kit.{thence, with_x, with_slot}
-use Rattle.oat_frames.proofs.FrameLaws.{loads-number, number-small, by-registers}
-use Rattle.oat_globals.specs.Code.{use_code, define_code}
-use Rattle.oat_globals.specs.Scalars.{CriticalLoadsLead, CriticalStoresLead}
-use Rattle.oat_globals.proofs.Showing.{movz, svc_shows}
-use Rattle.oat_globals.proofs.Accessing.{IsStored, shown_behind, addressed, addresses, fetches, puts_word, number_word, ends_in_home, ends_in_word}
+use Rattle.oat_frames.specs.{Ty, I64, word_in, global_address, Running, Code.CodeStands, MachineEvent, monitors, Frames.World, Frames.Represents, Frames.home_in, Frames.line_address}
+use Rattle.oat_frames.specs.{Readied.IsReadied, RunsTo, Moments.next_moment}
+use Rattle.oat_frames.proofs.{Kit.thence, Kit.with_x, Kit.with_slot, FrameLaws.loads-number, FrameLaws.number-small, FrameLaws.by-registers}
+use Rattle.oat_globals.specs.{Code.use_code, Code.define_code, Scalars.CriticalLoadsLead, Scalars.CriticalStoresLead}
+use Rattle.oat_globals.proofs.{Showing.movz, Showing.svc_shows, Accessing.IsStored, Accessing.shown_behind, Accessing.addressed, Accessing.addresses, Accessing.fetches, Accessing.puts_word}
+use Rattle.oat_globals.proofs.{Accessing.number_word, Accessing.ends_in_home, Accessing.ends_in_word}
+use Rattle.oat_frames.specs.svc as svc
 
 -- a number is its own word
 pub own_word : (w : World) (ty : Ty) (v word : ℕ) → ty ≡ I64 → Represents w I64 v word → Represents w ty v v

@@ -1,27 +1,13 @@
 -- An element's address in register 11, or the trap Index; and the two lines on elements.
 use Rattle.std.proofs.Common.{◌≡◌, ◌+◌, ◌<◌, ◌≤◌, ℕ, List, [], ◌∷◌, ◌++◌, refl, sym, ap, subst, ◌∙◌, arith}
-use Rattle.oat_a64.specs.declared.inst.Inst.TheVariants.{AddReg, Ldr, Str}
-use Rattle.oat_a64.specs.Step.{goes_on, with_reg, wrap, shifted_left}
-use Rattle.oat_asm.specs.declared.item.Item.{Item}
+use Rattle.oat_frames.specs.{AddReg, Ldr, Str, goes_on, with_reg, wrap, shifted_left, Item, Index, global_address, Frame, Running, Code.CodeStands, Code.home_load, Code.home_store, Frames.World}
+use Rattle.oat_frames.specs.{Frames.IsWorld, Frames.IsAt, Frames.home_in, Frames.line_address, Lines.IsNumberLocal, Readied.IsReadied, RunsTo, Moments.next_moment}
+use Rattle.oat_frames.proofs.{Kit.thence, Kit.with_x, Kit.sets, Kit.moves-number, FrameLaws.loads-number, FrameLaws.by-registers}
+use Rattle.oat_globals.specs.{Code.element_code, Elements.IsArrayAt, Elements.ElementLoadsLead, Elements.ElementStoresLead, Elements.ElementsTrap}
+use Rattle.oat_globals.proofs.{Showing.GivesNothing, Showing.gives_nothing, Showing.admits, Showing.admitted, Showing.refuses, Showing.ends_behind, Accessing.loads_word, Accessing.stores_word}
 use Rattle.oat_asm.specs.declared.item.Item.TheVariants as item
-use Rattle.oat_map.specs.declared.row.Row.TheVariants as rows
-use Rattle.oat_map.specs.declared.trap.TrapKind.TheVariants.{Index}
-use Rattle.oat_mem.specs.DataMemory.{global_address}
-use Rattle.oat_check.specs.Steps.{Frame}
-use Rattle.oat_journal.specs.declared.end.DeviceEnd.TheVariants as ends
-use Rattle.oat_journal.specs.Run.{Running}
-use Rattle.oat_frames.specs.Code.{CodeStands, home_load, home_store}
-use Rattle.oat_frames.specs.Frames.{World, IsWorld, IsAt, home_in, line_address}
-use Rattle.oat_frames.specs.Lines.{IsNumberLocal}
-use Rattle.oat_frames.specs.Readied.{IsReadied}
-use Rattle.oat_follow.specs.Reaching.{RunsTo}
-use Rattle.oat_frames.specs.Moments.{next_moment}
-use Rattle.oat_frames.proofs.Kit.{thence, with_x, sets, moves-number}
-use Rattle.oat_frames.proofs.FrameLaws.{loads-number, by-registers}
-use Rattle.oat_globals.specs.Code.{element_code}
-use Rattle.oat_globals.specs.Elements.{IsArrayAt, ElementLoadsLead, ElementStoresLead, ElementsTrap}
-use Rattle.oat_globals.proofs.Showing.{GivesNothing, gives_nothing, admits, admitted, refuses, ends_behind}
-use Rattle.oat_globals.proofs.Accessing.{loads_word, stores_word}
+use Rattle.oat_frames.specs.rows as rows
+use Rattle.oat_frames.specs.ends as ends
 
 -- ---- the element's address
 

@@ -1,25 +1,13 @@
 -- The group that begins an operation, behind its prologue, and the one that ends it, before its return.
 use Rattle.std.proofs.Common.{◌≡◌, ◌+◌, ◌*◌, ◌≤◌, ℕ, List, [], ◌∷◌, ◌++◌, length, Option, Some, None, refl, sym, ap, subst, ◌∙◌, arith}
-use Rattle.oat_asm.specs.declared.item.Item.{Item}
-use Rattle.oat_asm.specs.Items.{words_needed}
 use Rattle.oat_asm.proofs.StandingItems.{stand_in_two}
-use Rattle.oat_measure.specs.declared.call.MonitorCall.TheVariants as svc
-use Rattle.oat_check.specs.Steps.{Frame}
-use Rattle.oat_journal.specs.Run.{Running}
-use Rattle.oat_frames.specs.Code.{CodeStands, prologue, return_code}
-use Rattle.oat_follow.specs.Events.{MachineEvent, monitors}
-use Rattle.oat_frames.specs.Frames.{World, IsWorld, home_in, line_address}
-use Rattle.oat_frames.specs.Calls.{CallLaysFrame, callee_frame, call_edge, prologue_end}
-use Rattle.oat_frames.specs.Returns.{ReturnComesBack, return_edge}
-use Rattle.oat_frames.specs.Readied.{IsReadied}
-use Rattle.oat_follow.specs.Reaching.{RunsTo}
-use Rattle.oat_frames.specs.Moments.{next_moment}
-use Rattle.oat_frames.proofs.Kit.{still, thence, with_x}
-use Rattle.oat_frames.proofs.FrameLaws.{readied-holds, by-registers, calls-lay-frames, returns-come-back}
+use Rattle.oat_frames.specs.{Item, words_needed, Frame, Running, Code.CodeStands, Code.prologue, Code.return_code, MachineEvent, monitors, Frames.World, Frames.IsWorld, Frames.home_in}
+use Rattle.oat_frames.specs.{Frames.line_address, Calls.CallLaysFrame, Calls.callee_frame, Calls.call_edge, Calls.prologue_end, Returns.ReturnComesBack, Returns.return_edge, Readied.IsReadied, RunsTo}
+use Rattle.oat_frames.specs.{Moments.next_moment}
+use Rattle.oat_frames.proofs.{Kit.still, Kit.thence, Kit.with_x, FrameLaws.readied-holds, FrameLaws.by-registers, FrameLaws.calls-lay-frames, FrameLaws.returns-come-back}
 use Rattle.oat_globals.specs.Operations.{begin_code, end_code, leave_code, role_words, begin_shown, end_shown, HasShortNumber, StartsStand, OperationCallsLead, OperationReturnsLead}
-use Rattle.oat_globals.proofs.Showing.{movz, svc_shows}
-use Rattle.oat_globals.proofs.Accessing.{twice}
-use Rattle.oat_globals.proofs.Sizes.{prologue_words}
+use Rattle.oat_globals.proofs.{Showing.movz, Showing.svc_shows, Accessing.twice, Sizes.prologue_words}
+use Rattle.oat_frames.specs.svc as svc
 
 pub starts_stand : StartsStand
 starts_stand w func params op h =

@@ -1,19 +1,12 @@
 -- Each instruction of the lines has a word.
 use Rattle.std.proofs.Common.{◌≡◌, ◌+◌, ◌%◌, ◌^◌, ◌<◌, ◌≤◌, ℕ, zero, suc, pos, Bool, true, false, cond, ltb, List, [], ◌∷◌, ◌++◌, Option, Some, None, refl, arith, lit<}
 use Rattle.std.proofs.lemmas.Bool.{ltb-true}
-use Rattle.oat_a64.specs.declared.inst.Inst.TheVariants.{AddReg, SubsReg, BCond, Svc, Movz, Ldr, Str, LdrReg, StrReg}
-use Rattle.oat_a64.specs.Table.{IsInRange}
-use Rattle.oat_mem.specs.DataMemory.{global_address}
-use Rattle.oat_asm.specs.declared.item.Item.{Item}
-use Rattle.oat_asm.specs.declared.item.Item.TheVariants as item
-use Rattle.oat_asm.specs.Expansion.{element_test}
-use Rattle.oat_asm.specs.Ranges.{AreItemsInRange}
-use Rattle.oat_frames.specs.Frames.{Home, home_of}
-use Rattle.oat_frames.specs.Code.{IsHome, home_load, home_store, local_stores, return_code}
+use Rattle.oat_frames.specs.{AddReg, SubsReg, BCond, Svc, Movz, Ldr, Str, LdrReg, StrReg, IsInRange, global_address, Item, element_test, AreItemsInRange, Frames.Home, Frames.home_of, Code.IsHome}
+use Rattle.oat_frames.specs.{Code.home_load, Code.home_store, Code.local_stores, Code.return_code}
 use Rattle.oat_frames.proofs.FrameLaws.{is-home, load-range, store-range}
-use Rattle.oat_globals.specs.Code.{number_code, address_code, index_test, element_code, use_at_code, define_at_code}
-use Rattle.oat_globals.specs.Operations.{begin_code, end_code, HasShortNumber}
-use Rattle.oat_globals.specs.Sizes.{GlobalLinesAreInRange}
+use Rattle.oat_globals.specs.{Code.number_code, Code.address_code, Code.index_test, Code.element_code, Code.use_at_code, Code.define_at_code, Operations.begin_code, Operations.end_code}
+use Rattle.oat_globals.specs.{Operations.HasShortNumber, Sizes.GlobalLinesAreInRange}
+use Rattle.oat_asm.specs.declared.item.Item.TheVariants as item
 
 -- ---- single instructions
 

@@ -1,17 +1,8 @@
 -- The lines on scalars, and a reference.
 use Rattle.std.proofs.Common.{◌≡◌, ◌+◌, ◌-◌, inr, ℕ, Bool, true, cond, [], refl, sym, ap, subst, ◌∙◌, arith, ne_eqb}
-use Rattle.oat_ir.specs.declared.func.Ty.{Ty}
-use Rattle.oat_ir.specs.declared.func.Ty.TheVariants.{Fn}
-use Rattle.oat_journal.specs.Run.{Running}
-use Rattle.oat_frames.specs.Frames.{World, Represents, home_in, line_address}
-use Rattle.oat_frames.specs.Code.{CodeStands}
-use Rattle.oat_frames.specs.Readied.{IsReadied}
-use Rattle.oat_follow.specs.Reaching.{RunsTo}
-use Rattle.oat_frames.specs.Moments.{next_moment}
-use Rattle.oat_frames.proofs.Kit.{with_x, moves-number}
-use Rattle.oat_frames.proofs.FrameLaws.{by-registers}
-use Rattle.oat_globals.specs.Code.{load_code, store_code, ref_code}
-use Rattle.oat_globals.specs.Scalars.{LoadsLead, StoresLead, ReferencesLead}
+use Rattle.oat_frames.specs.{Ty, Fn, Running, Frames.World, Frames.Represents, Frames.home_in, Frames.line_address, Code.CodeStands, Readied.IsReadied, RunsTo, Moments.next_moment}
+use Rattle.oat_frames.proofs.{Kit.with_x, Kit.moves-number, FrameLaws.by-registers}
+use Rattle.oat_globals.specs.{Code.load_code, Code.store_code, Code.ref_code, Scalars.LoadsLead, Scalars.StoresLead, Scalars.ReferencesLead}
 use Rattle.oat_globals.proofs.Accessing.{twice, addressed, addresses, loads_word, stores_word, ends_in_home}
 
 pub loads_lead : LoadsLead

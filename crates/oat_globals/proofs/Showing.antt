@@ -1,26 +1,11 @@
 -- Instructions beyond the kit of frames: monitor calls that show something, small numbers, and the test of an element's number.
 use Rattle.std.proofs.Common.{◌≡◌, ◌+◌, ◌*◌, ◌^◌, ◌<◌, ◌≤◌, ℕ, pos, not, [], ◌∷◌, Option, Some, None, refl, ap, ◌∙◌, arith}
+use Rattle.std.specs.{List.cons_option, Option.option_map}
 use Rattle.std.proofs.lemmas.Bool.{lt-leb, le-leb}
-use Rattle.std.specs.List.{cons_option}
-use Rattle.std.specs.Option.{option_map}
-use Rattle.oat_a64.specs.declared.inst.Inst.TheVariants.{SubsReg, BCond, Svc, Brk, Movz}
-use Rattle.oat_a64.specs.Step.{goes_on, holds, shifted_left, with_reg}
-use Rattle.oat_image.specs.declared.image.Image.{Image}
-use Rattle.oat_map.specs.declared.row.Row.{Row}
-use Rattle.oat_map.specs.declared.trap.TrapKind.TheVariants.{Index}
-use Rattle.oat_map.specs.Rows.{row_over}
-use Rattle.oat_measure.specs.declared.call.MonitorCall.{MonitorCall}
-use Rattle.oat_shape.specs.Groups.{Stands}
-use Rattle.oat_journal.specs.declared.end.DeviceEnd.{DeviceEnd}
-use Rattle.oat_journal.specs.declared.end.DeviceEnd.TheVariants as ends
-use Rattle.oat_journal.specs.Run.{Running, makes}
-use Rattle.oat_journal.specs.Window.{edge_over}
-use Rattle.oat_follow.specs.Events.{MachineEvent, moves, monitors, told_by}
-use Rattle.oat_frames.specs.Frames.{World, IsLow}
-use Rattle.oat_frames.specs.Comes.{EndsWithin}
-use Rattle.oat_follow.specs.Reaching.{RunsTo, inst_makes}
-use Rattle.oat_frames.specs.Moments.{next_moment, jumped}
+use Rattle.oat_frames.specs.{SubsReg, BCond, Svc, Brk, Movz, goes_on, holds, shifted_left, with_reg, Image, Row, Index, row_over, MonitorCall, Stands, DeviceEnd, Running, makes, edge_over}
+use Rattle.oat_frames.specs.{MachineEvent, moves, monitors, told_by, Frames.World, Frames.IsLow, Comes.EndsWithin, RunsTo, inst_makes, Moments.next_moment, Moments.jumped}
 use Rattle.oat_frames.proofs.Kit.{goes-as, stops, thence, quietly, next-is, below, with_x, compared, compares, sets, skip-is, pass-is}
+use Rattle.oat_frames.specs.ends as ends
 
 -- A transfer at an address gives no edge, whatever follows: in the group of a row that only tests.
 abbrev pub GivesNothing : Image → ℕ → Type 0

@@ -1,13 +1,9 @@
 -- The words of each line, by computing; those of a prologue by induction.
 use Rattle.std.proofs.Common.{◌≡◌, ◌+◌, ℕ, Bool, zero, suc, nat_lt, if◌then◌else◌, [], ◌∷◌, ◌++◌, Option, Some, None, refl, ap, ◌∙◌, arith}
-use Rattle.oat_a64.specs.declared.inst.Inst.TheVariants.{SubImm, Str}
-use Rattle.oat_asm.specs.declared.item.Item.TheVariants as item
-use Rattle.oat_asm.specs.Items.{words_needed}
 use Rattle.oat_asm.proofs.StandingItems.{words_of_two}
-use Rattle.oat_frames.specs.Code.{home_store, local_stores, prologue}
-use Rattle.oat_frames.specs.Frames.{Home, home_of, frame_size}
-use Rattle.oat_globals.specs.Operations.{begin_code, leave_code, role_words}
-use Rattle.oat_globals.specs.Sizes.{WordsOfGlobalLines}
+use Rattle.oat_frames.specs.{SubImm, Str, words_needed, Code.home_store, Code.local_stores, Code.prologue, Frames.Home, Frames.home_of, Frames.frame_size}
+use Rattle.oat_globals.specs.{Operations.begin_code, Operations.leave_code, Operations.role_words, Sizes.WordsOfGlobalLines}
+use Rattle.oat_asm.specs.declared.item.Item.TheVariants as item
 
 store_words : (leaf : Bool) (params from n : ℕ) → words_needed (local_stores leaf params from n) ≡ n
 store_words leaf params from zero = refl

@@ -1,26 +1,14 @@
 -- The worked image meets all that the laws of lines ask for, and so runs as its source.
 use Rattle.std.proofs.Common.{◌≡◌, ◌+◌, ◌^◌, ◌<◌, ◌≤◌, ℕ, zero, suc, Bool, cond, List, [], ◌∷◌, ◌++◌, get_or, Some, refl, ap, subst, arith, ne_eqb, lit<}
-use Rattle.oat_ir.specs.declared.func.Ty.TheVariants.{I64, Fn}
-use Rattle.oat_check.specs.Steps.{Frame, assigned}
-use Rattle.oat_journal.specs.Run.{Running, started}
-use Rattle.oat_frames.specs.Calls.{CallSite, callee_frame}
-use Rattle.oat_frames.specs.Comes.{StepsTo, with_result}
-use Rattle.oat_follow.specs.Events.{MachineEvent}
-use Rattle.oat_frames.specs.Frames.{IsAt}
-use Rattle.oat_frames.specs.Lines.{on_next_line}
-use Rattle.oat_follow.specs.Reaching.{RunsTo}
-use Rattle.oat_frames.specs.Returns.{main_frame}
-use Rattle.oat_frames.proofs.Kit.{thence}
-use Rattle.oat_frames.proofs.FrameLaws.{start-leads}
-use Rattle.oat_globals.specs.Elements.{IsArrayAt}
-use Rattle.oat_globals.specs.Operations.{HasShortNumber}
-use Rattle.oat_globals.specs.Worked.{operation_image, OperationRuns}
-use Rattle.oat_globals.proofs.CriticalElements.{critical_element_loads_lead, critical_element_stores_lead}
-use Rattle.oat_globals.proofs.CriticalScalars.{critical_loads_lead, critical_stores_lead}
-use Rattle.oat_globals.proofs.Elements.{element_loads_lead, element_stores_lead}
-use Rattle.oat_globals.proofs.Operations.{operation_calls_lead, operation_returns_lead}
-use Rattle.oat_globals.proofs.Scalars.{loads_lead, stores_lead, references_lead}
-use Rattle.oat_globals.proofs.WorkedPlaces.{w, is_world, first, first_words, main_starts, at_ref, at_store, at_load, at_storex, at_loadx, at_call, work_starts, work_begins, at_use_at, at_define_at, at_use, at_define, at_leave}
+use Rattle.oat_frames.specs.{I64, Fn, Frame, assigned, Running, started, Calls.CallSite, Calls.callee_frame, Comes.StepsTo, Comes.with_result, MachineEvent, Frames.IsAt, Lines.on_next_line, RunsTo}
+use Rattle.oat_frames.specs.{Returns.main_frame}
+use Rattle.oat_frames.proofs.{Kit.thence, FrameLaws.start-leads}
+use Rattle.oat_globals.specs.{Elements.IsArrayAt, Operations.HasShortNumber, Worked.operation_image, Worked.OperationRuns}
+use Rattle.oat_globals.proofs.{CriticalElements.critical_element_loads_lead, CriticalElements.critical_element_stores_lead, CriticalScalars.critical_loads_lead, CriticalScalars.critical_stores_lead}
+use Rattle.oat_globals.proofs.{Elements.element_loads_lead, Elements.element_stores_lead, Operations.operation_calls_lead, Operations.operation_returns_lead, Scalars.loads_lead, Scalars.stores_lead}
+use Rattle.oat_globals.proofs.{Scalars.references_lead, WorkedPlaces.w, WorkedPlaces.is_world, WorkedPlaces.first, WorkedPlaces.first_words, WorkedPlaces.main_starts, WorkedPlaces.at_ref}
+use Rattle.oat_globals.proofs.{WorkedPlaces.at_store, WorkedPlaces.at_load, WorkedPlaces.at_storex, WorkedPlaces.at_loadx, WorkedPlaces.at_call, WorkedPlaces.work_starts, WorkedPlaces.work_begins}
+use Rattle.oat_globals.proofs.{WorkedPlaces.at_use_at, WorkedPlaces.at_define_at, WorkedPlaces.at_use, WorkedPlaces.at_define, WorkedPlaces.at_leave}
 
 -- ---- the run, line by line
 

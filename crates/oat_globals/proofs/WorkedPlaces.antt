@@ -1,25 +1,16 @@
 -- The worked image: its words and rows, where the code of each line stands, and its data at the start.
-use Rattle.std.proofs.Common.{◌≡◌, ◌^◌, ◌<◌, ◌≤◌, inl, inr, ℕ, zero, suc, Bool, true, false, cond, eqb, leb, pos, List, [], ◌∷◌, ◌++◌, take, Some, nat_eq, if◌then◌else◌, refl, sym, subst, ◌∙◌, arith, lit<}
-use Rattle.std.specs.List.{slice_get, list_all}
-use Rattle.std.specs.Option.{option_and_then}
+use Rattle.std.proofs.Common.{◌≡◌, ◌^◌, ◌<◌, ◌≤◌, inl, inr, ℕ, zero, suc, Bool, true, false, cond, eqb, leb, pos, List, [], ◌∷◌, ◌++◌, take, Some, nat_eq, if◌then◌else◌, refl, sym, subst, ◌∙◌, arith}
+use Rattle.std.proofs.Common.{lit<}
+use Rattle.std.specs.{List.slice_get, List.list_all, Option.option_and_then}
 use Rattle.std.proofs.lemmas.Bool.{leb-true, and_parts}
-use Rattle.oat_a64.specs.declared.inst.Inst.{Inst}
-use Rattle.oat_a64.specs.Fetch.{inst_of, is_word}
-use Rattle.oat_map.specs.declared.row.Row.{Row}
-use Rattle.oat_map.specs.declared.row.Row.TheVariants as rows
-use Rattle.oat_map.specs.Rows.{address_of, row_over}
-use Rattle.oat_mem.specs.DataMemory.{word_in, with_word, global_address}
 use Rattle.oat_mem.proofs.Words.{words_read_back, other_words_stay}
-use Rattle.oat_shape.specs.Shape.{group_end}
-use Rattle.oat_asm.specs.Standing.{IsOver}
-use Rattle.oat_journal.specs.Run.{start_memory}
-use Rattle.oat_frames.specs.Code.{CodeStands, call_code, prologue}
-use Rattle.oat_frames.specs.Frames.{World, IsWorld, slot, register, GlobalsAt}
-use Rattle.oat_frames.proofs.FrameLaws.{low-code}
-use Rattle.oat_frames.proofs.WorkedCode.{is_encodable, decodes_at, over, beyond}
-use Rattle.oat_globals.specs.Code.{load_code, store_code, loadx_code, storex_code, ref_code, use_code, define_code, use_at_code, define_at_code}
-use Rattle.oat_globals.specs.Operations.{begin_code, leave_code}
-use Rattle.oat_globals.specs.Worked.{main_insts, work_insts, none_insts, operation_map, operation_image, operation_world}
+use Rattle.oat_frames.specs.{Inst, inst_of, is_word, Row, address_of, row_over, word_in, with_word, global_address, group_end, IsOver, start_memory, Code.CodeStands, Code.call_code, Code.prologue}
+use Rattle.oat_frames.specs.{Frames.World, Frames.IsWorld, Frames.slot, Frames.register, Frames.GlobalsAt}
+use Rattle.oat_frames.proofs.{FrameLaws.low-code, WorkedCode.is_encodable, WorkedCode.decodes_at, WorkedCode.over, WorkedCode.beyond}
+use Rattle.oat_globals.specs.{Code.load_code, Code.store_code, Code.loadx_code, Code.storex_code, Code.ref_code, Code.use_code, Code.define_code, Code.use_at_code, Code.define_at_code}
+use Rattle.oat_globals.specs.{Operations.begin_code, Operations.leave_code, Worked.main_insts, Worked.work_insts, Worked.none_insts, Worked.operation_map, Worked.operation_image}
+use Rattle.oat_globals.specs.{Worked.operation_world}
+use Rattle.oat_frames.specs.rows as rows
 
 -- ---- the words
 

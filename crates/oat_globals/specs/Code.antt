@@ -1,15 +1,9 @@
 -- The code of the lines on global data, and of references to functions, by the homes of the locals. Registers: 9 has a value or a cell's number, 10 a cell's value, 11 an address or a length, 12 an element's number.
 use Rattle.std.specs.Prelude.{◌+◌, ℕ, pos, List, [], ◌∷◌, ◌++◌, map}
-use Rattle.oat_a64.specs.declared.inst.Inst.TheVariants.{SubsReg, AddReg, BCond, Brk, Ldr, Str}
-use Rattle.oat_mem.specs.DataMemory.{global_address}
-use Rattle.oat_asm.specs.declared.item.Item.{Item}
+use Rattle.oat_frames.specs.{SubsReg, AddReg, BCond, Brk, Ldr, Str, global_address, Item, expanded, puts, Frames.Home, Code.home_load, Code.home_store}
 use Rattle.oat_asm.specs.declared.item.Item.TheVariants as item
 use Rattle.oat_asm.specs.declared.mark.Mark.TheVariants as mark
 use Rattle.oat_asm.specs.declared.note.Note.TheVariants as note
-use Rattle.oat_asm.specs.Expansion.{expanded}
-use Rattle.oat_asm.specs.Layout.{puts}
-use Rattle.oat_frames.specs.Frames.{Home}
-use Rattle.oat_frames.specs.Code.{home_load, home_store}
 
 -- a number into register 11, and the address of a word of global data
 abbrev pub number_code : ℕ → List Item

@@ -1,18 +1,10 @@
 -- What the lines on elements come to: the source's element, at its word and its cell, or the trap Index where the number isn't below the length.
 use Rattle.std.specs.Prelude.{◌≡◌, ◌+◌, ◌<◌, ◌≤◌, ◌^◌, ℕ, List, [], ◌∷◌, ◌++◌}
-use Rattle.oat_asm.specs.declared.item.Item.{Item}
-use Rattle.oat_map.specs.declared.trap.TrapKind.TheVariants.{Index}
-use Rattle.oat_ir.specs.declared.func.Ty.TheVariants.{I64}
-use Rattle.oat_check.specs.Steps.{Frame, assigned}
-use Rattle.oat_measure.specs.declared.call.MonitorCall.TheVariants as svc
-use Rattle.oat_journal.specs.declared.end.DeviceEnd.TheVariants as ends
-use Rattle.oat_journal.specs.Run.{Running}
-use Rattle.oat_follow.specs.Events.{monitors}
-use Rattle.oat_frames.specs.Frames.{World, IsWorld, IsAt, home_in, line_address}
-use Rattle.oat_frames.specs.Code.{CodeStands}
-use Rattle.oat_frames.specs.Comes.{StepsTo, EndsWithin, with_result}
-use Rattle.oat_frames.specs.Lines.{IsLineAt, IsNumberLocal, on_next_line}
+use Rattle.oat_frames.specs.{Item, Index, I64, Frame, assigned, Running, monitors, Frames.World, Frames.IsWorld, Frames.IsAt, Frames.home_in, Frames.line_address, Code.CodeStands, Comes.StepsTo}
+use Rattle.oat_frames.specs.{Comes.EndsWithin, Comes.with_result, Lines.IsLineAt, Lines.IsNumberLocal, Lines.on_next_line}
 use Rattle.oat_globals.specs.Code.{element_code, loadx_code, storex_code, use_at_code, define_at_code}
+use Rattle.oat_frames.specs.svc as svc
+use Rattle.oat_frames.specs.ends as ends
 
 -- len words of numbers from word base on
 pub record IsArrayAt (w : World) (base len : ℕ) : Type 0 where

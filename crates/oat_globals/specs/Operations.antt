@@ -1,18 +1,11 @@
 -- What a call of a function comes to that may be an operation, and its return: the group that begins an operation stands behind its prologue, the one that ends it before each return.
 use Rattle.std.specs.Prelude.{◌≡◌, ◌+◌, ◌*◌, ◌^◌, ◌<◌, ℕ, Bool, List, [], ◌∷◌, ◌++◌, length, Option, Some, None}
-use Rattle.oat_asm.specs.declared.item.Item.{Item}
+use Rattle.oat_frames.specs.{Item, expanded, Frame, Running, MachineEvent, monitors, Frames.World, Frames.IsWorld, Frames.Home, Frames.IsAt, Frames.home_in, Frames.line_address, Comes.StepsTo}
+use Rattle.oat_frames.specs.{Comes.with_result, Code.CodeStands, Code.prologue, Code.return_code, Calls.CallSite, Calls.IsCallAt, Calls.callee_frame, Calls.call_edge, Calls.prologue_end}
+use Rattle.oat_frames.specs.{Returns.IsReturnOf, Returns.return_edge}
 use Rattle.oat_asm.specs.declared.item.Item.TheVariants as item
 use Rattle.oat_asm.specs.declared.mark.Mark.TheVariants as mark
-use Rattle.oat_asm.specs.Expansion.{expanded}
-use Rattle.oat_check.specs.Steps.{Frame}
-use Rattle.oat_measure.specs.declared.call.MonitorCall.TheVariants as svc
-use Rattle.oat_journal.specs.Run.{Running}
-use Rattle.oat_follow.specs.Events.{MachineEvent, monitors}
-use Rattle.oat_frames.specs.Frames.{World, IsWorld, Home, IsAt, home_in, line_address}
-use Rattle.oat_frames.specs.Comes.{StepsTo, with_result}
-use Rattle.oat_frames.specs.Code.{CodeStands, prologue, return_code}
-use Rattle.oat_frames.specs.Calls.{CallSite, IsCallAt, callee_frame, call_edge, prologue_end}
-use Rattle.oat_frames.specs.Returns.{IsReturnOf, return_edge}
+use Rattle.oat_frames.specs.svc as svc
 
 -- ---- code: of an operation with this number, or of a function that is none
 

@@ -1,14 +1,9 @@
 -- What the lines on scalars come to, and a reference, from the relation to the relation. In the event of a critical scalar stands the source's value.
 use Rattle.std.specs.Prelude.{◌≡◌, true, ◌+◌, ◌<◌, ◌^◌, ℕ, List, [], ◌∷◌}
-use Rattle.oat_ir.specs.declared.func.Ty.TheVariants.{I64, Fn}
-use Rattle.oat_check.specs.Steps.{Frame, assigned}
-use Rattle.oat_measure.specs.declared.call.MonitorCall.TheVariants as svc
-use Rattle.oat_journal.specs.Run.{Running}
-use Rattle.oat_follow.specs.Events.{monitors}
-use Rattle.oat_frames.specs.Frames.{World, IsWorld, IsAt, home_in}
-use Rattle.oat_frames.specs.Comes.{StepsTo, with_result}
-use Rattle.oat_frames.specs.Lines.{IsLineAt, IsNumberLocal, on_next_line}
+use Rattle.oat_frames.specs.{I64, Fn, Frame, assigned, Running, monitors, Frames.World, Frames.IsWorld, Frames.IsAt, Frames.home_in, Comes.StepsTo, Comes.with_result, Lines.IsLineAt}
+use Rattle.oat_frames.specs.{Lines.IsNumberLocal, Lines.on_next_line}
 use Rattle.oat_globals.specs.Code.{load_code, store_code, ref_code, use_code, define_code}
+use Rattle.oat_frames.specs.svc as svc
 
 -- ---- scalars: numbers and references
 

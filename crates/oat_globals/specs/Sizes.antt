@@ -1,11 +1,8 @@
 -- How many words the code of each line on global data has, of a function's start and of its return, and that the fields of their instructions fit.
 use Rattle.std.specs.Prelude.{◌≡◌, ◌+◌, ◌^◌, ◌<◌, ◌≤◌, ℕ, Bool, Option}
-use Rattle.oat_asm.specs.Items.{words_needed}
-use Rattle.oat_asm.specs.Ranges.{AreItemsInRange}
-use Rattle.oat_frames.specs.Frames.{Home}
-use Rattle.oat_frames.specs.Code.{IsHome}
-use Rattle.oat_globals.specs.Code.{load_code, store_code, ref_code, loadx_code, storex_code, use_code, define_code, use_at_code, define_at_code}
-use Rattle.oat_globals.specs.Operations.{start_code, leave_code, role_words, HasShortNumber}
+use Rattle.oat_frames.specs.{words_needed, AreItemsInRange, Frames.Home, Code.IsHome}
+use Rattle.oat_globals.specs.{Code.load_code, Code.store_code, Code.ref_code, Code.loadx_code, Code.storex_code, Code.use_code, Code.define_code, Code.use_at_code, Code.define_at_code}
+use Rattle.oat_globals.specs.{Operations.start_code, Operations.leave_code, Operations.role_words, Operations.HasShortNumber}
 
 pub record WordsOfGlobalLines : Type 0 where
   pub load : (x : Home) (g : ℕ) → words_needed (load_code x g) ≡ 4

@@ -1,18 +1,10 @@
 -- The smallest image with each line on global data: main takes a reference, keeps it in a function scalar, writes and reads an element, and calls an operation that uses and defines cells of an array and of a scalar.
 use Rattle.std.specs.Prelude.{true, false, not, ◌&&◌, ℕ, pos, nat_eq, if◌then◌else◌, List, [], ◌∷◌, ◌++◌, map, Some, None, codes}
-use Rattle.oat_a64.specs.declared.inst.Inst.{Inst}
-use Rattle.oat_a64.specs.declared.inst.Inst.TheVariants.{AddImm, AddReg, BCond, Bl, Brk, Ldr, LdrReg, Movk, Movz, OrrReg, Ret, Str, StrReg, SubImm, SubsImm, SubsReg, Svc}
-use Rattle.oat_a64.specs.Table.{word_of}
-use Rattle.oat_image.specs.declared.image.Image.{Image}
-use Rattle.oat_map.specs.declared.map.Map.{Map}
-use Rattle.oat_map.specs.declared.edge.Edge.TheVariants as edges
-use Rattle.oat_map.specs.declared.row.Row.TheVariants as rows
-use Rattle.oat_measure.specs.declared.call.MonitorCall.TheVariants as svc
-use Rattle.oat_ir.specs.declared.func.Ty.TheVariants.{I64, Fn}
-use Rattle.oat_journal.specs.Run.{Running, started}
-use Rattle.oat_follow.specs.Events.{moves, monitors}
-use Rattle.oat_frames.specs.Frames.{World, IsAt}
-use Rattle.oat_follow.specs.Reaching.{RunsTo}
+use Rattle.oat_frames.specs.{Inst, AddImm, AddReg, BCond, Bl, Brk, Ldr, LdrReg, Movk, Movz, OrrReg, Ret, Str, StrReg, SubImm, SubsImm, SubsReg, Svc, word_of, Image, Map, I64, Fn, Running, started}
+use Rattle.oat_frames.specs.{moves, monitors, Frames.World, Frames.IsAt, RunsTo}
+use Rattle.oat_frames.specs.edges as edges
+use Rattle.oat_frames.specs.rows as rows
+use Rattle.oat_frames.specs.svc as svc
 
 -- main, its lines one behind another: the start, a reference, a store and a load of the function scalar, a store and a load of an element, the call, and the halt
 abbrev pub main_insts : List Inst

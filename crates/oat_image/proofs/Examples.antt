@@ -1,12 +1,10 @@
 -- The text of the smallest image with a jump, computed.
 use Rattle.std.proofs.Common.{◌≡◌, refl, arith, lit<, lit≤}
-use Rattle.std.specs.Prelude.{codes}
-use Rattle.std.specs.Fmt.{digits}
+use Rattle.std.specs.{Prelude.codes, Fmt.digits}
 use Rattle.oat_lines.specs.Hexadecimal.{hexadecimal}
 use Rattle.oat_map.specs.Name.{IsName}
-use Rattle.oat_image.specs.Grammar.{image_text, IsWellFormedImage, IsImageText}
-use Rattle.oat_image.specs.Worked.{one_jump, one_jump_text}
 use Rattle.oat_map.proofs.NameTests.{name_from_test}
+use Rattle.oat_image.specs.{Grammar.image_text, Grammar.IsWellFormedImage, Grammar.IsImageText, Worked.one_jump, Worked.one_jump_text}
 
 spelled : one_jump_text ≡ image_text one_jump
 unfolding digits hexadecimal

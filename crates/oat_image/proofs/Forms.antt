@@ -1,26 +1,19 @@
 -- Each kind of line: what is read is spelled so, and what is spelled so is read.
 use Rattle.std.proofs.Common.{◌≡◌, ℕ, zero, suc, ◌≤◌, ◌<◌, ◌^◌, Bool, true, false, ltb, List, [], ◌∷◌, Ok, refl, sym, ap, subst, ◌∙◌, arith}
 use Rattle.std.specs.Prelude.{ok_or, decimal, ◌==◌}
-use Rattle.std.proofs.lemmas.Bool.{ltb-true, lt-ltb}
-use Rattle.std.proofs.lemmas.Fmt.{decimal_digit}
-use Rattle.oat_lines.specs.Reading.{◌>>=◌, guard, between}
-use Rattle.oat_lines.specs.Decimal.{decimal_of}
-use Rattle.oat_lines.specs.Hexadecimal.{hexadecimal_of, hexadecimal}
-use Rattle.oat_lines.specs.Fields.{one_field, two_fields, four_fields, spaced, IsField}
-use Rattle.oat_lines.proofs.Hexadecimals.{hexadecimal_takes, hexadecimal_again}
-use Rattle.oat_lines.proofs.Decimals.{decimal_takes, decimal_again}
-use Rattle.oat_lines.proofs.Cutting.{one_takes, two_take, four_take, one_again, two_again, four_again, within_field, two_within, four_within}
-use Rattle.oat_map.specs.Name.{IsName, is_name, read_name}
-use Rattle.oat_map.specs.declared.map.Function.{Function}
-use Rattle.oat_map.specs.declared.map.Block.{Block}
-use Rattle.oat_image.specs.declared.image.InitWord.{InitWord}
-use Rattle.oat_image.specs.declared.fault.ImageFaultKind.TheVariants.{Token, Number}
-use Rattle.oat_image.specs.Grammar.{code_line, data_line, cell_line, function_line, block_line, flag_text, IsWord, IsIndex, IsInitWord, IsFunction, IsBlock}
-use Rattle.oat_image.specs.LineReading.{eight_digits, number_in, value_of, flag_of, spelled_name, code_of, data_of, cell_of, function_with, function_of, block_of}
+use Rattle.std.proofs.lemmas.{Bool.ltb-true, Bool.lt-ltb, Fmt.decimal_digit}
+use Rattle.oat_lines.specs.{Reading.◌>>=◌, Reading.guard, Reading.between, Decimal.decimal_of, Hexadecimal.hexadecimal_of, Hexadecimal.hexadecimal, Fields.one_field, Fields.two_fields}
+use Rattle.oat_lines.specs.{Fields.four_fields, Fields.spaced, Fields.IsField}
+use Rattle.oat_lines.proofs.{Hexadecimals.hexadecimal_takes, Hexadecimals.hexadecimal_again, Decimals.decimal_takes, Decimals.decimal_again, Cutting.one_takes, Cutting.two_take, Cutting.four_take}
+use Rattle.oat_lines.proofs.{Cutting.one_again, Cutting.two_again, Cutting.four_again, Cutting.within_field, Cutting.two_within, Cutting.four_within, Steps.chosen, Steps.bind_ok, Steps.ok_is}
+use Rattle.oat_lines.proofs.{Steps.or_ok, Steps.guard_ok}
+use Rattle.oat_map.specs.{Name.IsName, Name.is_name, Name.read_name, declared.map.Function.Function, declared.map.Block.Block}
 use Rattle.oat_map.proofs.NameTests.{name_from_test, test_from_name}
-use Rattle.oat_image.proofs.Names.{name_field}
-use Rattle.oat_lines.proofs.Steps.{chosen, bind_ok, ok_is, or_ok, guard_ok}
-use Rattle.oat_image.proofs.Sections.{IsForm, between_takes, between_again, decimal_field, hexadecimal_field}
+use Rattle.oat_image.specs.{declared.image.InitWord.InitWord, declared.fault.ImageFaultKind.TheVariants.Token, declared.fault.ImageFaultKind.TheVariants.Number, Grammar.code_line, Grammar.data_line}
+use Rattle.oat_image.specs.{Grammar.cell_line, Grammar.function_line, Grammar.block_line, Grammar.flag_text, Grammar.IsWord, Grammar.IsIndex, Grammar.IsInitWord, Grammar.IsFunction, Grammar.IsBlock}
+use Rattle.oat_image.specs.{LineReading.eight_digits, LineReading.number_in, LineReading.value_of, LineReading.flag_of, LineReading.spelled_name, LineReading.code_of, LineReading.data_of}
+use Rattle.oat_image.specs.{LineReading.cell_of, LineReading.function_with, LineReading.function_of, LineReading.block_of}
+use Rattle.oat_image.proofs.{Names.name_field, Sections.IsForm, Sections.between_takes, Sections.between_again, Sections.decimal_field, Sections.hexadecimal_field}
 
 -- ---- words
 

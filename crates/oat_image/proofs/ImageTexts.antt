@@ -1,8 +1,6 @@
 -- What reading and spelling an image text have to do with each other, for the crates above.
 use Rattle.std.proofs.Common.{◌≡◌, ℕ, List, Ok}
-use Rattle.oat_image.specs.declared.image.Image.{Image}
-use Rattle.oat_image.specs.Grammar.{image_text, IsWellFormedImage, IsImageText}
-use Rattle.oat_image.specs.ImageReading.{image_at}
+use Rattle.oat_image.specs.{declared.image.Image.Image, Grammar.image_text, Grammar.IsWellFormedImage, Grammar.IsImageText, ImageReading.image_at}
 use Rattle.oat_image.proofs.Images as images
 
 pub image_stands : (text : List ℕ) (image : Image) → image_at text ≡ Ok image → IsImageText text image

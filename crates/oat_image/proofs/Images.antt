@@ -1,33 +1,19 @@
 -- An image that is read is the one of the text, and the image of a text is read.
 use Rattle.std.proofs.Common.{◌≡◌, ℕ, ◌<◌, Bool, true, not, ◌||◌, List, [], ◌∷◌, ◌++◌, length, None, Result, Ok, Err, refl, sym, ap, subst, ◌∙◌, append_assoc, arith}
-use Rattle.std.specs.Prelude.{codes, IfOk, map, ◌==◌}
-use Rattle.std.specs.List.{list_all}
-use Rattle.std.specs.List.Sorted.{IsStrictlyIncreasing}
-use Rattle.std.proofs.lemmas.Bool.{eqb-true}
-use Rattle.std.proofs.lemmas.List.{append-nil, nil_from_length}
-use Rattle.oat_lines.specs.declared.fault.Fault.{Fault}
-use Rattle.oat_lines.specs.Faults.{at, Gives}
-use Rattle.oat_lines.specs.Reading.{◌>>=◌, guard}
-use Rattle.oat_lines.specs.Fields.{ended, is_visible, IsField}
-use Rattle.oat_map.specs.declared.map.Map.{Map}
-use Rattle.oat_map.specs.declared.map.Function.{Function}
-use Rattle.oat_map.specs.declared.map.Block.{Block}
-use Rattle.oat_map.specs.declared.row.Row.{Row}
-use Rattle.oat_image.specs.declared.image.Image.{Image}
-use Rattle.oat_image.specs.declared.image.InitWord.{InitWord}
-use Rattle.oat_image.specs.declared.fault.ImageFaultKind.{ImageFaultKind}
-use Rattle.oat_image.specs.declared.fault.ImageFaultKind.TheVariants.{Token}
-use Rattle.oat_image.specs.Spelling.{section_text}
-use Rattle.oat_image.specs.Grammar.{has_elements, version_line, code_line, data_line, cell_line, function_line, block_line, row_line, image_text, IsWord, IsInitWord, IsIndex, IsFunction, IsBlock, IsSection, IsWellFormedImage, IsImageText}
-use Rattle.oat_image.specs.Reading.{Remainder, section_at, fixed_at}
-use Rattle.oat_image.specs.LineReading.{code_of, data_of, cell_of, function_of, block_of, no_key, index_key, cell_key, entry_key, start_key}
-use Rattle.oat_image.specs.RowReading.{row_of}
-use Rattle.oat_image.specs.ImageReading.{version_at, memory_at, map_at, ending_at, parts_at, image_at}
+use Rattle.std.specs.{Prelude.codes, Prelude.IfOk, Prelude.map, Prelude.◌==◌, List.list_all, List.Sorted.IsStrictlyIncreasing}
+use Rattle.std.proofs.lemmas.{Bool.eqb-true, List.append-nil, List.nil_from_length}
+use Rattle.oat_lines.specs.{declared.fault.Fault.Fault, Faults.at, Faults.Gives, Reading.◌>>=◌, Reading.guard, Fields.ended, Fields.is_visible, Fields.IsField}
 use Rattle.oat_lines.proofs.Steps.{bind_ok, ok_is, at_ok, guard_ok}
-use Rattle.oat_image.proofs.Sections.{section_takes, section_again, fixed_takes, fixed_again, rising_unkeyed, strict_from_rising, rising_from_strict}
-use Rattle.oat_image.proofs.Forms.{code_form, data_form, cell_form, function_form, block_form}
-use Rattle.oat_image.proofs.Versions.{IsRowIn, are_rows, version_is, rows_in, is_due, version_takes, version_again}
-use Rattle.oat_image.proofs.RowForms.{row_form}
+use Rattle.oat_map.specs.{declared.map.Map.Map, declared.map.Function.Function, declared.map.Block.Block, declared.row.Row.Row}
+use Rattle.oat_image.specs.{declared.image.Image.Image, declared.image.InitWord.InitWord, declared.fault.ImageFaultKind.ImageFaultKind, declared.fault.ImageFaultKind.TheVariants.Token}
+use Rattle.oat_image.specs.{Spelling.section_text, Grammar.has_elements, Grammar.version_line, Grammar.code_line, Grammar.data_line, Grammar.cell_line, Grammar.function_line, Grammar.block_line}
+use Rattle.oat_image.specs.{Grammar.row_line, Grammar.image_text, Grammar.IsWord, Grammar.IsInitWord, Grammar.IsIndex, Grammar.IsFunction, Grammar.IsBlock, Grammar.IsSection}
+use Rattle.oat_image.specs.{Grammar.IsWellFormedImage, Grammar.IsImageText, Reading.Remainder, Reading.section_at, Reading.fixed_at, LineReading.code_of, LineReading.data_of, LineReading.cell_of}
+use Rattle.oat_image.specs.{LineReading.function_of, LineReading.block_of, LineReading.no_key, LineReading.index_key, LineReading.cell_key, LineReading.entry_key, LineReading.start_key}
+use Rattle.oat_image.specs.{RowReading.row_of, ImageReading.version_at, ImageReading.memory_at, ImageReading.map_at, ImageReading.ending_at, ImageReading.parts_at, ImageReading.image_at}
+use Rattle.oat_image.proofs.{Sections.section_takes, Sections.section_again, Sections.fixed_takes, Sections.fixed_again, Sections.rising_unkeyed, Sections.strict_from_rising}
+use Rattle.oat_image.proofs.{Sections.rising_from_strict, Forms.code_form, Forms.data_form, Forms.cell_form, Forms.function_form, Forms.block_form, Versions.IsRowIn, Versions.are_rows}
+use Rattle.oat_image.proofs.{Versions.version_is, Versions.rows_in, Versions.is_due, Versions.version_takes, Versions.version_again, RowForms.row_form}
 
 map_id : (xs : List ℕ) → map (λ x. x) xs ≡ xs
 map_id [] = refl

@@ -1,17 +1,14 @@
 -- The keywords of rows: what is read as a kind of row is its keyword, and each keyword is read as its kind.
 use Rattle.std.proofs.Common.{◌≡◌, ℕ, Bool, true, false, List, Option, Some, Ok, refl, ap, subst, ◌∙◌, arith}
 use Rattle.std.specs.Prelude.{if◌then◌else◌, ok_or, bytes_eq, codes}
-use Rattle.oat_lines.specs.Reading.{◌>>=◌, guard}
-use Rattle.oat_lines.specs.Fields.{IsField}
-use Rattle.oat_image.specs.declared.keyword.RowKind.{RowKind}
-use Rattle.oat_image.specs.declared.keyword.RowKind.TheVariants.{Edge, Point, Element}
+use Rattle.oat_lines.specs.{Reading.◌>>=◌, Reading.guard, Fields.IsField}
+use Rattle.oat_lines.proofs.Steps.{bind_ok, guarded_ok, ok_is, or_ok, some_is}
+use Rattle.oat_image.specs.{declared.keyword.RowKind.RowKind, declared.keyword.RowKind.TheVariants.Edge, declared.keyword.RowKind.TheVariants.Point, declared.keyword.RowKind.TheVariants.Element}
+use Rattle.oat_image.specs.{declared.fault.ImageFaultKind.TheVariants.Token, RowReading.is_kind_in, RowReading.kind_in, RowReading.kind_of}
+use Rattle.oat_image.proofs.Sections.{bytes_take}
 use Rattle.oat_image.specs.declared.keyword.EdgeKind.TheVariants as edges
 use Rattle.oat_image.specs.declared.keyword.PointKind.TheVariants as points
 use Rattle.oat_image.specs.declared.element.ElementKind.TheVariants as elements
-use Rattle.oat_image.specs.declared.fault.ImageFaultKind.TheVariants.{Token}
-use Rattle.oat_image.specs.RowReading.{is_kind_in, kind_in, kind_of}
-use Rattle.oat_lines.proofs.Steps.{bind_ok, guarded_ok, ok_is, or_ok, some_is}
-use Rattle.oat_image.proofs.Sections.{bytes_take}
 
 abbrev pub keyword_of : RowKind → List ℕ
 keyword_of (Edge edges.Jump) = codes "jump"

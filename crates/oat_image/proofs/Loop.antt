@@ -1,12 +1,9 @@
 -- Reading items one after the other, as a loop does.
 use Rattle.std.proofs.Common.{◌≡◌, ℕ, suc, ◌-◌, ◌+◌, ◌≤◌, ◌<◌, List, [], ◌∷◌, ◌++◌, Option, Result, Ok, Err, refl, sym, ap, ◌∙◌, append_assoc, arith}
 use Rattle.std.proofs.lemmas.List.{append-nil}
-use Rattle.oat_lines.specs.declared.fault.Fault.{Fault}
-use Rattle.oat_lines.specs.Faults.{Fails}
-use Rattle.oat_lines.specs.Reading.{◌>>=◌}
+use Rattle.oat_lines.specs.{declared.fault.Fault.Fault, Faults.Fails, Reading.◌>>=◌}
 use Rattle.oat_lines.proofs.Steps.{fails_as}
-use Rattle.oat_image.specs.declared.fault.ImageFaultKind.{ImageFaultKind}
-use Rattle.oat_image.specs.Reading.{Remainder, item_at, items_at}
+use Rattle.oat_image.specs.{declared.fault.ImageFaultKind.ImageFaultKind, Reading.Remainder, Reading.item_at, Reading.items_at}
 
 -- what was read before, and what is still read
 abbrev pub with_front : {X : Type 0} → List X → Result (List X × Remainder) (Fault ImageFaultKind) → Result (List X × Remainder) (Fault ImageFaultKind)

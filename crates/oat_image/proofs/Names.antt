@@ -1,9 +1,7 @@
 -- A name is a word of visible characters.
 use Rattle.std.proofs.Common.{◌≡◌, ℕ, true, not, ◌&&◌, ltb, List, [], ◌∷◌, length, get_or, refl, arith}
-use Rattle.std.specs.List.{list_all}
-use Rattle.std.specs.Char.{is_ascii_digit}
-use Rattle.std.proofs.lemmas.Bool.{and_parts}
-use Rattle.std.proofs.lemmas.Bool.Decides.{nat_tests}
+use Rattle.std.specs.{List.list_all, Char.is_ascii_digit}
+use Rattle.std.proofs.lemmas.{Bool.and_parts, Bool.Decides.nat_tests}
 use Rattle.oat_lines.specs.Fields.{is_visible, IsField}
 use Rattle.oat_map.specs.Name.{IsName, is_name_byte}
 use Rattle.oat_map.proofs.NameTests.{test_from_name}

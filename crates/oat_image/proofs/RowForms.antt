@@ -1,28 +1,22 @@
 -- The lines of rows: what is read is spelled so, and what is spelled so is read.
 use Rattle.std.proofs.Common.{◌≡◌, ℕ, ◌≤◌, ◌<◌, ◌^◌, Bool, true, List, [], ◌∷◌, ◌++◌, Some, Result, Ok, refl, sym, ap, subst, ◌∙◌, arith}
-use Rattle.std.specs.Prelude.{ok_or, decimal, codes}
-use Rattle.std.specs.List.{list_all}
-use Rattle.oat_lines.specs.Reading.{◌>>=◌}
-use Rattle.oat_lines.specs.Hexadecimal.{hexadecimal}
-use Rattle.oat_lines.specs.Fields.{one_field, field_and_rest, two_fields, three_fields, spaced, IsField}
-use Rattle.oat_lines.proofs.Cutting.{one_takes, field_takes, two_take, three_take, one_again, field_again, two_again, three_again, within_field, within_spaced, two_within, three_within, is_within_line}
-use Rattle.oat_map.specs.declared.row.Row.{Row}
-use Rattle.oat_map.specs.declared.row.Row.TheVariants.{Jump, Branch, Call, ICall, Ret, Begin, End, UseCell, DefCell, UseAt, DefAt, Check}
-use Rattle.oat_image.specs.declared.keyword.RowKind.{RowKind}
-use Rattle.oat_image.specs.declared.keyword.RowKind.TheVariants.{Edge, Point, Element}
+use Rattle.std.specs.{Prelude.ok_or, Prelude.decimal, Prelude.codes, List.list_all}
+use Rattle.oat_lines.specs.{Reading.◌>>=◌, Hexadecimal.hexadecimal, Fields.one_field, Fields.field_and_rest, Fields.two_fields, Fields.three_fields, Fields.spaced, Fields.IsField}
+use Rattle.oat_lines.proofs.{Cutting.one_takes, Cutting.field_takes, Cutting.two_take, Cutting.three_take, Cutting.one_again, Cutting.field_again, Cutting.two_again, Cutting.three_again}
+use Rattle.oat_lines.proofs.{Cutting.within_field, Cutting.within_spaced, Cutting.two_within, Cutting.three_within, Cutting.is_within_line, Steps.bind_ok, Steps.ok_is, Steps.or_ok}
+use Rattle.oat_map.specs.{declared.row.Row.Row, declared.row.Row.TheVariants.Jump, declared.row.Row.TheVariants.Branch, declared.row.Row.TheVariants.Call, declared.row.Row.TheVariants.ICall}
+use Rattle.oat_map.specs.{declared.row.Row.TheVariants.Ret, declared.row.Row.TheVariants.Begin, declared.row.Row.TheVariants.End, declared.row.Row.TheVariants.UseCell}
+use Rattle.oat_map.specs.{declared.row.Row.TheVariants.DefCell, declared.row.Row.TheVariants.UseAt, declared.row.Row.TheVariants.DefAt, declared.row.Row.TheVariants.Check}
+use Rattle.oat_image.specs.{declared.keyword.RowKind.RowKind, declared.keyword.RowKind.TheVariants.Edge, declared.keyword.RowKind.TheVariants.Point, declared.keyword.RowKind.TheVariants.Element}
+use Rattle.oat_image.specs.{declared.fault.ImageFaultKind.ImageFaultKind, declared.fault.ImageFaultKind.TheVariants.Token, Grammar.row_line, Grammar.IsRow, Grammar.IsLength, LineReading.number_in}
+use Rattle.oat_image.specs.{LineReading.eight_digits, RowReading.is_kind_in, RowReading.kind_in, RowReading.kind_of, RowReading.sole_address, RowReading.two_addresses, RowReading.addresses_of}
+use Rattle.oat_image.specs.{RowReading.three_addresses, RowReading.address_and_number, RowReading.array_of, RowReading.address_and_array, RowReading.edge_row, RowReading.point_row}
+use Rattle.oat_image.specs.{RowReading.element_row, RowReading.row_with, RowReading.row_of}
+use Rattle.oat_image.proofs.{Versions.IsRowIn, Sections.IsForm, Sections.decimal_field, Forms.address_takes, Forms.address_again, Forms.address_field, Forms.number_takes, Forms.number_again}
+use Rattle.oat_image.proofs.{Keywords.keyword_of, Keywords.kind_again, Keywords.keyword_field, Keywords.kind_stands}
 use Rattle.oat_image.specs.declared.keyword.EdgeKind.TheVariants as edges
 use Rattle.oat_image.specs.declared.keyword.PointKind.TheVariants as points
 use Rattle.oat_image.specs.declared.element.ElementKind.TheVariants as elements
-use Rattle.oat_image.specs.declared.fault.ImageFaultKind.{ImageFaultKind}
-use Rattle.oat_image.specs.declared.fault.ImageFaultKind.TheVariants.{Token}
-use Rattle.oat_image.specs.Grammar.{row_line, IsRow, IsLength}
-use Rattle.oat_image.specs.LineReading.{number_in, eight_digits}
-use Rattle.oat_image.specs.RowReading.{is_kind_in, kind_in, kind_of, sole_address, two_addresses, addresses_of, three_addresses, address_and_number, array_of, address_and_array, edge_row, point_row, element_row, row_with, row_of}
-use Rattle.oat_lines.proofs.Steps.{bind_ok, ok_is, or_ok}
-use Rattle.oat_image.proofs.Versions.{IsRowIn}
-use Rattle.oat_image.proofs.Sections.{IsForm, decimal_field}
-use Rattle.oat_image.proofs.Forms.{address_takes, address_again, address_field, number_takes, number_again}
-use Rattle.oat_image.proofs.Keywords.{keyword_of, kind_again, keyword_field, kind_stands}
 
 -- ---- fields
 

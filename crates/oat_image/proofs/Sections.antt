@@ -1,28 +1,17 @@
 -- What is read section by section is spelled so, and what is spelled so is read.
-use Rattle.std.proofs.Common.{◌≡◌, ℕ, zero, suc, ◌+◌, ◌≤◌, ◌<◌, ◌^◌, Bool, true, leb, List, [], ◌∷◌, ◌++◌, length, get_or, Option, Some, None, Result, Ok, refl, sym, ap, subst, ◌∙◌, append_assoc, arith}
-use Rattle.std.specs.Prelude.{ok_or, bytes_eq, decimal, map}
-use Rattle.std.specs.List.{flat_map, list_all, AllByRecursion}
-use Rattle.std.specs.List.Sorted.{IsStrictlyIncreasing}
-use Rattle.std.proofs.lemmas.Bool.{and_parts, leb-true, le-leb, ltb-true, lt-ltb}
-use Rattle.std.proofs.lemmas.List.Concat.{flat_map-cons}
-use Rattle.std.proofs.lemmas.Slice.Eq.{bytes_eq-Decides}
-use Rattle.oat_lines.specs.Faults.{at}
-use Rattle.oat_lines.specs.Reading.{◌>>=◌, guard, between}
-use Rattle.oat_lines.specs.Decimal.{decimal_of, is_decimal_digit}
-use Rattle.oat_lines.specs.Hexadecimal.{hexadecimal, is_hexadecimal_digit}
-use Rattle.oat_lines.specs.Fields.{cut, two_fields, spaced, ended, is_visible, IsField}
-use Rattle.oat_lines.proofs.Steps.{ok_is, bind_ok, or_ok, guard_ok, at_ok}
-use Rattle.oat_lines.proofs.Hexadecimals.{hexadecimal_digits, hexadecimal_length}
-use Rattle.oat_lines.proofs.Decimals.{decimal_takes, decimal_again, decimal_digits}
-use Rattle.oat_lines.proofs.Cutting.{cut_takes, cut_again, two_take, two_again, two_within, is_within_line}
-use Rattle.std.proofs.lemmas.Fmt.{decimal_nonempty}
-use Rattle.std.proofs.lemmas.Bool.Decides.{nat_tests}
-use Rattle.oat_image.specs.declared.fault.ImageFaultKind.{ImageFaultKind}
-use Rattle.oat_image.specs.declared.fault.ImageFaultKind.TheVariants.{Token, Number, Order, Limit}
-use Rattle.oat_image.specs.Spelling.{section_text}
-use Rattle.oat_image.specs.Grammar.{IsSection}
-use Rattle.oat_image.specs.Rising.{Rising}
-use Rattle.oat_image.specs.Reading.{Remainder, line_from, line_at, next_number, rises, item_at, items_at, number_within, count_of, section_at, fixed_at}
+use Rattle.std.proofs.Common.{◌≡◌, ℕ, zero, suc, ◌+◌, ◌≤◌, ◌<◌, ◌^◌, Bool, true, leb, List, [], ◌∷◌, ◌++◌, length, get_or, Option, Some, None, Result, Ok, refl, sym, ap, subst, ◌∙◌, append_assoc}
+use Rattle.std.proofs.Common.{arith}
+use Rattle.std.specs.{Prelude.ok_or, Prelude.bytes_eq, Prelude.decimal, Prelude.map, List.flat_map, List.list_all, List.AllByRecursion, List.Sorted.IsStrictlyIncreasing}
+use Rattle.std.proofs.lemmas.{Bool.and_parts, Bool.leb-true, Bool.le-leb, Bool.ltb-true, Bool.lt-ltb, List.Concat.flat_map-cons, Slice.Eq.bytes_eq-Decides, Fmt.decimal_nonempty}
+use Rattle.std.proofs.lemmas.{Bool.Decides.nat_tests}
+use Rattle.oat_lines.specs.{Faults.at, Reading.◌>>=◌, Reading.guard, Reading.between, Decimal.decimal_of, Decimal.is_decimal_digit, Hexadecimal.hexadecimal, Hexadecimal.is_hexadecimal_digit}
+use Rattle.oat_lines.specs.{Fields.cut, Fields.two_fields, Fields.spaced, Fields.ended, Fields.is_visible, Fields.IsField}
+use Rattle.oat_lines.proofs.{Steps.ok_is, Steps.bind_ok, Steps.or_ok, Steps.guard_ok, Steps.at_ok, Hexadecimals.hexadecimal_digits, Hexadecimals.hexadecimal_length, Decimals.decimal_takes}
+use Rattle.oat_lines.proofs.{Decimals.decimal_again, Decimals.decimal_digits, Cutting.cut_takes, Cutting.cut_again, Cutting.two_take, Cutting.two_again, Cutting.two_within, Cutting.is_within_line}
+use Rattle.oat_image.specs.{declared.fault.ImageFaultKind.ImageFaultKind, declared.fault.ImageFaultKind.TheVariants.Token, declared.fault.ImageFaultKind.TheVariants.Number}
+use Rattle.oat_image.specs.{declared.fault.ImageFaultKind.TheVariants.Order, declared.fault.ImageFaultKind.TheVariants.Limit, Spelling.section_text, Grammar.IsSection, Rising.Rising}
+use Rattle.oat_image.specs.{Reading.Remainder, Reading.line_from, Reading.line_at, Reading.next_number, Reading.rises, Reading.item_at, Reading.items_at, Reading.number_within, Reading.count_of}
+use Rattle.oat_image.specs.{Reading.section_at, Reading.fixed_at}
 
 -- ---- words
 

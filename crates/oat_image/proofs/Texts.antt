@@ -2,10 +2,8 @@
 use Rattle.std.proofs.Common.{◌≡◌, ℕ, List, ◌++◌, append_assoc}
 use Rattle.std.specs.Prelude.{codes}
 use Rattle.oat_lines.specs.Fields.{ended}
-use Rattle.oat_image.specs.declared.image.Image.{Image}
-use Rattle.oat_image.specs.Spelling.{section_text}
-use Rattle.oat_image.specs.Grammar.{image_text, has_elements, version_line, code_line, data_line, cell_line, function_line, block_line, row_line}
-use Rattle.oat_image.specs.Printing.{memory_text, map_text}
+use Rattle.oat_image.specs.{declared.image.Image.Image, Spelling.section_text, Grammar.image_text, Grammar.has_elements, Grammar.version_line, Grammar.code_line, Grammar.data_line, Grammar.cell_line}
+use Rattle.oat_image.specs.{Grammar.function_line, Grammar.block_line, Grammar.row_line, Printing.memory_text, Printing.map_text}
 
 regroup : (t h c d x f b r e : List ℕ) → (((t ++ h) ++ (c ++ d ++ x)) ++ (f ++ b ++ r)) ++ e ≡ t ++ (h ++ c ++ d ++ x ++ f ++ b ++ r ++ e)
 regroup t h c d x f b r e = simp append_assoc

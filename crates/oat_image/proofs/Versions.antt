@@ -1,17 +1,11 @@
 -- Rows of elements are read in the second version alone, whose texts have one.
 use Rattle.std.proofs.Common.{◌≡◌, ℕ, Bool, true, false, not, ◌||◌, List, [], ◌∷◌, ◌++◌, Ok, Err, refl, ap, subst, ◌∙◌}
-use Rattle.std.specs.Prelude.{bytes_eq, if◌then◌else◌}
-use Rattle.std.specs.List.{AllByRecursion, list_all}
-use Rattle.oat_lines.specs.Faults.{at}
-use Rattle.oat_lines.specs.Reading.{◌>>=◌}
-use Rattle.oat_lines.specs.Fields.{ended}
-use Rattle.oat_lines.proofs.Steps.{bind_ok, ok_is, at_ok}
-use Rattle.oat_lines.proofs.Cutting.{is_within_line}
+use Rattle.std.specs.{Prelude.bytes_eq, Prelude.if◌then◌else◌, List.AllByRecursion, List.list_all}
+use Rattle.oat_lines.specs.{Faults.at, Reading.◌>>=◌, Fields.ended}
+use Rattle.oat_lines.proofs.{Steps.bind_ok, Steps.ok_is, Steps.at_ok, Cutting.is_within_line}
 use Rattle.oat_map.specs.declared.row.Row.{Row}
-use Rattle.oat_image.specs.declared.fault.ImageFaultKind.TheVariants.{Token}
-use Rattle.oat_image.specs.Grammar.{IsRow, is_of_element, has_elements, version_line}
-use Rattle.oat_image.specs.Reading.{Remainder, line_at, next_number}
-use Rattle.oat_image.specs.ImageReading.{version_of, version_at}
+use Rattle.oat_image.specs.{declared.fault.ImageFaultKind.TheVariants.Token, Grammar.IsRow, Grammar.is_of_element, Grammar.has_elements, Grammar.version_line, Reading.Remainder, Reading.line_at}
+use Rattle.oat_image.specs.{Reading.next_number, ImageReading.version_of, ImageReading.version_at}
 use Rattle.oat_image.proofs.Sections.{bytes_take, line_takes, line_again}
 
 -- ---- rows of a version

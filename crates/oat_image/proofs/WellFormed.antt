@@ -1,10 +1,7 @@
 -- An image is well formed where its two halves are in order.
 use Rattle.std.proofs.Common.{◌↔◌, None}
-use Rattle.oat_image.specs.declared.image.Image.{Image}
-use Rattle.oat_image.specs.Grammar.{IsWellFormedImage}
-use Rattle.oat_image.specs.WellFormed.{IsMemory, IsFlow}
-use Rattle.oat_image.proofs.Sections.{rising_unkeyed, strict_from_rising, rising_from_strict}
-use Rattle.oat_image.proofs.Images.{cells_same, same_cells}
+use Rattle.oat_image.specs.{declared.image.Image.Image, Grammar.IsWellFormedImage, WellFormed.IsMemory, WellFormed.IsFlow}
+use Rattle.oat_image.proofs.{Sections.rising_unkeyed, Sections.strict_from_rising, Sections.rising_from_strict, Images.cells_same, Images.same_cells}
 
 joined : (image : Image) → IsMemory image → IsFlow image → IsWellFormedImage image
 joined image memory flow = record {

@@ -1,19 +1,14 @@
 -- The image grammar: which images have a text, and the one text of each. Addresses and words of code are
 -- eight upper-case hexadecimal digits, values of data sixteen, and all other numbers are decimal.
 -- docs/FORMATS.md shows whole texts.
-use Rattle.std.specs.Prelude.{◌≡◌, ℕ, ◌^◌, ◌<◌, ◌≤◌, Bool, true, false, List, [], ◌∷◌, ◌++◌, length, map, codes, decimal}
-use Rattle.std.specs.List.{AllByRecursion, list_any}
-use Rattle.std.specs.List.Sorted.{IsStrictlyIncreasing}
-use Rattle.oat_lines.specs.Fields.{spaced, ended}
-use Rattle.oat_lines.specs.Hexadecimal.{hexadecimal}
-use Rattle.oat_map.specs.Name.{IsName}
-use Rattle.oat_map.specs.declared.map.Function.{Function}
-use Rattle.oat_map.specs.declared.map.Block.{Block}
-use Rattle.oat_map.specs.declared.row.Row.{Row}
-use Rattle.oat_map.specs.declared.row.Row.TheVariants.{Jump, Branch, Call, ICall, Ret, Begin, End, UseCell, DefCell, UseAt, DefAt, Check}
-use Rattle.oat_image.specs.declared.image.Image.{Image}
-use Rattle.oat_image.specs.declared.image.InitWord.{InitWord}
-use Rattle.oat_image.specs.Spelling.{section_text}
+use Rattle.std.specs.{Prelude.◌≡◌, Prelude.ℕ, Prelude.◌^◌, Prelude.◌<◌, Prelude.◌≤◌, Prelude.Bool, Prelude.true, Prelude.false, Prelude.List, Prelude.[], Prelude.◌∷◌, Prelude.◌++◌, Prelude.length}
+use Rattle.std.specs.{Prelude.map, Prelude.codes, Prelude.decimal, List.AllByRecursion, List.list_any, List.Sorted.IsStrictlyIncreasing}
+use Rattle.oat_lines.specs.{Fields.spaced, Fields.ended, Hexadecimal.hexadecimal}
+use Rattle.oat_map.specs.{Name.IsName, declared.map.Function.Function, declared.map.Block.Block, declared.row.Row.Row, declared.row.Row.TheVariants.Jump, declared.row.Row.TheVariants.Branch}
+use Rattle.oat_map.specs.{declared.row.Row.TheVariants.Call, declared.row.Row.TheVariants.ICall, declared.row.Row.TheVariants.Ret, declared.row.Row.TheVariants.Begin, declared.row.Row.TheVariants.End}
+use Rattle.oat_map.specs.{declared.row.Row.TheVariants.UseCell, declared.row.Row.TheVariants.DefCell, declared.row.Row.TheVariants.UseAt, declared.row.Row.TheVariants.DefAt}
+use Rattle.oat_map.specs.{declared.row.Row.TheVariants.Check}
+use Rattle.oat_image.specs.{declared.image.Image.Image, declared.image.InitWord.InitWord, Spelling.section_text}
 
 -- ---- the lines of the sections
 

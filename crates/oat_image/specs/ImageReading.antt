@@ -1,18 +1,11 @@
 -- The image or the first fault of a whole text (docs/FORMATS.md).
 use Rattle.std.specs.Prelude.{ℕ, Bool, true, false, not, ◌||◌, List, length, codes, Result, Ok, Err, ◌==◌, bytes_eq, if◌then◌else◌}
-use Rattle.oat_lines.specs.declared.fault.Fault.{Fault}
-use Rattle.oat_lines.specs.Faults.{at}
-use Rattle.oat_lines.specs.Reading.{◌>>=◌, guard}
-use Rattle.oat_map.specs.declared.map.Map.{Map}
-use Rattle.oat_map.specs.declared.row.Row.{Row}
-use Rattle.oat_image.specs.declared.image.Image.{Image}
-use Rattle.oat_image.specs.declared.image.InitWord.{InitWord}
-use Rattle.oat_image.specs.declared.fault.ImageFaultKind.{ImageFaultKind}
-use Rattle.oat_image.specs.declared.fault.ImageFaultKind.TheVariants.{Token}
-use Rattle.oat_image.specs.Grammar.{version_line, has_elements}
-use Rattle.oat_image.specs.Reading.{Remainder, line_at, section_at, fixed_at}
-use Rattle.oat_image.specs.LineReading.{block_of, cell_key, cell_of, code_of, data_of, entry_key, function_of, index_key, no_key, start_key}
-use Rattle.oat_image.specs.RowReading.{row_of}
+use Rattle.oat_lines.specs.{declared.fault.Fault.Fault, Faults.at, Reading.◌>>=◌, Reading.guard}
+use Rattle.oat_map.specs.{declared.map.Map.Map, declared.row.Row.Row}
+use Rattle.oat_image.specs.{declared.image.Image.Image, declared.image.InitWord.InitWord, declared.fault.ImageFaultKind.ImageFaultKind, declared.fault.ImageFaultKind.TheVariants.Token}
+use Rattle.oat_image.specs.{Grammar.version_line, Grammar.has_elements, Reading.Remainder, Reading.line_at, Reading.section_at, Reading.fixed_at, LineReading.block_of, LineReading.cell_key}
+use Rattle.oat_image.specs.{LineReading.cell_of, LineReading.code_of, LineReading.data_of, LineReading.entry_key, LineReading.function_of, LineReading.index_key, LineReading.no_key}
+use Rattle.oat_image.specs.{LineReading.start_key, RowReading.row_of}
 
 -- whether the first line is that of the second version
 abbrev pub version_of : List ℕ → Result Bool ImageFaultKind

@@ -1,16 +1,10 @@
 -- What the lines of code, data, cells, functions and blocks say, with the first fault of a line (docs/FORMATS.md).
 -- In a line a wrong word or spacing comes first, then a wrong number, then an index or address that doesn't rise.
 use Rattle.std.specs.Prelude.{ℕ, Bool, List, Option, Some, None, ok_or, Result, Ok, nat_lt, ◌==◌}
-use Rattle.oat_lines.specs.Reading.{◌>>=◌, guard, between}
-use Rattle.oat_lines.specs.Decimal.{decimal_of}
-use Rattle.oat_lines.specs.Hexadecimal.{hexadecimal_of}
-use Rattle.oat_lines.specs.Fields.{one_field, two_fields, four_fields}
-use Rattle.oat_map.specs.Name.{read_name}
-use Rattle.oat_map.specs.declared.map.Function.{Function}
-use Rattle.oat_map.specs.declared.map.Block.{Block}
-use Rattle.oat_image.specs.declared.image.InitWord.{InitWord}
-use Rattle.oat_image.specs.declared.fault.ImageFaultKind.{ImageFaultKind}
-use Rattle.oat_image.specs.declared.fault.ImageFaultKind.TheVariants.{Token, Number}
+use Rattle.oat_lines.specs.{Reading.◌>>=◌, Reading.guard, Reading.between, Decimal.decimal_of, Hexadecimal.hexadecimal_of, Fields.one_field, Fields.two_fields, Fields.four_fields}
+use Rattle.oat_map.specs.{Name.read_name, declared.map.Function.Function, declared.map.Block.Block}
+use Rattle.oat_image.specs.{declared.image.InitWord.InitWord, declared.fault.ImageFaultKind.ImageFaultKind, declared.fault.ImageFaultKind.TheVariants.Token}
+use Rattle.oat_image.specs.{declared.fault.ImageFaultKind.TheVariants.Number}
 
 -- ---- words
 

@@ -1,9 +1,7 @@
 -- A text that is handed over piece by piece: to a hasher, or to a vector that grows (docs/FORMATS.md). These are words
 -- of this project's own.
 use Rattle.std.specs.Prelude.{ℕ, List, ◌++◌, codes}
-use Rattle.oat_image.specs.declared.image.Image.{Image}
-use Rattle.oat_image.specs.Spelling.{section_text}
-use Rattle.oat_image.specs.Grammar.{code_line, data_line, cell_line, function_line, block_line, row_line}
+use Rattle.oat_image.specs.{declared.image.Image.Image, Spelling.section_text, Grammar.code_line, Grammar.data_line, Grammar.cell_line, Grammar.function_line, Grammar.block_line, Grammar.row_line}
 
 -- what held a text, holds it with the piece behind it
 abbrev pub Takes : {R : Type 0} → (R → List ℕ → Type 0) → List ℕ → R → R → Type 0

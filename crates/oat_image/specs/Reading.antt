@@ -1,13 +1,9 @@
 -- Reading a text line by line, section by section, with the first fault that is met and its line (docs/FORMATS.md).
 use Rattle.std.specs.Prelude.{ℕ, zero, suc, ◌+◌, ◌-◌, ◌^◌, min, Bool, true, List, [], ◌∷◌, Option, Some, None, ok_or, Result, Ok, Err, nat_lt, bytes_eq}
-use Rattle.oat_lines.specs.declared.fault.Fault.{Fault}
-use Rattle.oat_lines.specs.declared.fault.Fault.TheVariants.{At}
-use Rattle.oat_lines.specs.Faults.{at}
-use Rattle.oat_lines.specs.Reading.{◌>>=◌, guard, between}
-use Rattle.oat_lines.specs.Decimal.{decimal_of}
-use Rattle.oat_lines.specs.Fields.{cut, two_fields}
-use Rattle.oat_image.specs.declared.fault.ImageFaultKind.{ImageFaultKind}
-use Rattle.oat_image.specs.declared.fault.ImageFaultKind.TheVariants.{Token, Number, Order, Limit}
+use Rattle.oat_lines.specs.{declared.fault.Fault.Fault, declared.fault.Fault.TheVariants.At, Faults.at, Reading.◌>>=◌, Reading.guard, Reading.between, Decimal.decimal_of, Fields.cut}
+use Rattle.oat_lines.specs.{Fields.two_fields}
+use Rattle.oat_image.specs.{declared.fault.ImageFaultKind.ImageFaultKind, declared.fault.ImageFaultKind.TheVariants.Token, declared.fault.ImageFaultKind.TheVariants.Number}
+use Rattle.oat_image.specs.{declared.fault.ImageFaultKind.TheVariants.Order, declared.fault.ImageFaultKind.TheVariants.Limit}
 
 -- what is left of a text, and the number of its first line
 pub record Remainder : Type 0 where

@@ -1,20 +1,15 @@
 -- What the lines of rows say in each version of the text, with the first fault of a line (docs/FORMATS.md).
 use Rattle.std.specs.Prelude.{ℕ, Bool, true, List, codes, Option, Some, None, ok_or, Result, Ok, bytes_eq, if◌then◌else◌}
-use Rattle.oat_lines.specs.Reading.{◌>>=◌, guard}
-use Rattle.oat_lines.specs.Fields.{one_field, field_and_rest, two_fields, three_fields}
-use Rattle.oat_map.specs.declared.row.Row.{Row}
-use Rattle.oat_map.specs.declared.row.Row.TheVariants.{Jump, Branch, Call, ICall, Ret, Begin, End, UseCell, DefCell, UseAt, DefAt, Check}
-use Rattle.oat_image.specs.declared.fault.ImageFaultKind.{ImageFaultKind}
-use Rattle.oat_image.specs.declared.fault.ImageFaultKind.TheVariants.{Token}
-use Rattle.oat_image.specs.declared.keyword.RowKind.{RowKind}
-use Rattle.oat_image.specs.declared.keyword.RowKind.TheVariants.{Edge, Point, Element}
-use Rattle.oat_image.specs.declared.keyword.EdgeKind.{EdgeKind}
+use Rattle.oat_lines.specs.{Reading.◌>>=◌, Reading.guard, Fields.one_field, Fields.field_and_rest, Fields.two_fields, Fields.three_fields}
+use Rattle.oat_map.specs.{declared.row.Row.Row, declared.row.Row.TheVariants.Jump, declared.row.Row.TheVariants.Branch, declared.row.Row.TheVariants.Call, declared.row.Row.TheVariants.ICall}
+use Rattle.oat_map.specs.{declared.row.Row.TheVariants.Ret, declared.row.Row.TheVariants.Begin, declared.row.Row.TheVariants.End, declared.row.Row.TheVariants.UseCell}
+use Rattle.oat_map.specs.{declared.row.Row.TheVariants.DefCell, declared.row.Row.TheVariants.UseAt, declared.row.Row.TheVariants.DefAt, declared.row.Row.TheVariants.Check}
+use Rattle.oat_image.specs.{declared.fault.ImageFaultKind.ImageFaultKind, declared.fault.ImageFaultKind.TheVariants.Token, declared.keyword.RowKind.RowKind, declared.keyword.RowKind.TheVariants.Edge}
+use Rattle.oat_image.specs.{declared.keyword.RowKind.TheVariants.Point, declared.keyword.RowKind.TheVariants.Element, declared.keyword.EdgeKind.EdgeKind, declared.keyword.PointKind.PointKind}
+use Rattle.oat_image.specs.{declared.element.ElementKind.ElementKind, LineReading.eight_digits, LineReading.number_in}
 use Rattle.oat_image.specs.declared.keyword.EdgeKind.TheVariants as edges
-use Rattle.oat_image.specs.declared.keyword.PointKind.{PointKind}
 use Rattle.oat_image.specs.declared.keyword.PointKind.TheVariants as points
-use Rattle.oat_image.specs.declared.element.ElementKind.{ElementKind}
 use Rattle.oat_image.specs.declared.element.ElementKind.TheVariants as elements
-use Rattle.oat_image.specs.LineReading.{eight_digits, number_in}
 
 abbrev pub kind_of : List ℕ → Option RowKind
 kind_of word =

@@ -1,10 +1,8 @@
 -- The two halves of a well-formed image, which are tested one after the other (docs/FORMATS.md). The keys are those of
 -- reading.
 use Rattle.std.specs.Prelude.{ℕ, List, Option, None}
-use Rattle.oat_image.specs.declared.image.Image.{Image}
-use Rattle.oat_image.specs.Grammar.{IsWord, IsInitWord, IsIndex, IsFunction, IsBlock, IsRow, IsSection}
-use Rattle.oat_image.specs.LineReading.{no_key, index_key, cell_key, entry_key, start_key}
-use Rattle.oat_image.specs.Rising.{Rising}
+use Rattle.oat_image.specs.{declared.image.Image.Image, Grammar.IsWord, Grammar.IsInitWord, Grammar.IsIndex, Grammar.IsFunction, Grammar.IsBlock, Grammar.IsRow, Grammar.IsSection, LineReading.no_key}
+use Rattle.oat_image.specs.{LineReading.index_key, LineReading.cell_key, LineReading.entry_key, LineReading.start_key, Rising.Rising}
 
 -- so many items, each in its ranges and above the one before
 abbrev pub IsInOrder : {X : Type 0} → (X → Type 0) → (X → Option ℕ) → ℕ → ℕ → List X → Type 0

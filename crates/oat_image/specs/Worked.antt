@@ -1,9 +1,7 @@
 -- The smallest image with a jump, and its text: an operation that jumps to the block behind it, and ends (docs/FORMATS.md).
-use Rattle.std.specs.Prelude.{ℕ, List, [], ◌∷◌, codes, false}
-use Rattle.std.specs.List.{flat_map}
+use Rattle.std.specs.{Prelude.ℕ, Prelude.List, Prelude.[], Prelude.◌∷◌, Prelude.codes, Prelude.false, List.flat_map}
 use Rattle.oat_lines.specs.Fields.{ended}
-use Rattle.oat_map.specs.declared.map.Map.{Map}
-use Rattle.oat_map.specs.declared.row.Row.TheVariants.{Jump, Begin, End}
+use Rattle.oat_map.specs.{declared.map.Map.Map, declared.row.Row.TheVariants.Jump, declared.row.Row.TheVariants.Begin, declared.row.Row.TheVariants.End}
 use Rattle.oat_image.specs.declared.image.Image.{Image}
 
 abbrev pub one_jump_map : Map

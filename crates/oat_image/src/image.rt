@@ -1,5 +1,4 @@
-use oat_list::Listed;
-use oat_map::Map;
+use oat_map::{Listed, Map};
 
 /// A word of global data that isn't zero at the start. The word `index` is the
 /// eight bytes from `0x4000_0000 + 8 * index` on.

@@ -19,5 +19,6 @@ pub mod worked;
 
 pub use fault::{ImageFault, ImageFaultKind};
 pub use image::{Image, InitWord};
+pub use oat_map::{Function, Name, Row};
 pub use printing::{image_digest, print_image};
 pub use reading::read_image;

@@ -13,8 +13,7 @@ use crate::line::{BlockLine, CellLine, CodeLine, DataLine, FunctionLine};
 use crate::row::RowLine;
 use crate::text::{Text, read_fixed, read_section};
 use crate::version::{has_elements, read_version};
-use oat_list::Listed;
-use oat_map::{Map, Row};
+use oat_map::{Listed, Map, Row};
 use std::alloc::Global;
 
 /// The most words of code, and so the most items that have an address each.

@@ -5,8 +5,7 @@ ghost use Rattle.oat_asm.specs.declared.mark.Mark.TheVariants as mark;
 ghost use Rattle.oat_asm.specs.Expansion.{group};
 
 use crate::instructions::{movz, push_global_address, svc};
-use oat_a64::Inst;
-use oat_asm::Item;
+use oat_asm::{Inst, Item};
 use std::alloc::AllocError;
 
 pub(crate) fn push_use_group(out: &mut Vec<Item>, cell: u16, index: u32) -> Result<(), AllocError>

@@ -1,14 +1,13 @@
 //! Groups of uses and defines of elements of critical arrays. X12 has the element's number.
 
 ghost use Rattle.std.specs.Prelude.{◌≡◌, [], ◌∷◌, ◌++◌, ◌<◌, OnOk};
-ghost use Rattle.oat_a64.specs.declared.inst.Inst.TheVariants as inst;
+ghost use Rattle.oat_asm.specs.inst as inst;
 ghost use Rattle.oat_asm.specs.declared.mark.Mark.TheVariants as mark;
 ghost use Rattle.oat_asm.specs.declared.item.Item.TheVariants as item;
 ghost use Rattle.oat_asm.specs.Expansion.{element_test, group};
 
 use crate::instructions::{movz, push_global_address, svc};
-use oat_a64::Inst;
-use oat_asm::Item;
+use oat_asm::{Inst, Item};
 use std::alloc::AllocError;
 
 pub(crate) fn push_use_at_group(

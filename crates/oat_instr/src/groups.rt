@@ -1,7 +1,7 @@
 //! The groups of marks' rows.
 
 ghost use Rattle.std.specs.Prelude.{◌≡◌, [], ◌∷◌, ◌++◌, OnOk};
-ghost use Rattle.oat_a64.specs.declared.inst.Inst.TheVariants as inst;
+ghost use Rattle.oat_asm.specs.inst as inst;
 ghost use Rattle.oat_asm.specs.declared.mark.Mark.TheVariants as mark;
 ghost use Rattle.oat_asm.specs.declared.item.Item.TheVariants as item;
 ghost use Rattle.oat_asm.specs.Expansion.{group};
@@ -10,8 +10,7 @@ ghost use Rattle.oat_asm.specs.ExpansionLaws.{IsMark};
 use crate::cells::{push_define_group, push_use_group};
 use crate::elements::{push_define_at_group, push_use_at_group};
 use crate::instructions::{movz, svc};
-use oat_a64::Inst;
-use oat_asm::{BranchForm, Item, Mark};
+use oat_asm::{BranchForm, Inst, Item, Mark};
 use std::alloc::AllocError;
 
 /// The group of a mark's row.

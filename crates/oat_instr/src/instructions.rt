@@ -1,13 +1,12 @@
 //! The instructions that groups share.
 
 ghost use Rattle.std.specs.Prelude.{◌≡◌, ◌++◌, ◌<◌, map, OnOk};
-ghost use Rattle.oat_mem.specs.DataMemory.{global_address};
-ghost use Rattle.oat_a64.specs.declared.inst.Inst.TheVariants as inst;
+ghost use Rattle.oat_asm.specs.{global_address};
+ghost use Rattle.oat_asm.specs.inst as inst;
 ghost use Rattle.oat_asm.specs.declared.item.Item.TheVariants as item;
 ghost use Rattle.oat_asm.specs.Layout.{puts};
 
-use oat_a64::Inst;
-use oat_asm::{Item, puts};
+use oat_asm::{Inst, Item, puts};
 use oat_mem::GLOBAL_BASE;
 use std::alloc::AllocError;
 

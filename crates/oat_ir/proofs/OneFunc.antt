@@ -1,15 +1,10 @@
 -- Functions that are told apart stand at one place.
 use Rattle.std.proofs.Common.{◌≡◌, ℕ, refl, sym, ◌∙◌, subst}
 use Rattle.std.specs.Prelude.{slice_get, Some, codes, true}
-use Rattle.std.proofs.lemmas.Bool.{eq-eqb}
-use Rattle.std.proofs.lemmas.Slice.Eq.{bytes_eq-Decides}
-use Rattle.oat_ir.specs.declared.program.Program.{Program}
-use Rattle.oat_ir.specs.declared.func.Func.{Func}
-use Rattle.oat_ir.specs.declared.func.Role.{Role}
-use Rattle.oat_ir.specs.declared.func.Role.TheVariants.{Main, Operation}
-use Rattle.oat_ir.specs.Distinct.{have_one_name, have_one_operation}
-use Rattle.oat_ir.specs.Laws.{NameIsOneFunc, MainIsOneFunc, OperationIsOneFunc}
-use Rattle.oat_ir.specs.WellFormed.{IsProgram, IsFunc, IsRole}
+use Rattle.std.proofs.lemmas.{Bool.eq-eqb, Slice.Eq.bytes_eq-Decides}
+use Rattle.oat_ir.specs.{declared.program.Program.Program, declared.func.Func.Func, declared.func.Role.Role, declared.func.Role.TheVariants.Main, declared.func.Role.TheVariants.Operation}
+use Rattle.oat_ir.specs.{Distinct.have_one_name, Distinct.have_one_operation, Laws.NameIsOneFunc, Laws.MainIsOneFunc, Laws.OperationIsOneFunc, WellFormed.IsProgram, WellFormed.IsFunc}
+use Rattle.oat_ir.specs.{WellFormed.IsRole}
 use Rattle.oat_ir.proofs.Places.{one_place, each_at}
 
 pub by_name : NameIsOneFunc

@@ -1,10 +1,8 @@
 -- Lists whose items are told apart.
 use Rattle.std.proofs.Common.{◌≡◌, ◌↔◌, ℕ, ◌<◌, Bool, true, false, List, [], ◌∷◌, length, get_or, Some, refl, sym, ◌∙◌, ap, subst, inl, inr, arith}
-use Rattle.std.specs.Prelude.{IsTrue}
-use Rattle.std.specs.List.{slice_get, All, AllByRecursion, IsDistinct}
-use Rattle.std.proofs.lemmas.Bool.{cases_lt, false≢true, both_ways}
-use Rattle.std.proofs.lemmas.Map.Keys.{apart_from_distinct, IsDistinct-cons, IsDistinct-head, IsDistinct-tail}
-use Rattle.std.proofs.lemmas.Option.{slice_get_within, get_or_from_slice_get}
+use Rattle.std.specs.{Prelude.IsTrue, List.slice_get, List.All, List.AllByRecursion, List.IsDistinct}
+use Rattle.std.proofs.lemmas.{Bool.cases_lt, Bool.false≢true, Bool.both_ways, Map.Keys.apart_from_distinct, Map.Keys.IsDistinct-cons, Map.Keys.IsDistinct-head, Map.Keys.IsDistinct-tail}
+use Rattle.std.proofs.lemmas.{Option.slice_get_within, Option.get_or_from_slice_get}
 
 -- the items behind one that is unlike them
 pub rest_alike : {X : Type 0} (e : X → X → Bool) (xs rest items : List X) (x : X) (b : Bool) → b ≡ true → xs ≡ x ∷ rest

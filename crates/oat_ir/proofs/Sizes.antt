@@ -1,8 +1,7 @@
 -- The room behind a list of things.
 use Rattle.std.proofs.Common.{◌≡◌, ℕ, ◌+◌, ◌<◌, List, Some, take, ap, arith}
 use Rattle.std.specs.List.{slice_get, sum_by}
-use Rattle.std.proofs.lemmas.List.Sums.{sum_by_more_le}
-use Rattle.std.proofs.lemmas.Option.{slice_get_within, get_or_from_slice_get}
+use Rattle.std.proofs.lemmas.{List.Sums.sum_by_more_le, Option.slice_get_within, Option.get_or_from_slice_get}
 
 -- an item for which there is too little room
 pub is_over : {X : Type 0} (f : X → ℕ) (xs : List X) (i room left : ℕ) (x : X) → slice_get xs i ≡ Some x

@@ -1,13 +1,8 @@
 -- What two items of a program may not have in common (docs/FORMATS.md, "Program text").
-use Rattle.std.specs.Prelude.{ℕ, Bool, false, ◌==◌, List}
-use Rattle.std.specs.Str.{bytes_eq}
-use Rattle.oat_ir.specs.declared.program.GlobalItem.{GlobalItem}
-use Rattle.oat_ir.specs.declared.program.GlobalItem.TheVariants.{Scalar, FnScalar, Array, CriticalArray}
-use Rattle.oat_ir.specs.declared.func.Func.{Func}
-use Rattle.oat_ir.specs.declared.func.Role.{Role}
-use Rattle.oat_ir.specs.declared.func.Role.TheVariants.{Operation}
-use Rattle.oat_ir.specs.declared.func.Local.{Local}
-use Rattle.oat_ir.specs.declared.func.BlockIr.{BlockIr}
+use Rattle.std.specs.{Prelude.ℕ, Prelude.Bool, Prelude.false, Prelude.◌==◌, Prelude.List, Str.bytes_eq}
+use Rattle.oat_ir.specs.{declared.program.GlobalItem.GlobalItem, declared.program.GlobalItem.TheVariants.Scalar, declared.program.GlobalItem.TheVariants.FnScalar}
+use Rattle.oat_ir.specs.{declared.program.GlobalItem.TheVariants.Array, declared.program.GlobalItem.TheVariants.CriticalArray, declared.func.Func.Func, declared.func.Role.Role}
+use Rattle.oat_ir.specs.{declared.func.Role.TheVariants.Operation, declared.func.Local.Local, declared.func.BlockIr.BlockIr}
 
 abbrev pub global_name : GlobalItem → List ℕ
 global_name (Scalar name start critical) = name

@@ -1,12 +1,11 @@
 -- What the operands of an instruction or terminator name (docs/FORMATS.md, "Program text"): an index is below the number
 -- of the things of its kind.
 use Rattle.std.specs.Prelude.{ℕ, ◌<◌, ◌≤◌, List, length, All}
-use Rattle.oat_ir.specs.declared.program.Program.{Program}
-use Rattle.oat_ir.specs.declared.func.Func.{Func}
-use Rattle.oat_ir.specs.declared.instr.Instr.{Instr}
-use Rattle.oat_ir.specs.declared.instr.Instr.TheVariants.{Const, Copy, Binary, Load, Store, LoadX, StoreX, RefTo, Call, ICall, Input, Output}
-use Rattle.oat_ir.specs.declared.instr.Term.{Term}
-use Rattle.oat_ir.specs.declared.instr.Term.TheVariants.{Jump, Branch, Ret, Halt}
+use Rattle.oat_ir.specs.{declared.program.Program.Program, declared.func.Func.Func, declared.instr.Instr.Instr, declared.instr.Instr.TheVariants.Const, declared.instr.Instr.TheVariants.Copy}
+use Rattle.oat_ir.specs.{declared.instr.Instr.TheVariants.Binary, declared.instr.Instr.TheVariants.Load, declared.instr.Instr.TheVariants.Store, declared.instr.Instr.TheVariants.LoadX}
+use Rattle.oat_ir.specs.{declared.instr.Instr.TheVariants.StoreX, declared.instr.Instr.TheVariants.RefTo, declared.instr.Instr.TheVariants.Call, declared.instr.Instr.TheVariants.ICall}
+use Rattle.oat_ir.specs.{declared.instr.Instr.TheVariants.Input, declared.instr.Instr.TheVariants.Output, declared.instr.Term.Term, declared.instr.Term.TheVariants.Jump}
+use Rattle.oat_ir.specs.{declared.instr.Term.TheVariants.Branch, declared.instr.Term.TheVariants.Ret, declared.instr.Term.TheVariants.Halt}
 
 abbrev pub HasGlobal : Program → ℕ → Type 0
 HasGlobal program global = global < length program.globals

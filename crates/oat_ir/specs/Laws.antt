@@ -1,9 +1,6 @@
 -- What the definition of a well-formed program says besides (docs/FORMATS.md, "Program text").
 use Rattle.std.specs.Prelude.{ℕ, ◌≡◌, slice_get, Some}
-use Rattle.oat_ir.specs.declared.program.Program.{Program}
-use Rattle.oat_ir.specs.declared.func.Func.{Func}
-use Rattle.oat_ir.specs.declared.func.Role.TheVariants.{Main, Operation}
-use Rattle.oat_ir.specs.WellFormed.{IsProgram}
+use Rattle.oat_ir.specs.{declared.program.Program.Program, declared.func.Func.Func, declared.func.Role.TheVariants.Main, declared.func.Role.TheVariants.Operation, WellFormed.IsProgram}
 
 -- functions of one name are one function
 abbrev pub NameIsOneFunc : Type 0

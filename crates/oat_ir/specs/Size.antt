@@ -1,10 +1,7 @@
 -- How many things a program is made of (docs/FORMATS.md, "Program text"): globals, functions, locals, blocks,
 -- instructions and terminators.
-use Rattle.std.specs.Prelude.{ℕ, ◌≡◌, ◌+◌, ◌*◌, ◌<◌, length, Option, Some, None}
-use Rattle.std.specs.List.{sum_by}
-use Rattle.oat_ir.specs.declared.program.Program.{Program}
-use Rattle.oat_ir.specs.declared.func.Func.{Func}
-use Rattle.oat_ir.specs.declared.func.BlockIr.{BlockIr}
+use Rattle.std.specs.{Prelude.ℕ, Prelude.◌≡◌, Prelude.◌+◌, Prelude.◌*◌, Prelude.◌<◌, Prelude.length, Prelude.Option, Prelude.Some, Prelude.None, List.sum_by}
+use Rattle.oat_ir.specs.{declared.program.Program.Program, declared.func.Func.Func, declared.func.BlockIr.BlockIr}
 
 -- the block itself, its terminator, and its instructions
 abbrev pub block_size : BlockIr → ℕ

@@ -1,20 +1,11 @@
 -- Which values of the program types are programs (docs/FORMATS.md, "Program text"): indices name something, names are
 -- told apart, and numbers are in their ranges. What the checking rules ask besides is not part of it.
-use Rattle.std.specs.Prelude.{◌≡◌, ◌≤◌, length, codes, All}
-use Rattle.std.specs.List.{IsDistinct}
-use Rattle.oat_ir.specs.declared.program.Program.{Program}
-use Rattle.oat_ir.specs.declared.program.GlobalItem.{GlobalItem}
-use Rattle.oat_ir.specs.declared.program.GlobalItem.TheVariants.{Scalar, FnScalar, Array, CriticalArray}
-use Rattle.oat_ir.specs.declared.func.Func.{Func}
-use Rattle.oat_ir.specs.declared.func.Role.{Role}
-use Rattle.oat_ir.specs.declared.func.Role.TheVariants.{Plain, Operation, Main}
-use Rattle.oat_ir.specs.declared.func.Ty.{Ty}
-use Rattle.oat_ir.specs.declared.func.Ty.TheVariants.{I64, Fn}
-use Rattle.oat_ir.specs.declared.func.Local.{Local}
-use Rattle.oat_ir.specs.declared.func.BlockIr.{BlockIr}
-use Rattle.oat_ir.specs.Distinct.{are_one_global, have_one_name, have_one_operation, are_one_local, have_one_label}
-use Rattle.oat_ir.specs.Indices.{IsInstr, IsTerm}
-use Rattle.oat_ir.specs.Size.{program_size}
+use Rattle.std.specs.{Prelude.◌≡◌, Prelude.◌≤◌, Prelude.length, Prelude.codes, Prelude.All, List.IsDistinct}
+use Rattle.oat_ir.specs.{declared.program.Program.Program, declared.program.GlobalItem.GlobalItem, declared.program.GlobalItem.TheVariants.Scalar, declared.program.GlobalItem.TheVariants.FnScalar}
+use Rattle.oat_ir.specs.{declared.program.GlobalItem.TheVariants.Array, declared.program.GlobalItem.TheVariants.CriticalArray, declared.func.Func.Func, declared.func.Role.Role}
+use Rattle.oat_ir.specs.{declared.func.Role.TheVariants.Plain, declared.func.Role.TheVariants.Operation, declared.func.Role.TheVariants.Main, declared.func.Ty.Ty, declared.func.Ty.TheVariants.I64}
+use Rattle.oat_ir.specs.{declared.func.Ty.TheVariants.Fn, declared.func.Local.Local, declared.func.BlockIr.BlockIr, Distinct.are_one_global, Distinct.have_one_name, Distinct.have_one_operation}
+use Rattle.oat_ir.specs.{Distinct.are_one_local, Distinct.have_one_label, Indices.IsInstr, Indices.IsTerm, Size.program_size}
 
 -- the numbers of a global are in their ranges
 abbrev pub IsGlobal : GlobalItem → Type 0

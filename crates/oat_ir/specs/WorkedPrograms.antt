@@ -1,14 +1,11 @@
 -- Worked programs: an operation that does nothing, and an attested loop.
 use Rattle.std.specs.Prelude.{ℕ, pos, true, false, List, [], ◌∷◌, codes, map}
-use Rattle.oat_ir.specs.declared.program.Program.{Program}
-use Rattle.oat_ir.specs.declared.program.GlobalItem.TheVariants.{Scalar}
-use Rattle.oat_ir.specs.declared.func.Func.{Func}
-use Rattle.oat_ir.specs.declared.func.Role.TheVariants.{Plain, Operation, Main}
-use Rattle.oat_ir.specs.declared.func.Ty.TheVariants.{I64}
-use Rattle.oat_ir.specs.declared.func.Local.{Local}
-use Rattle.oat_ir.specs.declared.instr.BinOp.TheVariants.{Add, Mul, Lt}
-use Rattle.oat_ir.specs.declared.instr.Instr.TheVariants.{Const, Binary, Load, Store, Call, Input, Output}
-use Rattle.oat_ir.specs.declared.instr.Term.TheVariants.{Jump, Branch, Ret, Halt}
+use Rattle.oat_ir.specs.{declared.program.Program.Program, declared.program.GlobalItem.TheVariants.Scalar, declared.func.Func.Func, declared.func.Role.TheVariants.Plain}
+use Rattle.oat_ir.specs.{declared.func.Role.TheVariants.Operation, declared.func.Role.TheVariants.Main, declared.func.Ty.TheVariants.I64, declared.func.Local.Local}
+use Rattle.oat_ir.specs.{declared.instr.BinOp.TheVariants.Add, declared.instr.BinOp.TheVariants.Mul, declared.instr.BinOp.TheVariants.Lt, declared.instr.Instr.TheVariants.Const}
+use Rattle.oat_ir.specs.{declared.instr.Instr.TheVariants.Binary, declared.instr.Instr.TheVariants.Load, declared.instr.Instr.TheVariants.Store, declared.instr.Instr.TheVariants.Call}
+use Rattle.oat_ir.specs.{declared.instr.Instr.TheVariants.Input, declared.instr.Instr.TheVariants.Output, declared.instr.Term.TheVariants.Jump, declared.instr.Term.TheVariants.Branch}
+use Rattle.oat_ir.specs.{declared.instr.Term.TheVariants.Ret, declared.instr.Term.TheVariants.Halt}
 
 -- locals of numbers
 abbrev pub numbers : List (List ℕ) → List Local

@@ -1,6 +1,5 @@
 use crate::instr::{Instr, Term};
-use oat_list::Listed;
-use oat_map::Name;
+use oat_map::{Listed, Name};
 
 /// A function. Its parameters are the first of its locals, and its first block is entered first.
 #[derive(Drop)]

@@ -15,5 +15,6 @@ mod well_formed;
 pub use args::Args;
 pub use func::{BlockIr, Func, Local, Role, Ty};
 pub use instr::{BinOp, Instr, Term};
+pub use oat_map::{Listed, TrapKind};
 pub use program::{GlobalItem, Program};
 pub use source::{CriticalLoad, SourceEdge, SourceEnd, SourceSite};

@@ -2,8 +2,7 @@ ghost use Rattle.std.specs.Prelude.{◌≡◌};
 ghost use Rattle.oat_ir.specs.Distinct.{global_name};
 
 use crate::func::Func;
-use oat_list::Listed;
-use oat_map::Name;
+use oat_map::{Listed, Name};
 
 /// A program of the source language.
 ///

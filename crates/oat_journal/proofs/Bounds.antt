@@ -1,20 +1,16 @@
 -- Registers keep 64 bits and memory keeps bytes, whatever is given and written.
-use Rattle.std.proofs.Common.{◌≡◌, ◌+◌, ◌^◌, ◌<◌, ◌==◌, ◌&&◌, ℕ, zero, suc, ℤ, pos, negsuc, Bool, true, false, cond, eqb, ltb, List, [], ◌∷◌, slice_get, slice_index, Option, Some, None, refl, sym, subst, ◌∙◌, arith, lit<, FitsSigned}
-use Rattle.std.specs.Int.{w64}
-use Rattle.std.specs.List.{filter, fold, All}
-use Rattle.oat_mem.specs.DataMemory.{with_bytes, with_word, IsBytes, global_address}
+use Rattle.std.proofs.Common.{◌≡◌, ◌+◌, ◌^◌, ◌<◌, ◌==◌, ◌&&◌, ℕ, zero, suc, ℤ, pos, negsuc, Bool, true, false, cond, eqb, ltb, List, [], ◌∷◌, slice_get, slice_index, Option, Some, None, refl, sym}
+use Rattle.std.proofs.Common.{subst, ◌∙◌, arith, lit<, FitsSigned}
+use Rattle.std.specs.{Int.w64, List.filter, List.fold, List.All}
 use Rattle.oat_mem.proofs.Words.{memory_stays_bytes}
-use Rattle.oat_a64.specs.declared.event.Event.{Event}
-use Rattle.oat_a64.specs.declared.event.Event.TheVariants as event
-use Rattle.oat_a64.specs.Step.{Regs, Machine, IsBounded, set, unsigned, step}
 use Rattle.oat_a64.proofs.StepBounds.{step_keeps_bounds}
+use Rattle.oat_image.specs.{declared.image.Image.Image, declared.image.InitWord.InitWord}
 use Rattle.oat_case.specs.declared.case.Write.{Write}
-use Rattle.oat_image.specs.declared.image.Image.{Image}
-use Rattle.oat_image.specs.declared.image.InitWord.{InitWord}
-use Rattle.oat_journal.specs.declared.end.DeviceEnd.{DeviceEnd}
-use Rattle.oat_journal.specs.Run.{Running, Entry, IsWrite, start_memory, started, poked, found, told, with_input, makes, turn, unless_ended, entry, from_entry, journal_from}
-use Rattle.oat_journal.specs.Journal.{IsEntryBounded, JournalIsBounded}
+use Rattle.oat_measure.specs.{with_bytes, with_word, IsBytes, global_address, Event, Regs, Machine, IsBounded, set, unsigned, step}
+use Rattle.oat_journal.specs.{declared.end.DeviceEnd.DeviceEnd, Run.Running, Run.Entry, Run.IsWrite, Run.start_memory, Run.started, Run.poked, Run.found, Run.told, Run.with_input, Run.makes, Run.turn}
+use Rattle.oat_journal.specs.{Run.unless_ended, Run.entry, Run.from_entry, Run.journal_from, Journal.IsEntryBounded, Journal.JournalIsBounded}
 use Rattle.oat_journal.proofs.Turns.{EntryIs, entry-is}
+use Rattle.oat_a64.specs.declared.event.Event.TheVariants as event
 
 -- ---- lists
 

@@ -1,18 +1,12 @@
 -- A run of n instructions has at most n entries, and so has each of its windows.
 use Rattle.std.proofs.Common.{◌≤◌, ℕ, zero, suc, ℤ, Bool, true, false, cond, List, [], ◌∷◌, length, map, Option, None, Some, Result, Ok, Err, arith}
 use Rattle.std.proofs.lemmas.List.{length-map}
-use Rattle.oat_case.specs.declared.case.Write.{Write}
 use Rattle.oat_image.specs.declared.image.Image.{Image}
-use Rattle.oat_measure.specs.declared.opening.Opening.{Opening}
-use Rattle.oat_measure.specs.declared.call.MonitorCall.{MonitorCall}
-use Rattle.oat_measure.specs.declared.stop.StopKind.{StopKind}
-use Rattle.oat_measure.specs.Monitor.{opens}
-use Rattle.oat_measure.specs.Shelving.{Measurements, Measured, at_start, measured_on, measures, with_rest}
-use Rattle.oat_events.specs.Windows.{beyond, inside, past, through}
-use Rattle.oat_journal.specs.Run.{Running, Entry, started, entry, turn, from_entry, journal_from, journal}
-use Rattle.oat_journal.specs.Window.{made_call, opens_window, seals_window}
-use Rattle.oat_journal.specs.Measured.{dev, run_until, start_cells}
-use Rattle.oat_journal.specs.TurnLaws.{JournalsAreShort, WindowsAreShort}
+use Rattle.oat_case.specs.declared.case.Write.{Write}
+use Rattle.oat_measure.specs.{declared.opening.Opening.Opening, declared.call.MonitorCall.MonitorCall, declared.stop.StopKind.StopKind, Monitor.opens, Shelving.Measurements, Shelving.Measured}
+use Rattle.oat_measure.specs.{Shelving.at_start, Shelving.measured_on, Shelving.measures, Shelving.with_rest, beyond, inside, past, through}
+use Rattle.oat_journal.specs.{Run.Running, Run.Entry, Run.started, Run.entry, Run.turn, Run.from_entry, Run.journal_from, Run.journal, Window.made_call, Window.opens_window, Window.seals_window}
+use Rattle.oat_journal.specs.{Measured.dev, Measured.run_until, Measured.start_cells, TurnLaws.JournalsAreShort, TurnLaws.WindowsAreShort}
 
 -- ---- a whole run
 

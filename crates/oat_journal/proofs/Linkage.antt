@@ -1,9 +1,9 @@
 -- The journal is linked, whatever was written.
 use Rattle.std.proofs.Common.{◌≡◌, ℕ, zero, suc, Bool, true, false, not, IsTrue, List, Option, Some, None, slice_get, refl, sym, ap, ◌∙◌, add-one}
-use Rattle.oat_a64.specs.Step.{Regs, Machine, act, instruction_at}
 use Rattle.oat_case.specs.declared.case.Write.{Write}
-use Rattle.oat_journal.specs.Run.{Running, Entry, started, found, makes, turn, entry, from_entry, journal_from}
-use Rattle.oat_journal.specs.Journal.{takes_input, IsMade, JournalIsMade, JournalIsLinked}
+use Rattle.oat_measure.specs.{Regs, Machine, act, instruction_at}
+use Rattle.oat_journal.specs.{Run.Running, Run.Entry, Run.started, Run.found, Run.makes, Run.turn, Run.entry, Run.from_entry, Run.journal_from, Journal.takes_input, Journal.IsMade}
+use Rattle.oat_journal.specs.{Journal.JournalIsMade, Journal.JournalIsLinked}
 use Rattle.oat_journal.proofs.Turns.{EntryIs, entry-is, turn-is, makes-machine, makes-input}
 
 -- ---- an entry by its turn

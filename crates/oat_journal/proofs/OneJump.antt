@@ -1,20 +1,12 @@
 -- The run of the smallest image with a jump, instruction by instruction.
 use Rattle.std.proofs.Common.{◌≡◌, ℕ, suc, pos, List, [], ◌∷◌, Option, Some, None, refl, ap, ◌∙◌, lit<}
-use Rattle.oat_a64.specs.declared.inst.Inst.{Inst}
-use Rattle.oat_a64.specs.declared.inst.Inst.TheVariants.{Movz, B, Svc}
-use Rattle.oat_a64.specs.Fetch.{inst_of}
-use Rattle.oat_a64.specs.Step.{instruction_at, act}
-use Rattle.oat_a64.proofs.FetchLemmas.{inst_from_word}
 use Rattle.sha2.specs.Sha256.{sha256}
-use Rattle.oat_blob.specs.Body.{Body}
-use Rattle.oat_chain.specs.Chain.{window_head}
+use Rattle.oat_a64.proofs.FetchLemmas.{inst_from_word}
 use Rattle.oat_image.specs.Worked.{one_jump}
-use Rattle.oat_measure.specs.Shelving.{measures}
-use Rattle.oat_journal.specs.declared.end.DeviceEnd.{DeviceEnd}
-use Rattle.oat_journal.specs.declared.end.DeviceEnd.TheVariants.{Halted}
-use Rattle.oat_journal.specs.Run.{Running, Entry, started, found, makes, turns, made_entry, from_entry, journal, journal_from, bare}
+use Rattle.oat_measure.specs.{Inst, Movz, B, Svc, inst_of, instruction_at, act, Body, window_head, Shelving.measures}
+use Rattle.oat_journal.specs.{declared.end.DeviceEnd.DeviceEnd, declared.end.DeviceEnd.TheVariants.Halted, Run.Running, Run.Entry, Run.started, Run.found, Run.makes, Run.turns, Run.made_entry}
+use Rattle.oat_journal.specs.{Run.from_entry, Run.journal, Run.journal_from, Run.bare, Worked.one_jump_opening, Worked.one_jump_run, Worked.ShowsOneJump, Worked.OneJumpIsMeasured}
 use Rattle.oat_journal.proofs.Turns.{turn-is}
-use Rattle.oat_journal.specs.Worked.{one_jump_opening, one_jump_run, ShowsOneJump, OneJumpIsMeasured}
 
 -- ---- one instruction
 

@@ -1,26 +1,17 @@
 -- Turn by turn an interpreter comes to the measured run.
-use Rattle.std.proofs.Common.{◌≡◌, ◌+◌, ◌*◌, ℕ, zero, suc, ℤ, Bool, true, false, cond, ◌&&◌, not, eqb, leb, List, [], ◌∷◌, map, Option, Some, None, Result, Ok, Err, refl, sym, ap, subst, ◌∙◌, arith, eqb-true, option_and_then}
-use Rattle.oat_a64.specs.declared.event.Event.{Event}
-use Rattle.oat_a64.specs.declared.event.Event.TheVariants as event
-use Rattle.oat_a64.specs.declared.inst.Inst.{Inst}
-use Rattle.oat_a64.specs.Fetch.{inst_of}
-use Rattle.oat_a64.specs.declared.inst.Inst.TheVariants.{BCond, Cbz, Cbnz, Ldr, Str, LdrReg, StrReg, Svc, Brk}
-use Rattle.oat_a64.specs.Step.{Regs, Machine, Effect, instruction_at, word_at, act, acts, decodes, step, holds, reg, reg_or_sp, wrap}
-use Rattle.oat_mem.specs.DataMemory.{can_access}
-use Rattle.oat_case.specs.declared.case.Write.{Write}
+use Rattle.std.proofs.Common.{◌≡◌, ◌+◌, ◌*◌, ℕ, zero, suc, ℤ, Bool, true, false, cond, ◌&&◌, not, eqb, leb, List, [], ◌∷◌, map, Option, Some, None, Result, Ok, Err, refl, sym, ap, subst, ◌∙◌, arith}
+use Rattle.std.proofs.Common.{eqb-true, option_and_then}
 use Rattle.oat_image.specs.declared.image.Image.{Image}
-use Rattle.oat_measure.specs.declared.opening.Opening.{Opening}
-use Rattle.oat_measure.specs.Monitor.{monitor_call, call_numbered}
-use Rattle.oat_measure.specs.declared.call.MonitorCall.{MonitorCall}
-use Rattle.oat_measure.specs.Shelving.{Measurements, Measured, at_start, with_rest, measured_on, measures}
-use Rattle.oat_measure.specs.declared.stop.StopKind.{StopKind}
-use Rattle.oat_journal.specs.declared.end.DeviceEnd.{DeviceEnd}
-use Rattle.oat_journal.specs.declared.end.DeviceEnd.TheVariants.{Stopped}
-use Rattle.oat_journal.specs.Run.{Running, Entry, started, found, makes, told, called, turn, turns, unless_ended, entry, made_entry, from_entry, journal_from}
-use Rattle.oat_journal.specs.Window.{made_call}
+use Rattle.oat_case.specs.declared.case.Write.{Write}
+use Rattle.oat_measure.specs.{Event, Inst, inst_of, BCond, Cbz, Cbnz, Ldr, Str, LdrReg, StrReg, Svc, Brk, Regs, Machine, Effect, instruction_at, word_at, act, acts, decodes, step, holds, reg}
+use Rattle.oat_measure.specs.{reg_or_sp, wrap, can_access, declared.opening.Opening.Opening, Monitor.monitor_call, Monitor.call_numbered, declared.call.MonitorCall.MonitorCall, Shelving.Measurements}
+use Rattle.oat_measure.specs.{Shelving.Measured, Shelving.at_start, Shelving.with_rest, Shelving.measured_on, Shelving.measures, declared.stop.StopKind.StopKind}
+use Rattle.oat_journal.specs.{declared.end.DeviceEnd.DeviceEnd, declared.end.DeviceEnd.TheVariants.Stopped, Run.Running, Run.Entry, Run.started, Run.found, Run.makes, Run.told, Run.called, Run.turn}
+use Rattle.oat_journal.specs.{Run.turns, Run.unless_ended, Run.entry, Run.made_entry, Run.from_entry, Run.journal_from, Window.made_call, Measured.run_until, Measured.start_cells, Progress.Progress}
+use Rattle.oat_journal.specs.{Progress.call_told, Progress.kept, Progress.stop_of, Progress.stopped_by, Progress.measured_turn, Progress.going_on, Progress.after_turns, Progress.progress_of_run}
+use Rattle.oat_journal.specs.{Progress.TurnsAreTheRun}
 use Rattle.oat_journal.proofs.Turns.{EntryIs, entry-is, step-is}
-use Rattle.oat_journal.specs.Measured.{run_until, start_cells}
-use Rattle.oat_journal.specs.Progress.{Progress, call_told, kept, stop_of, stopped_by, measured_turn, going_on, after_turns, progress_of_run, TurnsAreTheRun}
+use Rattle.oat_a64.specs.declared.event.Event.TheVariants as event
 
 -- ---- the call of an entry
 

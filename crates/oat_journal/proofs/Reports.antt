@@ -1,34 +1,19 @@
 -- What the bodies of a run report, and that their windows are traces.
-use Rattle.std.proofs.Common.{◌≡◌, ◌+◌, ◌≤◌, ℕ, zero, suc, ℤ, Bool, true, false, cond, not, eqb, IsTrue, List, [], ◌∷◌, ◌++◌, length, map, take, filter_map, slice_get, Option, Some, None, Result, Ok, Err, refl, sym, ap, subst, ◌∙◌, arith, add-one, eqb-true, eq-eqb}
-use Rattle.std.specs.Prelude.{nat_le}
-use Rattle.std.proofs.lemmas.Bool.{and_parts, leb-true}
-use Rattle.std.proofs.lemmas.List.{take-map}
-use Rattle.std.specs.List.{All, cons_option}
-use Rattle.oat_a64.specs.declared.inst.Inst.{Inst}
-use Rattle.oat_a64.specs.declared.inst.Inst.TheVariants.{Svc}
-use Rattle.oat_a64.specs.Step.{Regs, act, next_pc}
-use Rattle.oat_blob.specs.Body.{Body}
-use Rattle.oat_case.specs.declared.case.Write.{Write}
+use Rattle.std.proofs.Common.{◌≡◌, ◌+◌, ◌≤◌, ℕ, zero, suc, ℤ, Bool, true, false, cond, not, eqb, IsTrue, List, [], ◌∷◌, ◌++◌, length, map, take, filter_map, slice_get, Option, Some, None, Result, Ok}
+use Rattle.std.proofs.Common.{Err, refl, sym, ap, subst, ◌∙◌, arith, add-one, eqb-true, eq-eqb}
+use Rattle.std.specs.{Prelude.nat_le, List.All, List.cons_option}
+use Rattle.std.proofs.lemmas.{Bool.and_parts, Bool.leb-true, List.take-map}
 use Rattle.oat_image.specs.declared.image.Image.{Image}
-use Rattle.oat_measure.specs.declared.opening.Opening.{Opening}
-use Rattle.oat_measure.specs.Monitor.{monitor_call}
-use Rattle.oat_measure.specs.declared.call.MonitorCall.{MonitorCall}
+use Rattle.oat_case.specs.declared.case.Write.{Write}
+use Rattle.oat_measure.specs.{Inst, Svc, Regs, act, next_pc, Body, declared.opening.Opening.Opening, Monitor.monitor_call, declared.call.MonitorCall.MonitorCall, declared.stop.StopKind.StopKind}
+use Rattle.oat_measure.specs.{Shelving.Measurements, Shelving.Measured, Shelving.at_start, Shelving.measured_on, Shelving.measures, Shelving.serial_of, Shelving.with_rest}
+use Rattle.oat_journal.specs.{Run.Running, Run.Entry, Run.AreGiven, Run.entry, Run.from_entry, Run.journal, Run.journal_from, Run.next_of, Run.started, Run.turn, Journal.takes_input, Journal.IsMade}
+use Rattle.oat_journal.specs.{Window.made_call, Window.recorded_bit, Window.recorded_target, Window.window, Uses.CheckedUse, Uses.IsSound, Measured.BodiesAreCalledFor, Measured.BodiesTellWindows}
+use Rattle.oat_journal.specs.{Measured.HasBody, Measured.NoViolationMeansSound, Measured.Run, Measured.dev, Measured.first_unsound, Measured.run_until, Measured.start_cells, Measured.uses_of}
+use Rattle.oat_journal.specs.{Measured.window_of, Trace.IsTrace, Trace.WindowsAreTraces, TurnLaws.CountsOfCasesFit, TurnLaws.RecordsAreFew}
+use Rattle.oat_journal.proofs.{Bounds.journal_is_bounded, Linkage.journal_is_made, Linkage.journal_is_linked, Lengths.taken_few, Lengths.windows_are_short, Sealing.held_first, Sealing.sound-uses}
+use Rattle.oat_journal.proofs.{Shelves.session, Windows.Placed, Windows.Told, Windows.told}
 use Rattle.oat_measure.specs.declared.call.MonitorCall.TheVariants as svc
-use Rattle.oat_measure.specs.declared.stop.StopKind.{StopKind}
-use Rattle.oat_measure.specs.Shelving.{Measurements, Measured, at_start, measured_on, measures, serial_of, with_rest}
-use Rattle.oat_journal.specs.Run.{Running, Entry, AreGiven, entry, from_entry, journal, journal_from, next_of, started, turn}
-use Rattle.oat_journal.specs.Journal.{takes_input, IsMade}
-use Rattle.oat_journal.specs.Window.{made_call, recorded_bit, recorded_target, window}
-use Rattle.oat_journal.specs.Uses.{CheckedUse, IsSound}
-use Rattle.oat_journal.specs.Measured.{BodiesAreCalledFor, BodiesTellWindows, HasBody, NoViolationMeansSound, Run, dev, first_unsound, run_until, start_cells, uses_of, window_of}
-use Rattle.oat_journal.specs.Trace.{IsTrace, WindowsAreTraces}
-use Rattle.oat_journal.specs.TurnLaws.{CountsOfCasesFit, RecordsAreFew}
-use Rattle.oat_journal.proofs.Bounds.{journal_is_bounded}
-use Rattle.oat_journal.proofs.Linkage.{journal_is_made, journal_is_linked}
-use Rattle.oat_journal.proofs.Lengths.{taken_few, windows_are_short}
-use Rattle.oat_journal.proofs.Sealing.{held_first, sound-uses}
-use Rattle.oat_journal.proofs.Shelves.{session}
-use Rattle.oat_journal.proofs.Windows.{Placed, Told, told}
 
 -- ---- the calls up to a stop come to the same
 

@@ -1,22 +1,16 @@
 -- One window: the state behind a list of calls, and that a sealed state holds the violation of the first use of its window that wasn't sound.
-use Rattle.std.proofs.Common.{◌≡◌, ℕ, zero, suc, Bool, true, false, not, cond, ◌&&◌, eqb, List, [], ◌∷◌, ◌++◌, Option, Some, None, Result, Ok, Err, is_some, option_map, filter_map, All, refl, sym, ap, subst, ◌∙◌, arith, eqb-true, append_assoc}
+use Rattle.std.proofs.Common.{◌≡◌, ℕ, zero, suc, Bool, true, false, not, cond, ◌&&◌, eqb, List, [], ◌∷◌, ◌++◌, Option, Some, None, Result, Ok, Err, is_some, option_map, filter_map, All, refl, sym, ap}
+use Rattle.std.proofs.Common.{subst, ◌∙◌, arith, eqb-true, append_assoc}
 use Rattle.std.specs.List.{cons_option}
 use Rattle.std.proofs.lemmas.List.Elements.{filter_map-append}
 use Rattle.sha2.specs.Sha256.{sha256}
-use Rattle.oat_blob.specs.declared.body.Violation.{Violation}
-use Rattle.oat_chain.specs.Chain.{window_head, link}
-use Rattle.oat_measure.specs.declared.opening.Opening.{Opening}
-use Rattle.oat_measure.specs.Monitor.{opens}
-use Rattle.oat_measure.specs.declared.call.MonitorCall.{MonitorCall}
+use Rattle.oat_measure.specs.{Violation, window_head, link, declared.opening.Opening.Opening, Monitor.opens, declared.call.MonitorCall.MonitorCall, Measurement.State, Measurement.Stage}
+use Rattle.oat_measure.specs.{Measurement.unmeasured, Measurement.measuring, Measurement.sealed, Measurement.violated, Measurement.inside_window, Measurement.before_window, Measurement.after_window}
+use Rattle.oat_measure.specs.{Measurement.measured, declared.stop.StopKind.StopKind, declared.stop.StopKind.TheVariants.Nested, declared.stop.StopKind.TheVariants.WrongEnd, Cells, defined, beyond}
+use Rattle.oat_measure.specs.{through}
+use Rattle.oat_journal.specs.{Window.opens_window, Window.seals_window, Window.up_to_window, Window.window, Uses.CheckedUse, Uses.Held, Uses.IsSound, Uses.define_of, Uses.last_of, Uses.defined_value}
+use Rattle.oat_journal.specs.{Uses.uses_behind, Measured.first_unsound}
 use Rattle.oat_measure.specs.declared.call.MonitorCall.TheVariants as svc
-use Rattle.oat_measure.specs.Measurement.{State, Stage, unmeasured, measuring, sealed, violated, inside_window, before_window, after_window, measured}
-use Rattle.oat_measure.specs.declared.stop.StopKind.{StopKind}
-use Rattle.oat_measure.specs.declared.stop.StopKind.TheVariants.{Nested, WrongEnd}
-use Rattle.oat_events.specs.Cells.{Cells, defined}
-use Rattle.oat_events.specs.Windows.{beyond, through}
-use Rattle.oat_journal.specs.Window.{opens_window, seals_window, up_to_window, window}
-use Rattle.oat_journal.specs.Uses.{CheckedUse, Held, IsSound, define_of, last_of, defined_value, uses_behind}
-use Rattle.oat_journal.specs.Measured.{first_unsound}
 
 abbrev pub Calls : Type 0
 Calls = List (Option MonitorCall)

@@ -1,13 +1,11 @@
 -- A session: what one call after the other leaves of its windows, and how their bodies lie on the shelf.
-use Rattle.std.proofs.Common.{◌≡◌, ◌+◌, ◌<◌, ℕ, zero, suc, Bool, true, false, cond, List, [], ◌∷◌, ◌++◌, length, slice_get, Some, None, Result, Ok, Err, refl, sym, ap, subst, ◌∙◌, ◌⊎◌, inl, inr, arith, append-nil, length-append}
-use Rattle.oat_blob.specs.Body.{Body}
-use Rattle.oat_measure.specs.declared.opening.Opening.{Opening}
-use Rattle.oat_measure.specs.declared.call.MonitorCall.{MonitorCall}
-use Rattle.oat_measure.specs.declared.call.MonitorCall.TheVariants as svc
-use Rattle.oat_measure.specs.declared.stop.StopKind.{StopKind}
-use Rattle.oat_measure.specs.Measurement.{State, Stage, unmeasured, measuring, sealed, after_window, measured}
-use Rattle.oat_measure.specs.Shelving.{Measurements, sealed_bodies, body_of, is_due, measures, settled, shelving, with_rest, with_state}
+use Rattle.std.proofs.Common.{◌≡◌, ◌+◌, ◌<◌, ℕ, zero, suc, Bool, true, false, cond, List, [], ◌∷◌, ◌++◌, length, slice_get, Some, None, Result, Ok, Err, refl, sym, ap, subst, ◌∙◌, ◌⊎◌, inl, inr}
+use Rattle.std.proofs.Common.{arith, append-nil, length-append}
+use Rattle.oat_measure.specs.{Body, declared.opening.Opening.Opening, declared.call.MonitorCall.MonitorCall, declared.stop.StopKind.StopKind, Measurement.State, Measurement.Stage}
+use Rattle.oat_measure.specs.{Measurement.unmeasured, Measurement.measuring, Measurement.sealed, Measurement.after_window, Measurement.measured, Shelving.Measurements, Shelving.sealed_bodies}
+use Rattle.oat_measure.specs.{Shelving.body_of, Shelving.is_due, Shelving.measures, Shelving.settled, Shelving.shelving, Shelving.with_rest, Shelving.with_state}
 use Rattle.oat_journal.proofs.Sealing.{Calls, state_behind, closed-stage, no-calls, staged, step-err, step-ok}
+use Rattle.oat_measure.specs.declared.call.MonitorCall.TheVariants as svc
 
 abbrev pub on_shelf : List Body → State → Measurements
 on_shelf shelved s = record { shelved = shelved; state = s }

@@ -1,24 +1,16 @@
 -- One window of a list of instructions: how it lies in the list, and what the state that seals it holds.
-use Rattle.std.proofs.Common.{◌≡◌, ℕ, zero, suc, Bool, true, false, not, cond, ◌&&◌, eqb, List, [], ◌∷◌, ◌++◌, map, fold, filter_map, slice_get, Option, Some, None, Ok, Err, refl, sym, ap, subst, ◌∙◌, eqb-true, append-nil, append_assoc}
+use Rattle.std.proofs.Common.{◌≡◌, ℕ, zero, suc, Bool, true, false, not, cond, ◌&&◌, eqb, List, [], ◌∷◌, ◌++◌, map, fold, filter_map, slice_get, Option, Some, None, Ok, Err, refl, sym, ap, subst, ◌∙◌}
+use Rattle.std.proofs.Common.{eqb-true, append-nil, append_assoc}
 use Rattle.std.specs.List.{cons_option}
 use Rattle.sha2.specs.Sha256.{sha256}
-use Rattle.oat_blob.specs.Body.{Body}
-use Rattle.oat_chain.specs.Chain.{window_head, chain, link}
-use Rattle.oat_measure.specs.declared.opening.Opening.{Opening}
-use Rattle.oat_measure.specs.Monitor.{opens, seals}
-use Rattle.oat_measure.specs.declared.call.MonitorCall.{MonitorCall}
+use Rattle.oat_measure.specs.{Body, window_head, chain, link, declared.opening.Opening.Opening, Monitor.opens, Monitor.seals, declared.call.MonitorCall.MonitorCall, Measurement.State}
+use Rattle.oat_measure.specs.{Measurement.unmeasured, Measurement.measuring, Measurement.sealed, Measurement.violated, Measurement.after_window, Measurement.measured, Shelving.Measurements}
+use Rattle.oat_measure.specs.{Shelving.settled, declared.stop.StopKind.StopKind, declared.stop.StopKind.TheVariants.Nested, declared.stop.StopKind.TheVariants.WrongEnd, Cells, defined, beyond, past}
+use Rattle.oat_measure.specs.{through}
+use Rattle.oat_journal.specs.{Window.is_made, Window.opens_window, Window.seals_window, Window.returned, Window.recorded_bit, Window.recorded_target, Uses.Held, Uses.define_of, Trace.IsQuiet}
+use Rattle.oat_journal.proofs.{Sealing.Calls, Sealing.held_other, Sealing.held_define, Sealing.state_behind, Sealing.staged, Sealing.step-ok, Sealing.step-err, Sealing.no-calls, Sealing.closed-stage}
+use Rattle.oat_journal.proofs.{Sealing.not-sealed, Sealing.not-open, Shelves.on_shelf, Shelves.session, Shelves.session-ok, Shelves.session-skip, Shelves.settled-open}
 use Rattle.oat_measure.specs.declared.call.MonitorCall.TheVariants as svc
-use Rattle.oat_measure.specs.Measurement.{State, unmeasured, measuring, sealed, violated, after_window, measured}
-use Rattle.oat_measure.specs.Shelving.{Measurements, settled}
-use Rattle.oat_measure.specs.declared.stop.StopKind.{StopKind}
-use Rattle.oat_measure.specs.declared.stop.StopKind.TheVariants.{Nested, WrongEnd}
-use Rattle.oat_events.specs.Cells.{Cells, defined}
-use Rattle.oat_events.specs.Windows.{beyond, past, through}
-use Rattle.oat_journal.specs.Window.{is_made, opens_window, seals_window, returned, recorded_bit, recorded_target}
-use Rattle.oat_journal.specs.Uses.{Held, define_of}
-use Rattle.oat_journal.specs.Trace.{IsQuiet}
-use Rattle.oat_journal.proofs.Sealing.{Calls, held_other, held_define, state_behind, staged, step-ok, step-err, no-calls, closed-stage, not-sealed, not-open}
-use Rattle.oat_journal.proofs.Shelves.{on_shelf, session, session-ok, session-skip, settled-open}
 
 -- ---- lists
 

@@ -1,15 +1,11 @@
 -- What a turn of a run does, and what so many of them come to.
 use Rattle.std.proofs.Common.{◌≡◌, ◌+◌, ℕ, zero, suc, List, [], ◌∷◌, ◌++◌, Option, Some, None, refl, sym, ap, ◌∙◌, arith}
-use Rattle.oat_a64.specs.declared.inst.Inst.{Inst}
-use Rattle.oat_a64.specs.Step.{Machine, instruction_at}
 use Rattle.oat_case.specs.declared.case.Write.{Write}
-use Rattle.oat_journal.specs.declared.end.DeviceEnd.{DeviceEnd}
-use Rattle.oat_journal.specs.Run.{Running, Entry, entry, found, from_entry, journal_from, made_entry, turn, turns}
-use Rattle.oat_measure.specs.declared.opening.Opening.{Opening}
-use Rattle.oat_journal.specs.Progress.{Progress, after_turns, going_on, measured_turn}
-use Rattle.oat_journal.specs.TurnLaws.{OneTurn, EndedRunsRest, AddsUp, TurnsAdd, TurnsMakeSteps, MeasuredTurnsFollow, MeasuredEndsStay}
-use Rattle.oat_journal.proofs.Turns.{turn-is}
-use Rattle.oat_journal.proofs.Progress.{Ends, no-entries, no-entry, stays, turn-going, turns-stay}
+use Rattle.oat_measure.specs.{Inst, Machine, instruction_at, declared.opening.Opening.Opening}
+use Rattle.oat_journal.specs.{declared.end.DeviceEnd.DeviceEnd, Run.Running, Run.Entry, Run.entry, Run.found, Run.from_entry, Run.journal_from, Run.made_entry, Run.turn, Run.turns, Progress.Progress}
+use Rattle.oat_journal.specs.{Progress.after_turns, Progress.going_on, Progress.measured_turn, TurnLaws.OneTurn, TurnLaws.EndedRunsRest, TurnLaws.AddsUp, TurnLaws.TurnsAdd, TurnLaws.TurnsMakeSteps}
+use Rattle.oat_journal.specs.{TurnLaws.MeasuredTurnsFollow, TurnLaws.MeasuredEndsStay}
+use Rattle.oat_journal.proofs.{Turns.turn-is, Progress.Ends, Progress.no-entries, Progress.no-entry, Progress.stays, Progress.turn-going, Progress.turns-stay}
 
 pub turns_make_steps : TurnsMakeSteps
 turns_make_steps code writes s going = turn-going code writes s going

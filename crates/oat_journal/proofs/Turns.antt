@@ -1,17 +1,12 @@
 -- What one turn of a run does, by the instruction that is made.
 use Rattle.std.proofs.Common.{◌≡◌, ◌+◌, ℕ, ℤ, Bool, true, false, not, cond, ◌&&◌, ◌*◌, eqb, leb, List, [], ◌∷◌, Option, Some, None, refl, sym, ap, subst, ◌∙◌, eqb-true}
 use Rattle.std.specs.Option.{option_and_then}
-use Rattle.oat_a64.specs.declared.event.Event.{Event}
-use Rattle.oat_a64.specs.declared.event.Event.TheVariants as event
-use Rattle.oat_a64.specs.declared.inst.Inst.{Inst}
-use Rattle.oat_a64.specs.declared.inst.Inst.TheVariants.{BCond, Cbz, Cbnz, Ldr, Str, LdrReg, StrReg, Svc, Brk}
-use Rattle.oat_a64.specs.Fetch.{inst_of}
-use Rattle.oat_a64.specs.Step.{Regs, Machine, Effect, instruction_at, word_at, decodes, acts, act, step, with_reg, unsigned, holds, reg, reg_or_sp, wrap}
-use Rattle.oat_mem.specs.DataMemory.{can_access}
 use Rattle.oat_case.specs.declared.case.Write.{Write}
-use Rattle.oat_journal.specs.declared.end.DeviceEnd.{DeviceEnd}
-use Rattle.oat_journal.specs.Run.{Running, Entry, found, makes, told, called, with_input, turn, unless_ended, entry, made_entry}
-use Rattle.oat_journal.specs.Journal.{takes_input}
+use Rattle.oat_measure.specs.{Event, Inst, BCond, Cbz, Cbnz, Ldr, Str, LdrReg, StrReg, Svc, Brk, inst_of, Regs, Machine, Effect, instruction_at, word_at, decodes, acts, act, step, with_reg, unsigned}
+use Rattle.oat_measure.specs.{holds, reg, reg_or_sp, wrap, can_access}
+use Rattle.oat_journal.specs.{declared.end.DeviceEnd.DeviceEnd, Run.Running, Run.Entry, Run.found, Run.makes, Run.told, Run.called, Run.with_input, Run.turn, Run.unless_ended, Run.entry}
+use Rattle.oat_journal.specs.{Run.made_entry, Journal.takes_input}
+use Rattle.oat_a64.specs.declared.event.Event.TheVariants as event
 
 -- ---- fetch
 

@@ -1,24 +1,16 @@
 -- Each body of a session tells its window, whatever its number.
-use Rattle.std.proofs.Common.{◌≡◌, ◌+◌, ◌<◌, ◌⊎◌, ℕ, zero, suc, Bool, true, false, cond, List, [], ◌∷◌, ◌++◌, length, map, filter_map, slice_get, Option, Some, None, option_map, refl, sym, ap, subst, ◌∙◌, inl, inr, arith, append_assoc, length-append}
-use Rattle.std.proofs.lemmas.Bool.{ltb-true}
-use Rattle.std.proofs.lemmas.List.{map-append}
-use Rattle.oat_blob.specs.Body.{Body}
-use Rattle.oat_chain.specs.Chain.{window_head, chain}
-use Rattle.oat_measure.specs.declared.opening.Opening.{Opening}
-use Rattle.oat_measure.specs.Monitor.{opens, seals}
-use Rattle.oat_measure.specs.declared.call.MonitorCall.{MonitorCall}
+use Rattle.std.proofs.Common.{◌≡◌, ◌+◌, ◌<◌, ◌⊎◌, ℕ, zero, suc, Bool, true, false, cond, List, [], ◌∷◌, ◌++◌, length, map, filter_map, slice_get, Option, Some, None, option_map, refl, sym, ap, subst}
+use Rattle.std.proofs.Common.{◌∙◌, inl, inr, arith, append_assoc, length-append}
+use Rattle.std.proofs.lemmas.{Bool.ltb-true, List.map-append}
+use Rattle.oat_measure.specs.{Body, window_head, chain, declared.opening.Opening.Opening, Monitor.opens, Monitor.seals, declared.call.MonitorCall.MonitorCall, Measurement.State, Measurement.sealed}
+use Rattle.oat_measure.specs.{Shelving.IsBodyAt, Shelving.Measurements, Shelving.sealed_bodies, Shelving.body_of, Shelving.is_due, Shelving.reopened, Shelving.settled, Cells, beyond, inside, through}
+use Rattle.oat_measure.specs.{up_to}
+use Rattle.oat_journal.specs.{Window.is_made, Window.opens_window, Window.seals_window, Window.up_to_window, Window.window, Window.returned, Window.recorded_bit, Window.recorded_target, Uses.Held}
+use Rattle.oat_journal.specs.{Uses.uses_behind, Measured.first_unsound, Trace.IsQuiet}
+use Rattle.oat_journal.proofs.{Sealing.Calls, Sealing.awaits, Sealing.same, Sealing.sealed-keeps, Sealing.state_behind, Shelves.closed-serial, Shelves.bodies-open, Shelves.bodies-sealed}
+use Rattle.oat_journal.proofs.{Shelves.get-beyond, Shelves.get-last, Shelves.is-sealed, Shelves.on_shelf, Shelves.sealed-stays, Shelves.session, Shelves.settled-sealed, Shelves.shelf-stays}
+use Rattle.oat_journal.proofs.{Shelves.stays-open, Shelves.stays-sealed, Traces.Awaits, Traces.Windowed, Traces.closed-bits, Traces.closed-hash, Traces.closed-targets, Traces.kept, Traces.windowed}
 use Rattle.oat_measure.specs.declared.call.MonitorCall.TheVariants as svc
-use Rattle.oat_measure.specs.Measurement.{State, sealed}
-use Rattle.oat_measure.specs.Shelving.{IsBodyAt, Measurements, sealed_bodies, body_of, is_due, reopened, settled}
-use Rattle.oat_events.specs.Cells.{Cells}
-use Rattle.oat_events.specs.Windows.{beyond, inside, through, up_to}
-use Rattle.oat_journal.specs.Window.{is_made, opens_window, seals_window, up_to_window, window, returned, recorded_bit, recorded_target}
-use Rattle.oat_journal.specs.Uses.{Held, uses_behind}
-use Rattle.oat_journal.specs.Measured.{first_unsound}
-use Rattle.oat_journal.specs.Trace.{IsQuiet}
-use Rattle.oat_journal.proofs.Sealing.{Calls, awaits, same, sealed-keeps, state_behind}
-use Rattle.oat_journal.proofs.Shelves.{closed-serial, bodies-open, bodies-sealed, get-beyond, get-last, is-sealed, on_shelf, sealed-stays, session, settled-sealed, shelf-stays, stays-open, stays-sealed}
-use Rattle.oat_journal.proofs.Traces.{Awaits, Windowed, closed-bits, closed-hash, closed-targets, kept, windowed}
 
 -- ---- windows of instructions and of their calls
 

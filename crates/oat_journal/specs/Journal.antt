@@ -1,10 +1,8 @@
 -- What holds of every journal, whatever was written between its instructions: how its entries are linked, and how large its numbers are (docs/DEFINITIONS.md, "Journal").
 use Rattle.std.specs.Prelude.{◌≡◌, ◌+◌, ℕ, ℤ, Bool, false, not, nat_eq, IsTrue, List, Some, slice_get}
-use Rattle.oat_a64.specs.declared.inst.Inst.{Inst}
-use Rattle.oat_a64.specs.declared.inst.Inst.TheVariants.{Svc}
-use Rattle.oat_a64.specs.Step.{Regs, IsBounded, instruction_at, act, with_reg, unsigned}
-use Rattle.oat_case.specs.declared.case.Write.{Write}
 use Rattle.oat_image.specs.declared.image.Image.{Image}
+use Rattle.oat_case.specs.declared.case.Write.{Write}
+use Rattle.oat_measure.specs.{Inst, Svc, Regs, IsBounded, instruction_at, act, with_reg, unsigned}
 use Rattle.oat_journal.specs.Run.{Entry, AreGiven, journal, pc_of, next_of}
 
 -- SVC 8

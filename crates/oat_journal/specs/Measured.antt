@@ -1,24 +1,14 @@
 -- The measured run (`dev`): the bare run of an image with the measurement step applied to its journal's monitor calls (docs/DEFINITIONS.md, "Measured run").
-use Rattle.std.specs.Prelude.{◌≡◌, ◌<◌, ◌⊎◌, ℕ, ℤ, List, [], ◌∷◌, map, nat_eq, if◌then◌else◌, Option, Some, None, option_map, slice_get, unwrap_or}
-use Rattle.std.specs.List.{All}
-use Rattle.oat_blob.specs.declared.body.Violation.{Violation}
-use Rattle.oat_blob.specs.Body.{Body}
-use Rattle.oat_case.specs.declared.case.Session.{Session}
-use Rattle.oat_case.specs.declared.case.Write.{Write}
-use Rattle.oat_image.specs.declared.image.Image.{Image}
-use Rattle.oat_image.specs.Grammar.{image_text}
+use Rattle.std.specs.{Prelude.◌≡◌, Prelude.◌<◌, Prelude.◌⊎◌, Prelude.ℕ, Prelude.ℤ, Prelude.List, Prelude.[], Prelude.◌∷◌, Prelude.map, Prelude.nat_eq, Prelude.if◌then◌else◌, Prelude.Option}
+use Rattle.std.specs.{Prelude.Some, Prelude.None, Prelude.option_map, Prelude.slice_get, Prelude.unwrap_or, List.All}
 use Rattle.sha2.specs.Sha256.{sha256}
-use Rattle.oat_chain.specs.Chain.{chain, window_head}
-use Rattle.oat_mem.specs.DataMemory.{word_in, global_address}
-use Rattle.oat_measure.specs.declared.opening.Opening.{Opening}
-use Rattle.oat_measure.specs.Shelving.{Measurements, Measured, IsBodyAt, at_start, measures, serial_of}
-use Rattle.oat_measure.specs.declared.stop.StopKind.{StopKind}
-use Rattle.oat_events.specs.Cells.{Cells}
-use Rattle.oat_journal.specs.declared.end.DeviceEnd.{DeviceEnd}
-use Rattle.oat_journal.specs.declared.end.DeviceEnd.TheVariants.{OutOfSteps, Stopped}
-use Rattle.oat_journal.specs.Run.{Running, Entry, bare, journal, start_memory}
-use Rattle.oat_journal.specs.Window.{made_call, up_to_window, window, returns_of_run, bits_of_run, targets_of_run}
-use Rattle.oat_journal.specs.Uses.{CheckedUse, IsSound, uses_behind}
+use Rattle.oat_image.specs.{declared.image.Image.Image, Grammar.image_text}
+use Rattle.oat_case.specs.{declared.case.Session.Session, declared.case.Write.Write}
+use Rattle.oat_measure.specs.{Violation, Body, chain, window_head, word_in, global_address, declared.opening.Opening.Opening, Shelving.Measurements, Shelving.Measured, Shelving.IsBodyAt}
+use Rattle.oat_measure.specs.{Shelving.at_start, Shelving.measures, Shelving.serial_of, declared.stop.StopKind.StopKind, Cells}
+use Rattle.oat_journal.specs.{declared.end.DeviceEnd.DeviceEnd, declared.end.DeviceEnd.TheVariants.OutOfSteps, declared.end.DeviceEnd.TheVariants.Stopped, Run.Running, Run.Entry, Run.bare}
+use Rattle.oat_journal.specs.{Run.journal, Run.start_memory, Window.made_call, Window.up_to_window, Window.window, Window.returns_of_run, Window.bits_of_run, Window.targets_of_run, Uses.CheckedUse}
+use Rattle.oat_journal.specs.{Uses.IsSound, Uses.uses_behind}
 
 -- what the windows of a session on an image are opened for: the session's nonce and operation, the image's digest, and where the operation's windows open
 abbrev pub opening_of : Image → Session → ℕ → Opening

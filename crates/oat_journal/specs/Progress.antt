@@ -1,19 +1,12 @@
 -- A measured run in the making, one instruction at a time: what each turn of it leaves, in the words of the bare run and of the measurement step, and what all turns come to (docs/DEFINITIONS.md, "Measured run").
 use Rattle.std.specs.Prelude.{◌≡◌, ℕ, zero, suc, ℤ, List, Option, Some, None, Result, Ok, Err}
-use Rattle.oat_a64.specs.declared.event.Event.{Event}
-use Rattle.oat_a64.specs.declared.event.Event.TheVariants as event
-use Rattle.oat_a64.specs.Step.{Regs, step}
-use Rattle.oat_case.specs.declared.case.Write.{Write}
 use Rattle.oat_image.specs.declared.image.Image.{Image}
-use Rattle.oat_measure.specs.declared.opening.Opening.{Opening}
-use Rattle.oat_measure.specs.Monitor.{call_numbered}
-use Rattle.oat_measure.specs.declared.call.MonitorCall.{MonitorCall}
-use Rattle.oat_measure.specs.Shelving.{Measurements, at_start, measured_on}
-use Rattle.oat_measure.specs.declared.stop.StopKind.{StopKind}
-use Rattle.oat_journal.specs.declared.end.DeviceEnd.{DeviceEnd}
-use Rattle.oat_journal.specs.declared.end.DeviceEnd.TheVariants.{Stopped}
-use Rattle.oat_journal.specs.Run.{Running, found, started, turn}
-use Rattle.oat_journal.specs.Measured.{Run, dev, start_cells}
+use Rattle.oat_case.specs.declared.case.Write.{Write}
+use Rattle.oat_measure.specs.{Event, Regs, step, declared.opening.Opening.Opening, Monitor.call_numbered, declared.call.MonitorCall.MonitorCall, Shelving.Measurements, Shelving.at_start}
+use Rattle.oat_measure.specs.{Shelving.measured_on, declared.stop.StopKind.StopKind}
+use Rattle.oat_journal.specs.{declared.end.DeviceEnd.DeviceEnd, declared.end.DeviceEnd.TheVariants.Stopped, Run.Running, Run.found, Run.started, Run.turn, Measured.Run, Measured.dev}
+use Rattle.oat_journal.specs.{Measured.start_cells}
+use Rattle.oat_a64.specs.declared.event.Event.TheVariants as event
 
 -- ---- one turn
 

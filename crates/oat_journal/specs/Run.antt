@@ -1,19 +1,13 @@
 -- The bare run: an image's code, instruction by instruction, while another actor writes bytes into data memory between them (docs/DEFINITIONS.md, "Bare run").
-use Rattle.std.specs.Prelude.{◌+◌, ◌<◌, ◌==◌, ℕ, zero, suc, ℤ, List, [], ◌∷◌, ◌++◌, map, length, nat_eq, if◌then◌else◌, IsTrue, Option, Some, None, FitsSigned}
-use Rattle.std.specs.List.{filter, fold, All}
-use Rattle.std.specs.List.Sorted.{IsNonDecreasing}
-use Rattle.std.specs.Int.{w64}
-use Rattle.oat_mem.specs.DataMemory.{fits, with_bytes, with_word, global_address}
-use Rattle.oat_a64.specs.declared.event.Event.{Event}
-use Rattle.oat_a64.specs.declared.event.Event.TheVariants as event
-use Rattle.oat_a64.specs.declared.inst.Inst.{Inst}
-use Rattle.oat_a64.specs.Step.{Regs, Machine, Effect, first_regs, instruction_at, step, with_reg, signed, unsigned}
-use Rattle.oat_map.specs.declared.trap.TrapKind.{TrapKind}
-use Rattle.oat_map.specs.declared.trap.TrapKind.TheVariants.{DivZero, Index, NullCall, Depth, InputEnd}
+use Rattle.std.specs.{Prelude.◌+◌, Prelude.◌<◌, Prelude.◌==◌, Prelude.ℕ, Prelude.zero, Prelude.suc, Prelude.ℤ, Prelude.List, Prelude.[], Prelude.◌∷◌, Prelude.◌++◌, Prelude.map, Prelude.length}
+use Rattle.std.specs.{Prelude.nat_eq, Prelude.if◌then◌else◌, Prelude.IsTrue, Prelude.Option, Prelude.Some, Prelude.None, Prelude.FitsSigned, List.filter, List.fold, List.All}
+use Rattle.std.specs.{List.Sorted.IsNonDecreasing, Int.w64}
+use Rattle.oat_image.specs.{declared.image.Image.Image, declared.image.InitWord.InitWord}
 use Rattle.oat_case.specs.declared.case.Write.{Write}
-use Rattle.oat_image.specs.declared.image.Image.{Image}
-use Rattle.oat_image.specs.declared.image.InitWord.{InitWord}
+use Rattle.oat_measure.specs.{fits, with_bytes, with_word, global_address, Event, Inst, Regs, Machine, Effect, first_regs, instruction_at, step, with_reg, signed, unsigned, TrapKind, DivZero, Index}
+use Rattle.oat_measure.specs.{NullCall, Depth, InputEnd}
 use Rattle.oat_journal.specs.declared.end.DeviceEnd.{DeviceEnd}
+use Rattle.oat_a64.specs.declared.event.Event.TheVariants as event
 use Rattle.oat_journal.specs.declared.end.DeviceEnd.TheVariants as ends
 
 -- a run at the moment before an instruction

@@ -1,16 +1,10 @@
 -- What holds of a window that was sealed, whatever was given and written: it is a trace of the code (docs/DEFINITIONS.md, "Window").
 use Rattle.std.specs.Prelude.{◌≡◌, ◌+◌, ℕ, ℤ, List, [], ◌∷◌, ◌++◌, Option, Some, slice_get}
-use Rattle.oat_a64.specs.Step.{next_pc}
-use Rattle.oat_case.specs.declared.case.Write.{Write}
-use Rattle.oat_blob.specs.Body.{Body}
 use Rattle.oat_image.specs.declared.image.Image.{Image}
-use Rattle.oat_measure.specs.declared.opening.Opening.{Opening}
-use Rattle.oat_measure.specs.declared.call.MonitorCall.{MonitorCall}
+use Rattle.oat_case.specs.declared.case.Write.{Write}
+use Rattle.oat_measure.specs.{next_pc, Body, declared.opening.Opening.Opening, declared.call.MonitorCall.MonitorCall}
+use Rattle.oat_journal.specs.{Run.Entry, Run.AreGiven, Run.pc_of, Journal.IsMade, Journal.IsEntryBounded, Journal.Continues, Window.made_call, Measured.HasBody, Measured.dev, Measured.window_of}
 use Rattle.oat_measure.specs.declared.call.MonitorCall.TheVariants as svc
-use Rattle.oat_journal.specs.Run.{Entry, AreGiven, pc_of}
-use Rattle.oat_journal.specs.Journal.{IsMade, IsEntryBounded, Continues}
-use Rattle.oat_journal.specs.Window.{made_call}
-use Rattle.oat_journal.specs.Measured.{HasBody, dev, window_of}
 
 -- an instruction neither begins nor ends an operation
 abbrev pub IsQuiet : Option MonitorCall → Type 0

@@ -1,17 +1,10 @@
 -- What a turn of a run does, and what so many of them come to, whatever is given and written (docs/DEFINITIONS.md, "Bare run").
 use Rattle.std.specs.Prelude.{◌≡◌, ◌+◌, ◌≤◌, ◌<◌, ◌^◌, ℕ, ℤ, List, [], ◌++◌, Some, None, length}
-use Rattle.oat_a64.specs.declared.inst.Inst.{Inst}
-use Rattle.oat_a64.specs.Step.{act, instruction_at, step}
-use Rattle.oat_blob.specs.Body.{Body}
-use Rattle.oat_case.specs.declared.case.Case.{Case}
-use Rattle.oat_case.specs.declared.case.Write.{Write}
-use Rattle.oat_case.specs.Limits.{IsWellFormedCase}
 use Rattle.oat_image.specs.declared.image.Image.{Image}
-use Rattle.oat_measure.specs.declared.opening.Opening.{Opening}
-use Rattle.oat_journal.specs.declared.end.DeviceEnd.{DeviceEnd}
-use Rattle.oat_journal.specs.Run.{Running, entry, found, journal, journal_from, makes, turn, turns}
-use Rattle.oat_journal.specs.Measured.{HasBody, dev, window_of}
-use Rattle.oat_journal.specs.Progress.{Progress, after_turns, going_on, measured_turn}
+use Rattle.oat_case.specs.{declared.case.Case.Case, declared.case.Write.Write, Limits.IsWellFormedCase}
+use Rattle.oat_measure.specs.{Inst, act, instruction_at, step, Body, declared.opening.Opening.Opening}
+use Rattle.oat_journal.specs.{declared.end.DeviceEnd.DeviceEnd, Run.Running, Run.entry, Run.found, Run.journal, Run.journal_from, Run.makes, Run.turn, Run.turns, Measured.HasBody, Measured.dev}
+use Rattle.oat_journal.specs.{Measured.window_of, Progress.Progress, Progress.after_turns, Progress.going_on, Progress.measured_turn}
 
 -- ---- turns
 

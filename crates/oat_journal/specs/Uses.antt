@@ -1,7 +1,6 @@
 -- Checked uses: what each use of a critical cell in the window found, and what the cell was last defined as (docs/DEFINITIONS.md, "Checked use").
-use Rattle.std.specs.Prelude.{◌≡◌, ℕ, List, [], ◌∷◌, ◌++◌, nat_eq, if◌then◌else◌, Option, Some, None}
-use Rattle.std.specs.Option.{option_map}
-use Rattle.std.specs.List.{filter_map, cons_option}
+use Rattle.std.specs.{Prelude.◌≡◌, Prelude.ℕ, Prelude.List, Prelude.[], Prelude.◌∷◌, Prelude.◌++◌, Prelude.nat_eq, Prelude.if◌then◌else◌, Prelude.Option, Prelude.Some, Prelude.None, Option.option_map}
+use Rattle.std.specs.{List.filter_map, List.cons_option}
 use Rattle.oat_measure.specs.declared.call.MonitorCall.{MonitorCall}
 use Rattle.oat_measure.specs.declared.call.MonitorCall.TheVariants as svc
 

@@ -1,18 +1,12 @@
 -- The windows of an operation in a run's journal, and what the run shows in each: its path, its returns, its branch bits and its indirect targets (docs/DEFINITIONS.md, "Window").
-use Rattle.std.specs.Prelude.{◌+◌, ℕ, Bool, true, false, not, nat_eq, if◌then◌else◌, List, Option, Some, None}
-use Rattle.std.specs.List.{filter_map, list_any}
-use Rattle.oat_measure.specs.Monitor.{monitor_call, opens, seals}
-use Rattle.oat_measure.specs.declared.call.MonitorCall.{MonitorCall}
-use Rattle.oat_measure.specs.declared.call.MonitorCall.TheVariants as svc
-use Rattle.oat_map.specs.declared.map.Map.{Map}
-use Rattle.oat_map.specs.declared.row.Row.{Row}
-use Rattle.oat_map.specs.declared.row.Row.TheVariants as rows
-use Rattle.oat_map.specs.declared.edge.Edge.{Edge}
-use Rattle.oat_map.specs.declared.edge.Edge.TheVariants as edges
-use Rattle.oat_map.specs.Rows.{is_called_at, is_returned_to, row_over}
-use Rattle.oat_events.specs.Windows.{inside, up_to}
+use Rattle.std.specs.{Prelude.◌+◌, Prelude.ℕ, Prelude.Bool, Prelude.true, Prelude.false, Prelude.not, Prelude.nat_eq, Prelude.if◌then◌else◌, Prelude.List, Prelude.Option, Prelude.Some, Prelude.None}
+use Rattle.std.specs.{List.filter_map, List.list_any}
+use Rattle.oat_measure.specs.{Monitor.monitor_call, Monitor.opens, Monitor.seals, declared.call.MonitorCall.MonitorCall, Map, Row, Edge, is_called_at, is_returned_to, row_over, inside, up_to}
+use Rattle.oat_measure.specs.{is_transfer}
 use Rattle.oat_journal.specs.Run.{Entry, pc_of, next_of}
-use Rattle.oat_a64.specs.Kinds.{is_transfer}
+use Rattle.oat_measure.specs.declared.call.MonitorCall.TheVariants as svc
+use Rattle.oat_map.specs.declared.row.Row.TheVariants as rows
+use Rattle.oat_map.specs.declared.edge.Edge.TheVariants as edges
 
 -- the monitor call that an instruction made
 abbrev pub made_call : Entry → Option MonitorCall

@@ -1,14 +1,11 @@
 -- The run of the smallest image with a jump (image/Worked), computed by the definitions (docs/DEFINITIONS.md).
 use Rattle.std.specs.Prelude.{◌≡◌, ℕ, List, [], ◌∷◌, Some, None}
 use Rattle.sha2.specs.Sha256.{sha256}
-use Rattle.oat_chain.specs.Chain.{window_head}
-use Rattle.oat_blob.specs.Body.{Body}
 use Rattle.oat_image.specs.Worked.{one_jump, one_jump_map}
+use Rattle.oat_measure.specs.{window_head, Body, declared.opening.Opening.Opening}
+use Rattle.oat_journal.specs.{declared.end.DeviceEnd.TheVariants.Halted, Window.executed_path, Window.returns_of_run, Measured.HasBody, Measured.Run, Measured.dev, Measured.window_of}
+use Rattle.oat_journal.specs.{Measured.uses_of}
 use Rattle.oat_map.specs.declared.edge.Edge.TheVariants as edges
-use Rattle.oat_measure.specs.declared.opening.Opening.{Opening}
-use Rattle.oat_journal.specs.declared.end.DeviceEnd.TheVariants.{Halted}
-use Rattle.oat_journal.specs.Window.{executed_path, returns_of_run}
-use Rattle.oat_journal.specs.Measured.{HasBody, Run, dev, window_of, uses_of}
 
 -- a window of its one operation
 abbrev pub one_jump_opening : List ℕ → List ℕ → Opening

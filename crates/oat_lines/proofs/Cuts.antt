@@ -1,10 +1,8 @@
 -- How a text is cut into lines, and a line into words.
 use Rattle.std.proofs.Common.{◌≡◌, ℕ, suc, ◌+◌, ◌<◌, ◌≤◌, Bool, true, false, cond, eqb, List, [], ◌∷◌, length, take, drop, refl, ap, ◌∙◌, inl, inr, arith}
-use Rattle.std.specs.Prelude.{filter, not}
-use Rattle.std.specs.List.{slice_split, onto_first, position_or_len, before_first, after_first}
-use Rattle.std.specs.Str.Lines.{lines_of_parts, strip_carriage_return}
-use Rattle.std.proofs.lemmas.Bool.{cases_Bool, ne_eqb}
-use Rattle.std.proofs.lemmas.List.Splits.{slice_split_first}
+use Rattle.std.specs.{Prelude.filter, Prelude.not, List.slice_split, List.onto_first, List.position_or_len, List.before_first, List.after_first, Str.Lines.lines_of_parts}
+use Rattle.std.specs.{Str.Lines.strip_carriage_return}
+use Rattle.std.proofs.lemmas.{Bool.cases_Bool, Bool.ne_eqb, List.Splits.slice_split_first}
 use Rattle.oat_lines.specs.Lines.{is_line_feed, is_blank, is_solid, has_bytes, lines_of, words_of}
 
 -- The first part of a split, and the parts after it.

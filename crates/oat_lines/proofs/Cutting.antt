@@ -1,10 +1,8 @@
 -- Cutting a text at a byte, and a line into its words.
-use Rattle.std.proofs.Common.{◌≡◌, ℕ, zero, suc, ◌+◌, ◌-◌, ◌<◌, ◌≤◌, Bool, true, false, ◌&&◌, eqb, ltb, List, [], ◌∷◌, ◌++◌, length, get_or, take, drop, Option, Some, None, refl, sym, ap, subst, ◌∙◌, arith, add-one}
-use Rattle.std.proofs.lemmas.List.{take_all, length-drop}
-use Rattle.std.specs.Prelude.{if◌then◌else◌, option_map, option_and_then, is_none}
-use Rattle.std.specs.List.{list_all}
-use Rattle.std.proofs.lemmas.List.Folds.{list_all-append}
-use Rattle.std.proofs.lemmas.Bool.{and_parts, eqb-true, eq-eqb, ne_eqb, ltb-true, lt-ltb}
+use Rattle.std.proofs.Common.{◌≡◌, ℕ, zero, suc, ◌+◌, ◌-◌, ◌<◌, ◌≤◌, Bool, true, false, ◌&&◌, eqb, ltb, List, [], ◌∷◌, ◌++◌, length, get_or, take, drop, Option, Some, None, refl, sym, ap, subst, ◌∙◌}
+use Rattle.std.proofs.Common.{arith, add-one}
+use Rattle.std.specs.{Prelude.if◌then◌else◌, Prelude.option_map, Prelude.option_and_then, Prelude.is_none, List.list_all}
+use Rattle.std.proofs.lemmas.{List.take_all, List.length-drop, List.Folds.list_all-append, Bool.and_parts, Bool.eqb-true, Bool.eq-eqb, Bool.ne_eqb, Bool.ltb-true, Bool.lt-ltb}
 use Rattle.oat_lines.specs.Fields.{cut, one_field, field_and_rest, two_fields, three_fields, four_fields, spaced, is_visible, IsField}
 use Rattle.oat_lines.proofs.Steps.{chosen, some_is}
 

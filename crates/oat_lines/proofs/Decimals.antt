@@ -1,13 +1,9 @@
 -- What is read as a decimal number is spelled so, and what is spelled so is read.
 use Rattle.std.proofs.Common.{◌≡◌, ℕ, zero, suc, ◌^◌, ◌<◌, Bool, true, false, ◌&&◌, eqb, ltb, List, [], ◌∷◌, length, get_or, Option, Some, None, refl, sym, ap, ◌∙◌, arith}
-use Rattle.std.specs.Prelude.{if◌then◌else◌, decimal}
-use Rattle.std.specs.List.{list_all}
-use Rattle.std.specs.Char.{digit_value}
-use Rattle.std.specs.Str.Parse.{digits_value, AllDigits}
-use Rattle.std.proofs.lemmas.Bool.{and_parts, eq-eqb, ne_eqb, ltb-true, lt-ltb}
-use Rattle.std.proofs.lemmas.Bool.Decides.{nat_tests}
-use Rattle.std.proofs.lemmas.Str.Parse.{IsNumeralModel, numerals_by_value, tells_digits, digit_from_value}
-use Rattle.std.proofs.lemmas.Fmt.{digits_decimal, digits_value-decimal, decimal-digits_value, decimal_nonempty, first_decimal, decimal_digit}
+use Rattle.std.specs.{Prelude.if◌then◌else◌, Prelude.decimal, List.list_all, Char.digit_value, Str.Parse.digits_value, Str.Parse.AllDigits}
+use Rattle.std.proofs.lemmas.{Bool.and_parts, Bool.eq-eqb, Bool.ne_eqb, Bool.ltb-true, Bool.lt-ltb, Bool.Decides.nat_tests, Str.Parse.IsNumeralModel, Str.Parse.numerals_by_value}
+use Rattle.std.proofs.lemmas.{Str.Parse.tells_digits, Str.Parse.digit_from_value, Fmt.digits_decimal, Fmt.digits_value-decimal, Fmt.decimal-digits_value, Fmt.decimal_nonempty, Fmt.first_decimal}
+use Rattle.std.proofs.lemmas.{Fmt.decimal_digit}
 use Rattle.oat_lines.specs.Decimal.{is_decimal_digit, numeral_of, decimal_of, leads_with_zero}
 use Rattle.oat_lines.proofs.Steps.{chosen}
 

@@ -1,10 +1,8 @@
 -- The value of digits that are read one after the other.
 use Rattle.std.proofs.Common.{◌≡◌, ℕ, ◌+◌, ◌-◌, ◌*◌, ◌^◌, ◌<◌, ◌≤◌, min, List, length, take, get_or, arith, inl, inr}
-use Rattle.std.specs.Char.{digit_value}
-use Rattle.std.specs.Str.Parse.{digits_value}
-use Rattle.std.proofs.lemmas.Bool.{cases_lt}
-use Rattle.std.proofs.lemmas.Int.Digits.{digits_value_more}
+use Rattle.std.specs.{Char.digit_value, Str.Parse.digits_value}
 use Rattle.std.proofs.Math.Nat.{mul-le-mul_left, mul-le-mul_right}
+use Rattle.std.proofs.lemmas.{Bool.cases_lt, Int.Digits.digits_value_more}
 use Rattle.oat_lines.specs.Decimal.{capped}
 
 capped_step : (a radix d limit : ℕ) → 0 < radix → min (min (min a limit * radix) limit + d) limit ≡ min (a * radix + d) limit

@@ -1,18 +1,10 @@
 -- What is read as a hexadecimal number is spelled so, and what is spelled so is read.
 use Rattle.std.proofs.Common.{◌≡◌, ℕ, zero, suc, ◌+◌, ◌/◌, ◌%◌, ◌^◌, ◌<◌, ◌≤◌, Bool, true, false, ◌&&◌, eqb, List, [], ◌∷◌, ◌++◌, length, take, get_or, Some, None, refl, sym, ap, subst, ◌∙◌, arith}
-use Rattle.std.specs.Prelude.{if◌then◌else◌}
-use Rattle.std.specs.List.{list_all}
-use Rattle.std.specs.Char.{digit_value}
-use Rattle.std.specs.Str.Parse.{digits_value, AllDigits}
-use Rattle.std.proofs.lemmas.Bool.{and_parts, eqb-true, eq-eqb}
-use Rattle.std.proofs.lemmas.Bool.Decides.{nat_tests}
-use Rattle.std.proofs.lemmas.List.{take_more, take_all, length-append, length-take-le}
-use Rattle.std.proofs.lemmas.List.Folds.{list_all-append}
-use Rattle.std.proofs.lemmas.Int.Digits.{digits_value_push, digits_value-lt}
-use Rattle.std.proofs.lemmas.Nat.{div-mul-add, mod-mul-add}
+use Rattle.std.specs.{Prelude.if◌then◌else◌, List.list_all, Char.digit_value, Str.Parse.digits_value, Str.Parse.AllDigits}
 use Rattle.std.proofs.Math.Nat.{pow-le-pow_right, pow-succ'}
-use Rattle.oat_lines.specs.Decimal.{capped}
-use Rattle.oat_lines.specs.Hexadecimal.{is_hexadecimal_digit, hexadecimal_of, hexadecimal_digit, hexadecimal}
+use Rattle.std.proofs.lemmas.{Bool.and_parts, Bool.eqb-true, Bool.eq-eqb, Bool.Decides.nat_tests, List.take_more, List.take_all, List.length-append, List.length-take-le, List.Folds.list_all-append}
+use Rattle.std.proofs.lemmas.{Int.Digits.digits_value_push, Int.Digits.digits_value-lt, Nat.div-mul-add, Nat.mod-mul-add}
+use Rattle.oat_lines.specs.{Decimal.capped, Hexadecimal.is_hexadecimal_digit, Hexadecimal.hexadecimal_of, Hexadecimal.hexadecimal_digit, Hexadecimal.hexadecimal}
 use Rattle.oat_lines.proofs.Steps.{chosen}
 
 hexadecimal_value : (c : ℕ) → is_hexadecimal_digit c ≡ true → (digit_value c < 16) × (hexadecimal_digit (digit_value c) ≡ c)

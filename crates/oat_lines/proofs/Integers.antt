@@ -1,14 +1,9 @@
 -- Integers that are read with a largest one in place of those above it.
 use Rattle.std.proofs.Common.{◌≡◌, ℕ, zero, suc, ◌^◌, ◌<◌, true, false, List, drop, Option, Some, None, Result, Ok, ℤ, pos, neg_ℤ, refl, sym, ap, ◌∙◌, inl, inr, arith}
-use Rattle.std.specs.Prelude.{option_map, Err}
-use Rattle.std.specs.Option.{ok_or}
-use Rattle.std.specs.Str.Parse.{starts_with_minus}
+use Rattle.std.specs.{Prelude.option_map, Prelude.Err, Option.ok_or, Str.Parse.starts_with_minus}
 use Rattle.std.proofs.lemmas.Bool.{cases_Bool, cases_lt, le-ltb}
-use Rattle.oat_lines.specs.Decimal.{numeral_of, capped}
-use Rattle.oat_lines.specs.Reading.{◌>>=◌}
-use Rattle.oat_lines.specs.Integer.{integer_of, is_i64, within_i64, read_as_integer}
-use Rattle.oat_lines.specs.declared.integer.IntegerFault.{IntegerFault}
-use Rattle.oat_lines.specs.declared.integer.IntegerFault.TheVariants.{Misspelled, OutOfRange}
+use Rattle.oat_lines.specs.{Decimal.numeral_of, Decimal.capped, Reading.◌>>=◌, Integer.integer_of, Integer.is_i64, Integer.within_i64, Integer.read_as_integer}
+use Rattle.oat_lines.specs.{declared.integer.IntegerFault.IntegerFault, declared.integer.IntegerFault.TheVariants.Misspelled, declared.integer.IntegerFault.TheVariants.OutOfRange}
 use Rattle.oat_lines.proofs.Steps.{ok_is, bind_ok, or_ok}
 
 abbrev done : ℤ → Result ℤ IntegerFault

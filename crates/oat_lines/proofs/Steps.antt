@@ -1,11 +1,8 @@
 -- What is known of a step that gave a value, and of a call that answered a fault.
 use Rattle.std.proofs.Common.{◌≡◌, ◌≢◌, ℕ, Bool, true, false, Option, Some, None, Result, Ok, Err, refl, ap}
-use Rattle.std.specs.Prelude.{if◌then◌else◌}
-use Rattle.std.specs.Option.{ok_or}
-use Rattle.oat_lines.specs.declared.fault.Fault.{Fault}
-use Rattle.oat_lines.specs.declared.fault.Fault.TheVariants.{At, Memory}
-use Rattle.oat_lines.specs.Reading.{◌>>=◌, guard}
-use Rattle.oat_lines.specs.Faults.{at, Fails, Gives}
+use Rattle.std.specs.{Prelude.if◌then◌else◌, Option.ok_or}
+use Rattle.oat_lines.specs.{declared.fault.Fault.Fault, declared.fault.Fault.TheVariants.At, declared.fault.Fault.TheVariants.Memory, Reading.◌>>=◌, Reading.guard, Faults.at, Faults.Fails}
+use Rattle.oat_lines.specs.{Faults.Gives}
 
 -- ---- steps that gave a value
 

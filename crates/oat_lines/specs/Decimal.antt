@@ -1,8 +1,7 @@
 -- Decimal numbers of texts: digits in base ten without sign, the highest first. The spelling without
 -- leading zeros is that of Rust's `{}`.
-use Rattle.std.specs.Prelude.{ℕ, ◌-◌, ◌^◌, min, Bool, false, ◌&&◌, List, ◌∷◌, Option, Some, None, nat_le, nat_lt, ◌==◌, length, if◌then◌else◌}
-use Rattle.std.specs.List.{list_all}
-use Rattle.std.specs.Str.Parse.{digits_value}
+use Rattle.std.specs.{Prelude.ℕ, Prelude.◌-◌, Prelude.◌^◌, Prelude.min, Prelude.Bool, Prelude.false, Prelude.◌&&◌, Prelude.List, Prelude.◌∷◌, Prelude.Option, Prelude.Some, Prelude.None}
+use Rattle.std.specs.{Prelude.nat_le, Prelude.nat_lt, Prelude.◌==◌, Prelude.length, Prelude.if◌then◌else◌, List.list_all, Str.Parse.digits_value}
 
 -- the characters 0 to 9
 abbrev pub is_decimal_digit : ℕ → Bool

@@ -1,8 +1,7 @@
 -- What a reader that can run out of memory answers, beside what reading gives (docs/DEFINITIONS.md). These are words of
 -- this project's own.
 use Rattle.std.specs.Prelude.{◌≡◌, ℕ, Result, Ok, Err}
-use Rattle.oat_lines.specs.declared.fault.Fault.{Fault}
-use Rattle.oat_lines.specs.declared.fault.Fault.TheVariants.{At, Memory}
+use Rattle.oat_lines.specs.{declared.fault.Fault.Fault, declared.fault.Fault.TheVariants.At, declared.fault.Fault.TheVariants.Memory}
 
 -- what a line gives, its fault with the number of the line
 abbrev pub at : {X K : Type 0} → ℕ → Result X K → Result X (Fault K)

@@ -1,6 +1,7 @@
 -- Texts with one spelling: each line ends with LF, and one space stands between two words of a line (docs/FORMATS.md).
-use Rattle.std.specs.Prelude.{◌≡◌, ◌≢◌, ℕ, ◌<◌, Bool, true, List, [], ◌∷◌, ◌++◌, ◌==◌, ◌&&◌, length, slice_index, nat_lt, Option, Some, None, is_none, option_map, option_and_then, if◌then◌else◌}
-use Rattle.std.specs.List.{list_all}
+use Rattle.std.specs.{Prelude.◌≡◌, Prelude.◌≢◌, Prelude.ℕ, Prelude.◌<◌, Prelude.Bool, Prelude.true, Prelude.List, Prelude.[], Prelude.◌∷◌, Prelude.◌++◌, Prelude.◌==◌, Prelude.◌&&◌, Prelude.length}
+use Rattle.std.specs.{Prelude.slice_index, Prelude.nat_lt, Prelude.Option, Prelude.Some, Prelude.None, Prelude.is_none, Prelude.option_map, Prelude.option_and_then, Prelude.if◌then◌else◌}
+use Rattle.std.specs.{List.list_all}
 
 -- no such byte stands before this place
 abbrev pub IsFree : ℕ → ℕ → List ℕ → Type 0

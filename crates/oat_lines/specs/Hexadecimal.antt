@@ -1,7 +1,6 @@
 -- Hexadecimal numbers of texts: a fixed number of upper-case digits, the highest first (docs/FORMATS.md).
-use Rattle.std.specs.Prelude.{ℕ, zero, suc, ◌+◌, ◌/◌, ◌%◌, Bool, ◌&&◌, ◌||◌, List, [], ◌∷◌, ◌++◌, length, Option, Some, None, nat_le, nat_lt, ◌==◌, if◌then◌else◌}
-use Rattle.std.specs.List.{list_all}
-use Rattle.std.specs.Str.Parse.{digits_value}
+use Rattle.std.specs.{Prelude.ℕ, Prelude.zero, Prelude.suc, Prelude.◌+◌, Prelude.◌/◌, Prelude.◌%◌, Prelude.Bool, Prelude.◌&&◌, Prelude.◌||◌, Prelude.List, Prelude.[], Prelude.◌∷◌, Prelude.◌++◌}
+use Rattle.std.specs.{Prelude.length, Prelude.Option, Prelude.Some, Prelude.None, Prelude.nat_le, Prelude.nat_lt, Prelude.◌==◌, Prelude.if◌then◌else◌, List.list_all, Str.Parse.digits_value}
 
 -- the characters 0 to 9 and A to F
 abbrev pub is_hexadecimal_digit : ℕ → Bool

@@ -1,11 +1,8 @@
 -- Integers of texts: decimal digits, or decimal digits behind a minus, of a number of 64 bits in two's complement.
-use Rattle.std.specs.Prelude.{ℕ, ℤ, pos, negsuc, neg_ℤ, ◌^◌, Bool, nat_lt, List, drop, Option, option_map, Result, Ok, Err, if◌then◌else◌}
-use Rattle.std.specs.Option.{ok_or}
-use Rattle.std.specs.Str.Parse.{starts_with_minus}
-use Rattle.oat_lines.specs.Decimal.{numeral_of}
-use Rattle.oat_lines.specs.Reading.{◌>>=◌}
-use Rattle.oat_lines.specs.declared.integer.IntegerFault.{IntegerFault}
-use Rattle.oat_lines.specs.declared.integer.IntegerFault.TheVariants.{Misspelled, OutOfRange}
+use Rattle.std.specs.{Prelude.ℕ, Prelude.ℤ, Prelude.pos, Prelude.negsuc, Prelude.neg_ℤ, Prelude.◌^◌, Prelude.Bool, Prelude.nat_lt, Prelude.List, Prelude.drop, Prelude.Option, Prelude.option_map}
+use Rattle.std.specs.{Prelude.Result, Prelude.Ok, Prelude.Err, Prelude.if◌then◌else◌, Option.ok_or, Str.Parse.starts_with_minus}
+use Rattle.oat_lines.specs.{Decimal.numeral_of, Reading.◌>>=◌, declared.integer.IntegerFault.IntegerFault, declared.integer.IntegerFault.TheVariants.Misspelled}
+use Rattle.oat_lines.specs.{declared.integer.IntegerFault.TheVariants.OutOfRange}
 
 -- digits, or digits behind a minus, with leading zeros or without; None for other words
 abbrev pub integer_of : List ℕ → Option ℤ

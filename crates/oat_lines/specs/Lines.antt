@@ -1,7 +1,6 @@
 -- The lines and words of a text of bytes, as docs/FORMATS.md says: a line ends with LF or CR LF, words stand between spaces and tabs.
-use Rattle.std.specs.Prelude.{ℕ, List, [], ◌∷◌, Bool, true, false, not, ◌==◌, ◌||◌, map, filter, Option, Some, None, slice_index}
-use Rattle.std.specs.List.{slice_split}
-use Rattle.std.specs.Str.Lines.{lines}
+use Rattle.std.specs.{Prelude.ℕ, Prelude.List, Prelude.[], Prelude.◌∷◌, Prelude.Bool, Prelude.true, Prelude.false, Prelude.not, Prelude.◌==◌, Prelude.◌||◌, Prelude.map, Prelude.filter, Prelude.Option}
+use Rattle.std.specs.{Prelude.Some, Prelude.None, Prelude.slice_index, List.slice_split, Str.Lines.lines}
 
 -- the lines without their ends; a CR that no LF follows belongs to its line
 unfoldable pub lines_of : List ℕ → List (List ℕ)

@@ -1,31 +1,20 @@
 -- The nineteen lines X = Y op Z, each a row: its result as the machine makes it, joined to the source's.
-use Rattle.std.proofs.Common.{◌≡◌, ◌+◌, ◌*◌, ◌%◌, ◌^◌, ◌<◌, ◌≤◌, inl, inr, ℕ, Bool, true, false, cond, not, eqb, leb, ltb, List, [], ◌∷◌, ◌++◌, Some, None, refl, sym, ap, ◌∙◌, arith, eqb-true, bit_and, bit_or, bit_xor}
+use Rattle.std.proofs.Common.{◌≡◌, ◌+◌, ◌*◌, ◌%◌, ◌^◌, ◌<◌, ◌≤◌, inl, inr, ℕ, Bool, true, false, cond, not, eqb, leb, ltb, List, [], ◌∷◌, ◌++◌, Some, None, refl, sym, ap, ◌∙◌, arith, eqb-true}
+use Rattle.std.proofs.Common.{bit_and, bit_or, bit_xor}
 use Rattle.std.proofs.lemmas.Bool.{eqb-false}
 use Rattle.oat_bits.proofs.WordLemmas.{remainders_are_left}
-use Rattle.oat_bits.specs.Words.{unsigned_remainder, signed_remainder}
-use Rattle.oat_a64.specs.declared.inst.Inst.{Inst}
-use Rattle.oat_a64.specs.declared.inst.Inst.TheVariants.{Csinc, Msub}
-use Rattle.oat_a64.specs.Step.{Regs, Machine, act, goes_on, reg, set, with_reg, with_flags, holds, wrap, difference, shifted_left, shifted_right, shifted_right_signed, unsigned_quotient, signed_quotient}
-use Rattle.oat_asm.specs.declared.item.Item.{Item}
-use Rattle.oat_asm.specs.declared.item.Item.TheVariants as item
-use Rattle.oat_ir.specs.declared.instr.BinOp.{BinOp}
-use Rattle.oat_ir.specs.declared.instr.BinOp.TheVariants.{Add, Sub, Mul, And, Or, Xor, Shl, Shr, Sar, Eq, Ne, Lt, Le, Ltu, Leu, Div, Rem, Divu, Remu}
-use Rattle.oat_map.specs.declared.trap.TrapKind.TheVariants.{DivZero}
-use Rattle.oat_journal.specs.declared.end.DeviceEnd.TheVariants as ends
-use Rattle.oat_journal.specs.Run.{Running}
-use Rattle.oat_check.specs.Operators.{truth, divided, result_of}
-use Rattle.oat_check.specs.Steps.{Frame}
 use Rattle.oat_check.proofs.Bounds.{result_small}
-use Rattle.oat_frames.specs.Comes.{StepsTo, EndsWithin, with_result}
-use Rattle.oat_frames.specs.Frames.{World, IsWorld, IsAt, home_of, home_in}
-use Rattle.oat_frames.specs.Lines.{IsLineAt, IsNumberLocal}
-use Rattle.oat_frames.specs.Moments.{next_moment, jumped}
-use Rattle.oat_frames.proofs.Kit.{set-same, set-other, with_x, compared, IsQuiet}
-use Rattle.oat_frames.proofs.FrameLaws.{home-cases, number-small}
-use Rattle.oat_locals.specs.Code.{operand_in, operand_load, operand_store, binary_code, operation_code, one_inst, compared_by, divisor_tested}
-use Rattle.oat_locals.specs.Lines.{BinariesLead, DivisionsTrap}
-use Rattle.oat_locals.proofs.Flags.{n-is-v, z-n-v, z-is, c-z}
-use Rattle.oat_locals.proofs.Reached.{Reached, begun, gives, flags, skips, traps, loaded, ends-with}
+use Rattle.oat_frames.specs.{unsigned_remainder, signed_remainder, Inst, Csinc, Msub, Regs, Machine, act, goes_on, reg, set, with_reg, with_flags, holds, wrap, difference, shifted_left, shifted_right}
+use Rattle.oat_frames.specs.{shifted_right_signed, unsigned_quotient, signed_quotient, Item, BinOp, Add, Sub, Mul, And, Or, Xor, Shl, Shr, Sar, Eq, Ne, Lt, Le, Ltu, Leu, Div, Rem, Divu, Remu, DivZero}
+use Rattle.oat_frames.specs.{Running, truth, divided, result_of, Frame, Comes.StepsTo, Comes.EndsWithin, Comes.with_result, Frames.World, Frames.IsWorld, Frames.IsAt, Frames.home_of, Frames.home_in}
+use Rattle.oat_frames.specs.{Lines.IsLineAt, Lines.IsNumberLocal, Moments.next_moment, Moments.jumped}
+use Rattle.oat_frames.proofs.{Kit.set-same, Kit.set-other, Kit.with_x, Kit.compared, Kit.IsQuiet, FrameLaws.home-cases, FrameLaws.number-small}
+use Rattle.oat_locals.specs.{Code.operand_in, Code.operand_load, Code.operand_store, Code.binary_code, Code.operation_code, Code.one_inst, Code.compared_by, Code.divisor_tested, Lines.BinariesLead}
+use Rattle.oat_locals.specs.{Lines.DivisionsTrap}
+use Rattle.oat_locals.proofs.{Flags.n-is-v, Flags.z-n-v, Flags.z-is, Flags.c-z, Reached.Reached, Reached.begun, Reached.gives, Reached.flags, Reached.skips, Reached.traps, Reached.loaded}
+use Rattle.oat_locals.proofs.{Reached.ends-with}
+use Rattle.oat_asm.specs.declared.item.Item.TheVariants as item
+use Rattle.oat_frames.specs.ends as ends
 
 -- ---- results
 

@@ -1,11 +1,10 @@
 -- The flags of SUBS, and the six comparisons of the source.
-use Rattle.std.proofs.Common.{◌≡◌, ◌+◌, ◌-◌, ◌*◌, ◌^◌, ◌<◌, ◌≤◌, ◌⊎◌, inl, inr, ℕ, zero, suc, ℤ, pos, negsuc, ◌-ℤ◌, Bool, true, false, not, ◌&&◌, ◌||◌, eqb, ltb, leb, int_lt, int_le, refl, sym, ap, ◌∙◌, arith, eq-eqb, ne_eqb}
-use Rattle.std.proofs.lemmas.Bool.{cases_lt, le-leb, lt-leb, lt-ltb, le-ltb}
-use Rattle.std.proofs.lemmas.Int.{ints, to_z_pos}
-use Rattle.std.specs.Bool.{beq}
-use Rattle.std.specs.Int.{w64}
-use Rattle.oat_a64.specs.Fetch.{fits_signed}
-use Rattle.oat_a64.specs.Step.{difference, signed}
+use Rattle.std.proofs.Common.{◌≡◌, ◌+◌, ◌-◌, ◌*◌, ◌^◌, ◌<◌, ◌≤◌, ◌⊎◌, inl, inr, ℕ, zero, suc, ℤ, pos, negsuc, ◌-ℤ◌, Bool, true, false, not, ◌&&◌, ◌||◌, eqb, ltb, leb, int_lt, int_le, refl, sym, ap}
+use Rattle.std.proofs.Common.{◌∙◌, arith, eq-eqb, ne_eqb}
+use Rattle.std.specs.{Bool.beq, Int.w64}
+use Rattle.std.proofs.lemmas.{Bool.cases_lt, Bool.le-leb, Bool.lt-leb, Bool.lt-ltb, Bool.le-ltb, Int.ints, Int.to_z_pos}
+use Rattle.oat_asm.specs.{signed}
+use Rattle.oat_frames.specs.{fits_signed, difference}
 use Rattle.oat_locals.specs.Flags.{FlagsCompare}
 
 -- ---- the difference, and the integer that it stands for

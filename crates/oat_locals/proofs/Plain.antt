@@ -1,25 +1,15 @@
 -- The lines const, copy, in and out.
 use Rattle.std.proofs.Common.{◌≡◌, ◌+◌, ◌*◌, ◌/◌, ◌%◌, ◌^◌, ◌<◌, ℕ, ℤ, FitsSigned, [], ◌∷◌, refl, sym, ap, subst, ◌∙◌, arith}
-use Rattle.std.proofs.lemmas.Int.{ints}
 use Rattle.std.specs.Int.{w64}
-use Rattle.oat_a64.specs.declared.inst.Inst.TheVariants.{Movz, Movk, Svc}
-use Rattle.oat_a64.specs.Step.{goes_on, reg, with_reg, signed, unsigned, shifted_left, with_bits}
-use Rattle.oat_journal.specs.Run.{Running}
-use Rattle.oat_shape.specs.Groups.{Stands}
-use Rattle.oat_ir.specs.declared.func.Ty.{Ty}
-use Rattle.oat_ir.specs.declared.func.Ty.TheVariants.{I64}
-use Rattle.oat_check.specs.Operators as words
+use Rattle.std.proofs.lemmas.Int.{ints}
+use Rattle.oat_asm.specs.{signed}
 use Rattle.oat_check.proofs.Bounds.{number_small}
-use Rattle.oat_frames.specs.Code.{CodeStands, store_inst}
-use Rattle.oat_follow.specs.Events.{prints}
-use Rattle.oat_frames.specs.Frames.{World, Represents, home_word, home_in, line_address}
-use Rattle.oat_frames.specs.Readied.{IsReadied}
-use Rattle.oat_follow.specs.Reaching.{RunsTo, inst_makes}
-use Rattle.oat_frames.specs.Moments.{next_moment}
-use Rattle.oat_frames.proofs.Kit.{thence, with_x, sets, input_next, outputs_next, svc-in, svc-in-end, svc-out}
-use Rattle.oat_frames.proofs.FrameLaws.{by-registers, assigns, keeps-eight, local-word, loads-local, loads-number, scratched}
-use Rattle.oat_locals.specs.Code.{const_code, copy_code, input_code, output_code}
-use Rattle.oat_locals.specs.Lines.{ConstsLead, CopiesLead, InputsLead, InputEndsTrap, OutputsLead}
+use Rattle.oat_frames.specs.{Movz, Movk, Svc, goes_on, reg, with_reg, unsigned, shifted_left, with_bits, Running, Stands, Ty, I64, Code.CodeStands, Code.store_inst, prints, Frames.World}
+use Rattle.oat_frames.specs.{Frames.Represents, Frames.home_word, Frames.home_in, Frames.line_address, Readied.IsReadied, RunsTo, inst_makes, Moments.next_moment}
+use Rattle.oat_frames.proofs.{Kit.thence, Kit.with_x, Kit.sets, Kit.input_next, Kit.outputs_next, Kit.svc-in, Kit.svc-in-end, Kit.svc-out, FrameLaws.by-registers, FrameLaws.assigns}
+use Rattle.oat_frames.proofs.{FrameLaws.keeps-eight, FrameLaws.local-word, FrameLaws.loads-local, FrameLaws.loads-number, FrameLaws.scratched}
+use Rattle.oat_locals.specs.{Code.const_code, Code.copy_code, Code.input_code, Code.output_code, Lines.ConstsLead, Lines.CopiesLead, Lines.InputsLead, Lines.InputEndsTrap, Lines.OutputsLead}
+use Rattle.oat_check.specs.Operators as words
 
 -- ---- where the store stands
 

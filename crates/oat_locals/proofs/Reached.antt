@@ -1,34 +1,19 @@
 -- A line whose operands are taken where they are held: what is left of its code, and how it is made, instruction by instruction.
 use Rattle.std.proofs.Common.{◌≡◌, ◌+◌, ◌*◌, ◌^◌, ◌<◌, ◌≤◌, inl, inr, ℕ, pos, not, cond, Bool, List, [], ◌∷◌, ◌++◌, None, Some, refl, sym, ap, subst, ◌∙◌, arith, ne_eqb, eq-eqb, ltb}
 use Rattle.std.proofs.lemmas.Bool.{lt-ltb}
-use Rattle.oat_a64.specs.declared.inst.Inst.{Inst}
-use Rattle.oat_a64.specs.declared.inst.Inst.TheVariants.{SubsReg, Cbnz, Brk, Ldr, Str}
-use Rattle.oat_a64.specs.Step.{Regs, act, goes_on, reg, with_reg}
-use Rattle.oat_asm.specs.declared.item.Item.{Item}
+use Rattle.oat_asm.proofs.StandingItems.{words_of_two}
+use Rattle.oat_frames.specs.{Inst, SubsReg, Cbnz, Brk, Ldr, Str, Regs, act, goes_on, reg, with_reg, Item, words_needed, DivZero, row_over, Running, Stands, Ty, I64, Frame, Code.CodeStands}
+use Rattle.oat_frames.specs.{Code.load_inst, Code.store_inst, Comes.StepsTo, Comes.EndsWithin, Comes.with_result, Frames.World, Frames.IsWorld, Frames.Home, Frames.slot, Frames.register}
+use Rattle.oat_frames.specs.{Frames.Represents, Frames.HoldsState, Frames.IsAt, Frames.home_word, Frames.home_in, Frames.line_address, Lines.IsLineAt, Lines.IsNumberLocal, Phases.HasSlots}
+use Rattle.oat_frames.specs.{Readied.IsReadied, Moments.next_moment, Moments.jumped, RunsTo, inst_makes}
+use Rattle.oat_frames.proofs.{Kit.still, Kit.thence, Kit.set-same, Kit.set-other, Kit.with_x, Kit.compared, Kit.IsQuiet, Kit.sets, Kit.compares, Kit.cbnz-skips, Kit.cbnz-passes, Kit.brk-zero}
+use Rattle.oat_frames.proofs.{FrameLaws.home-cases, FrameLaws.HomeWritten, FrameLaws.reads-home, FrameLaws.readied-holds, FrameLaws.here-opens, FrameLaws.assigns, FrameLaws.comes-within}
+use Rattle.oat_frames.proofs.{FrameLaws.puts-home}
+use Rattle.oat_locals.specs.Code.{operand_in, operand_load, operand_store, divisor_tested}
 use Rattle.oat_asm.specs.declared.item.Item.TheVariants as item
 use Rattle.oat_asm.specs.declared.note.Note.TheVariants as note
-use Rattle.oat_asm.specs.Items.{words_needed}
-use Rattle.oat_asm.proofs.StandingItems.{words_of_two}
-use Rattle.oat_map.specs.declared.trap.TrapKind.TheVariants.{DivZero}
-use Rattle.oat_map.specs.declared.row.Row.TheVariants as rows
-use Rattle.oat_map.specs.Rows.{row_over}
-use Rattle.oat_journal.specs.declared.end.DeviceEnd.TheVariants as ends
-use Rattle.oat_journal.specs.Run.{Running}
-use Rattle.oat_shape.specs.Groups.{Stands}
-use Rattle.oat_ir.specs.declared.func.Ty.{Ty}
-use Rattle.oat_ir.specs.declared.func.Ty.TheVariants.{I64}
-use Rattle.oat_check.specs.Steps.{Frame}
-use Rattle.oat_frames.specs.Code.{CodeStands, load_inst, store_inst}
-use Rattle.oat_frames.specs.Comes.{StepsTo, EndsWithin, with_result}
-use Rattle.oat_frames.specs.Frames.{World, IsWorld, Home, slot, register, Represents, HoldsState, IsAt, home_word, home_in, line_address}
-use Rattle.oat_frames.specs.Lines.{IsLineAt, IsNumberLocal}
-use Rattle.oat_frames.specs.Phases.{HasSlots}
-use Rattle.oat_frames.specs.Readied.{IsReadied}
-use Rattle.oat_frames.specs.Moments.{next_moment, jumped}
-use Rattle.oat_follow.specs.Reaching.{RunsTo, inst_makes}
-use Rattle.oat_frames.proofs.Kit.{still, thence, set-same, set-other, with_x, compared, IsQuiet, sets, compares, cbnz-skips, cbnz-passes, brk-zero}
-use Rattle.oat_frames.proofs.FrameLaws.{home-cases, HomeWritten, reads-home, readied-holds, here-opens, assigns, comes-within, puts-home}
-use Rattle.oat_locals.specs.Code.{operand_in, operand_load, operand_store, divisor_tested}
+use Rattle.oat_frames.specs.rows as rows
+use Rattle.oat_frames.specs.ends as ends
 
 pub reg-low : (x : Regs) (n : ℕ) → n < 31 → reg x n ≡ x.x n
 reg-low x n h = ap (λ (t : Bool). cond t (x.x n) 0) (lt-ltb n 31 h)

@@ -1,18 +1,12 @@
 -- How many words each line has, and that the fields of its instructions fit.
 use Rattle.std.proofs.Common.{◌≡◌, refl, ◌+◌, ◌^◌, ◌<◌, ◌≤◌, ℕ, ℤ, List, [], ◌∷◌, ◌++◌, arith, lit<}
-use Rattle.oat_asm.specs.declared.item.Item.{Item}
-use Rattle.oat_asm.specs.Items.{words_needed}
-use Rattle.oat_asm.specs.Ranges.{AreItemsInRange}
 use Rattle.oat_asm.proofs.StandingItems.{words_of_two}
-use Rattle.oat_ir.specs.declared.instr.BinOp.{BinOp}
-use Rattle.oat_ir.specs.declared.instr.BinOp.TheVariants.{Add, Sub, Mul, And, Or, Xor, Shl, Shr, Sar, Eq, Ne, Lt, Le, Ltu, Leu, Div, Rem, Divu, Remu}
-use Rattle.oat_check.specs.Operators.{number}
 use Rattle.oat_check.proofs.Bounds.{number_small}
-use Rattle.oat_frames.specs.Frames.{Home, slot, register}
-use Rattle.oat_frames.specs.Code.{IsHome, home_store}
+use Rattle.oat_frames.specs.{Item, words_needed, AreItemsInRange, BinOp, Add, Sub, Mul, And, Or, Xor, Shl, Shr, Sar, Eq, Ne, Lt, Le, Ltu, Leu, Div, Rem, Divu, Remu, number, Frames.Home, Frames.slot}
+use Rattle.oat_frames.specs.{Frames.register, Code.IsHome, Code.home_store}
 use Rattle.oat_frames.proofs.FrameLaws.{load-range, store-range}
-use Rattle.oat_locals.specs.Code.{operand_in, operand_load, operand_store, operation_code, const_code, binary_code, binary_words}
-use Rattle.oat_locals.specs.Sizes.{WordsOfLines, LinesAreInRange}
+use Rattle.oat_locals.specs.{Code.operand_in, Code.operand_load, Code.operand_store, Code.operation_code, Code.const_code, Code.binary_code, Code.binary_words, Sizes.WordsOfLines}
+use Rattle.oat_locals.specs.{Sizes.LinesAreInRange}
 
 range-append : (is js : List Item) → AreItemsInRange is → AreItemsInRange js → AreItemsInRange (is ++ js)
 range-append [] js h l = l

@@ -1,25 +1,13 @@
 -- The terminators jump, branch and halt.
 use Rattle.std.proofs.Common.{◌≡◌, ◌+◌, ◌*◌, ◌<◌, ◌≤◌, inl, inr, ℕ, true, false, not, List, [], ◌∷◌, Some, None, Contains, refl, sym, ap, subst, arith, eq-eqb, ne_eqb}
-use Rattle.oat_a64.specs.declared.inst.Inst.TheVariants.{Svc}
-use Rattle.oat_map.specs.declared.edge.Edge.TheVariants as edges
-use Rattle.oat_map.specs.declared.map.Map.{Map}
-use Rattle.oat_map.specs.declared.row.Row.{Row}
-use Rattle.oat_map.specs.declared.row.Row.TheVariants as rows
-use Rattle.oat_map.specs.Rows.{starts_of, is_over, row_over}
-use Rattle.oat_journal.specs.Run.{Running}
-use Rattle.oat_journal.specs.Window.{edge_over}
-use Rattle.oat_frames.specs.Code.{CodeStands}
-use Rattle.oat_check.specs.Steps.{Frame}
-use Rattle.oat_follow.specs.Events.{MachineEvent, moves}
-use Rattle.oat_frames.specs.Comes.{StepsTo}
-use Rattle.oat_frames.specs.Frames.{World, IsWorld, IsAt, HoldsState, home_in, line_address}
-use Rattle.oat_frames.specs.Lines.{IsNumberLocal}
-use Rattle.oat_follow.specs.Reaching.{RunsTo, inst_makes}
-use Rattle.oat_frames.specs.Moments.{next_moment, jumped}
-use Rattle.oat_frames.proofs.Kit.{thence, with_x, b, cbnz-leads, cbnz-falls, svc-bit, svc-halt}
-use Rattle.oat_frames.proofs.FrameLaws.{found-contains, keeps-eight, loads-number, scratched}
-use Rattle.oat_locals.specs.Code.{jump_code, branch_code, halt_code}
-use Rattle.oat_locals.specs.Terminators.{BlockBegins, in_block, JumpsLead, TakenBranchesLead, OtherBranchesLead, BranchesAreApart, HaltsEnd}
+use Rattle.oat_frames.specs.{Svc, Map, Row, starts_of, is_over, row_over, Running, edge_over, Code.CodeStands, Frame, MachineEvent, moves, Comes.StepsTo, Frames.World, Frames.IsWorld, Frames.IsAt}
+use Rattle.oat_frames.specs.{Frames.HoldsState, Frames.home_in, Frames.line_address, Lines.IsNumberLocal, RunsTo, inst_makes, Moments.next_moment, Moments.jumped}
+use Rattle.oat_frames.proofs.{Kit.thence, Kit.with_x, Kit.b, Kit.cbnz-leads, Kit.cbnz-falls, Kit.svc-bit, Kit.svc-halt, FrameLaws.found-contains, FrameLaws.keeps-eight, FrameLaws.loads-number}
+use Rattle.oat_frames.proofs.{FrameLaws.scratched}
+use Rattle.oat_locals.specs.{Code.jump_code, Code.branch_code, Code.halt_code, Terminators.BlockBegins, Terminators.in_block, Terminators.JumpsLead, Terminators.TakenBranchesLead}
+use Rattle.oat_locals.specs.{Terminators.OtherBranchesLead, Terminators.BranchesAreApart, Terminators.HaltsEnd}
+use Rattle.oat_frames.specs.edges as edges
+use Rattle.oat_frames.specs.rows as rows
 
 -- ---- to a block
 

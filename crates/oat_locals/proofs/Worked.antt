@@ -1,30 +1,13 @@
 -- A program of lines meets all that their laws ask for, and so runs as its source.
 use Rattle.std.proofs.Common.{◌≡◌, ◌+◌, ◌-◌, ◌^◌, ◌<◌, ℕ, ℤ, pos, negsuc, Bool, true, false, cond, eqb, List, [], ◌∷◌, ◌++◌, refl, ap, ◌∙◌, arith, lit<}
-use Rattle.std.specs.List.{slice_get, list_all}
-use Rattle.std.specs.Option.{option_and_then}
-use Rattle.oat_a64.specs.declared.inst.Inst.{Inst}
-use Rattle.oat_a64.specs.declared.inst.Inst.TheVariants.{OrrReg, SubImm, SubsReg, Csinc, Sdiv, Msub, Movz, Movk, Str, B, Cbnz, Svc, Brk}
-use Rattle.oat_a64.specs.Fetch.{inst_of, is_word}
-use Rattle.oat_map.specs.declared.edge.Edge.TheVariants as edges
-use Rattle.oat_map.specs.declared.row.Row.{Row}
-use Rattle.oat_map.specs.declared.row.Row.TheVariants as rows
-use Rattle.oat_journal.specs.Run.{started}
-use Rattle.oat_asm.specs.Standing.{IsOver}
-use Rattle.oat_ir.specs.declared.instr.BinOp.TheVariants.{Div, Rem, Lt}
-use Rattle.oat_check.specs.Steps.{Frame}
-use Rattle.oat_follow.specs.Events.{MachineEvent, moves, prints}
-use Rattle.oat_frames.specs.Frames.{World, IsWorld}
-use Rattle.oat_frames.specs.Comes.{with_result}
-use Rattle.oat_frames.specs.Lines.{IsNumberLocal, on_next_line}
-use Rattle.oat_frames.specs.Returns.{main_frame}
-use Rattle.oat_frames.proofs.Kit.{thence}
-use Rattle.oat_frames.proofs.FrameLaws.{start-leads, low-code}
-use Rattle.oat_frames.proofs.WorkedCode.{is_encodable, decodes_at, over, beyond}
-use Rattle.oat_locals.specs.Terminators.{in_block}
-use Rattle.oat_locals.specs.Worked.{lines_map, lines_image, lines_world, LinesRun}
-use Rattle.oat_locals.proofs.Binaries.{binaries-lead}
-use Rattle.oat_locals.proofs.Terminators.{jumps-lead, taken-branches-lead, halts-end}
-use Rattle.oat_locals.proofs.Plain.{consts-lead, inputs-lead, outputs-lead}
+use Rattle.std.specs.{List.slice_get, List.list_all, Option.option_and_then}
+use Rattle.oat_frames.specs.{Inst, OrrReg, SubImm, SubsReg, Csinc, Sdiv, Msub, Movz, Movk, Str, B, Cbnz, Svc, Brk, inst_of, is_word, Row, started, IsOver, Div, Rem, Lt, Frame, MachineEvent, moves}
+use Rattle.oat_frames.specs.{prints, Frames.World, Frames.IsWorld, Comes.with_result, Lines.IsNumberLocal, Lines.on_next_line, Returns.main_frame}
+use Rattle.oat_frames.proofs.{Kit.thence, FrameLaws.start-leads, FrameLaws.low-code, WorkedCode.is_encodable, WorkedCode.decodes_at, WorkedCode.over, WorkedCode.beyond}
+use Rattle.oat_locals.specs.{Terminators.in_block, Worked.lines_map, Worked.lines_image, Worked.lines_world, Worked.LinesRun}
+use Rattle.oat_locals.proofs.{Binaries.binaries-lead, Terminators.jumps-lead, Terminators.taken-branches-lead, Terminators.halts-end, Plain.consts-lead, Plain.inputs-lead, Plain.outputs-lead}
+use Rattle.oat_frames.specs.edges as edges
+use Rattle.oat_frames.specs.rows as rows
 
 -- ---- the words
 

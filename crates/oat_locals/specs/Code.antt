@@ -1,17 +1,11 @@
 -- The code of the lines whose operands are locals alone, by the homes of these locals (the instructions are those of the Arm A64 manual). X9, X10 and X11 are scratch, and X0 passes inputs and outputs.
 use Rattle.std.specs.Prelude.{◌/◌, ◌%◌, ◌^◌, ℕ, ℤ, pos, List, [], ◌∷◌, ◌++◌}
-use Rattle.oat_a64.specs.declared.inst.Inst.{Inst}
-use Rattle.oat_a64.specs.declared.inst.Inst.TheVariants.{AddReg, SubReg, SubsReg, AndReg, OrrReg, EorReg, Madd, Msub, Udiv, Sdiv, Lslv, Lsrv, Asrv, Movz, Movk, Csinc, Ldr, Str, Svc, Brk}
-use Rattle.oat_a64.specs.declared.inst.Inst.TheVariants as inst
+use Rattle.oat_frames.specs.{Inst, AddReg, SubReg, SubsReg, AndReg, OrrReg, EorReg, Madd, Msub, Udiv, Sdiv, Lslv, Lsrv, Asrv, Movz, Movk, Csinc, Ldr, Str, Svc, Brk, Item, BinOp, Add, Sub, Mul, And}
+use Rattle.oat_frames.specs.{Or, Xor, Shl, Shr, Sar, Eq, Ne, Lt, Le, Ltu, Leu, Div, Rem, Divu, Remu, number, Frames.Home, Frames.slot, Frames.register, Code.home_load, Code.home_store}
+use Rattle.oat_frames.specs.inst as inst
 use Rattle.oat_asm.specs.declared.branch_form.BranchForm.TheVariants as form
-use Rattle.oat_asm.specs.declared.item.Item.{Item}
 use Rattle.oat_asm.specs.declared.item.Item.TheVariants as item
 use Rattle.oat_asm.specs.declared.note.Note.TheVariants as note
-use Rattle.oat_ir.specs.declared.instr.BinOp.{BinOp}
-use Rattle.oat_ir.specs.declared.instr.BinOp.TheVariants.{Add, Sub, Mul, And, Or, Xor, Shl, Shr, Sar, Eq, Ne, Lt, Le, Ltu, Leu, Div, Rem, Divu, Remu}
-use Rattle.oat_check.specs.Operators.{number}
-use Rattle.oat_frames.specs.Frames.{Home, slot, register}
-use Rattle.oat_frames.specs.Code.{home_load, home_store}
 
 -- ---- three operands
 

@@ -1,7 +1,6 @@
 -- The conditions of the Arm A64 manual behind SUBS (C1.2.4, "Condition code"), each as a comparison of two words.
 use Rattle.std.specs.Prelude.{◌≡◌, ◌^◌, ◌<◌, nat_eq, nat_lt, nat_le, ℕ, int_lt, int_le}
-use Rattle.oat_bits.specs.Words.{signed}
-use Rattle.oat_a64.specs.Step.{Regs, holds, with_flags}
+use Rattle.oat_frames.specs.{signed, Regs, holds, with_flags}
 
 pub record FlagsCompare : Type 0 where
   -- EQ, LT and LE

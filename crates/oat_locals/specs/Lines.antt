@@ -1,18 +1,9 @@
 -- What each line comes to whose operands are locals alone, from the relation to the relation.
-use Rattle.std.specs.Prelude.{◌≡◌, ◌<◌, ℕ, ℤ, FitsSigned, List, [], ◌∷◌, ◌++◌, Some, None}
-use Rattle.std.specs.Int.{w64}
-use Rattle.oat_bits.specs.Words.{signed}
-use Rattle.oat_map.specs.declared.trap.TrapKind.TheVariants.{DivZero, InputEnd}
-use Rattle.oat_journal.specs.declared.end.DeviceEnd.TheVariants as ends
-use Rattle.oat_journal.specs.Run.{Running}
-use Rattle.oat_ir.specs.declared.instr.BinOp.{BinOp}
-use Rattle.oat_check.specs.Operators.{number, result_of}
-use Rattle.oat_check.specs.Steps.{Frame}
-use Rattle.oat_follow.specs.Events.{prints}
-use Rattle.oat_frames.specs.Frames.{World, IsWorld, IsAt, home_in}
-use Rattle.oat_frames.specs.Comes.{ComesTo, StepsTo, EndsWithin, with_result}
-use Rattle.oat_frames.specs.Lines.{IsLineAt, IsNumberLocal, on_next_line}
+use Rattle.std.specs.{Prelude.◌≡◌, Prelude.◌<◌, Prelude.ℕ, Prelude.ℤ, Prelude.FitsSigned, Prelude.List, Prelude.[], Prelude.◌∷◌, Prelude.◌++◌, Prelude.Some, Prelude.None, Int.w64}
+use Rattle.oat_frames.specs.{signed, DivZero, InputEnd, Running, BinOp, number, result_of, Frame, prints, Frames.World, Frames.IsWorld, Frames.IsAt, Frames.home_in, Comes.ComesTo, Comes.StepsTo}
+use Rattle.oat_frames.specs.{Comes.EndsWithin, Comes.with_result, Lines.IsLineAt, Lines.IsNumberLocal, Lines.on_next_line}
 use Rattle.oat_locals.specs.Code.{binary_code, const_code, copy_code, input_code, output_code}
+use Rattle.oat_frames.specs.ends as ends
 
 -- ---- three operands
 

@@ -1,10 +1,6 @@
 -- How many words the code of each line has, and that the fields of its instructions fit.
 use Rattle.std.specs.Prelude.{◌≡◌, ◌≤◌, ℕ, ℤ}
-use Rattle.oat_asm.specs.Items.{words_needed}
-use Rattle.oat_asm.specs.Ranges.{AreItemsInRange}
-use Rattle.oat_ir.specs.declared.instr.BinOp.{BinOp}
-use Rattle.oat_frames.specs.Frames.{Home}
-use Rattle.oat_frames.specs.Code.{IsHome}
+use Rattle.oat_frames.specs.{words_needed, AreItemsInRange, BinOp, Frames.Home, Code.IsHome}
 use Rattle.oat_locals.specs.Code.{binary_code, binary_words, const_code, copy_code, input_code, output_code, jump_code, branch_code, halt_code}
 
 pub record WordsOfLines : Type 0 where

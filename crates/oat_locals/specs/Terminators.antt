@@ -1,16 +1,10 @@
 -- What the terminators jump, branch and halt come to, from the relation to the relation.
 use Rattle.std.specs.Prelude.{◌≡◌, ◌+◌, ℕ, true, false, List, [], ◌∷◌}
-use Rattle.oat_map.specs.declared.edge.Edge.TheVariants as edges
-use Rattle.oat_journal.specs.declared.end.DeviceEnd.TheVariants as ends
-use Rattle.oat_journal.specs.Run.{Running}
-use Rattle.oat_shape.specs.Shape.{IsShaped}
-use Rattle.oat_check.specs.Steps.{Frame}
-use Rattle.oat_frames.specs.Code.{CodeStands}
-use Rattle.oat_follow.specs.Events.{moves}
-use Rattle.oat_frames.specs.Frames.{World, IsWorld, Home, IsAt, home_in, line_address}
-use Rattle.oat_frames.specs.Comes.{StepsTo, EndsWithin}
-use Rattle.oat_frames.specs.Lines.{IsNumberLocal}
+use Rattle.oat_frames.specs.{Running, IsShaped, Frame, Code.CodeStands, moves, Frames.World, Frames.IsWorld, Frames.Home, Frames.IsAt, Frames.home_in, Frames.line_address, Comes.StepsTo}
+use Rattle.oat_frames.specs.{Comes.EndsWithin, Lines.IsNumberLocal}
 use Rattle.oat_locals.specs.Code.{jump_code, branch_code, halt_code}
+use Rattle.oat_frames.specs.edges as edges
+use Rattle.oat_frames.specs.ends as ends
 
 -- a block of the frame's function begins at a label
 abbrev pub BlockBegins : World → Frame → ℕ → ℕ → Type 0

@@ -1,15 +1,9 @@
 -- A program of lines: 7 is read, divided by -2, and what remains is compared with the quotient; then the quotient is put.
 use Rattle.std.specs.Prelude.{◌≡◌, ◌+◌, ℕ, pos, negsuc, true, false, nat_eq, if◌then◌else◌, [], ◌∷◌, Some, None, codes, get_or}
-use Rattle.oat_image.specs.declared.image.Image.{Image}
-use Rattle.oat_map.specs.declared.map.Map.{Map}
-use Rattle.oat_map.specs.declared.edge.Edge.TheVariants as edges
-use Rattle.oat_map.specs.declared.row.Row.TheVariants as rows
-use Rattle.oat_journal.specs.declared.end.DeviceEnd.TheVariants as ends
-use Rattle.oat_journal.specs.Run.{Running, started}
-use Rattle.oat_follow.specs.Events.{moves, prints}
-use Rattle.oat_ir.specs.declared.func.Ty.TheVariants.{I64}
-use Rattle.oat_frames.specs.Frames.{World}
-use Rattle.oat_follow.specs.Reaching.{RunsTo}
+use Rattle.oat_frames.specs.{Image, Map, Running, started, moves, prints, I64, Frames.World, RunsTo}
+use Rattle.oat_frames.specs.edges as edges
+use Rattle.oat_frames.specs.rows as rows
+use Rattle.oat_frames.specs.ends as ends
 
 abbrev pub lines_map : Map
 lines_map = record {

@@ -1,18 +1,10 @@
 -- Runs put together: how many steps they take at most, and how many edges of operation 1 and outputs they show.
 use Rattle.std.proofs.Common.{◌||◌, ◌≡◌, ◌+◌, ◌≤◌, ℕ, zero, suc, Bool, false, cond, List, [], ◌++◌, length, Option, Some, None, refl, sym, ap, subst, ◌∙◌, arith, ℤ, length-append}
-use Rattle.std.specs.Prelude.{is_some, slice_get}
-use Rattle.std.specs.Option.{option_and_then}
-use Rattle.std.specs.List.{filter_map, list_any}
-use Rattle.std.proofs.lemmas.List.Elements.{filter_map-append}
-use Rattle.std.proofs.lemmas.List.Folds.{list_any-append}
-use Rattle.oat_ir.specs.declared.program.Program.{Program}
-use Rattle.oat_ir.specs.declared.func.Func.{Func}
-use Rattle.oat_events.specs.Events.{SourceEvent, is_left}
-use Rattle.oat_events.specs.Source.{state_after, shown_from, edge_taken, output_in}
+use Rattle.std.specs.{Prelude.is_some, Prelude.slice_get, Option.option_and_then, List.filter_map, List.list_any}
+use Rattle.std.proofs.lemmas.{List.Elements.filter_map-append, List.Folds.list_any-append}
 use Rattle.oat_events.proofs.SourceLaws.{state_after_more, shown_from_more}
-use Rattle.oat_check.specs.Lines.{CodeLine, line_in}
-use Rattle.oat_check.specs.Steps.{LineEdge, finishes, Frame, SourceState, Next, silent, at_line, current_line, source_step}
-use Rattle.oat_check.specs.Runs.{source_of}
+use Rattle.oat_check.specs.{Program, Func, SourceEvent, is_left, state_after, shown_from, edge_taken, output_in, Lines.CodeLine, Lines.line_in, Steps.LineEdge, Steps.finishes, Steps.Frame}
+use Rattle.oat_check.specs.{Steps.SourceState, Steps.Next, Steps.silent, Steps.at_line, Steps.current_line, Steps.source_step, Runs.source_of}
 
 abbrev pub Events : Type 0
 Events = List (SourceEvent LineEdge)

@@ -1,20 +1,11 @@
 -- The drill is well formed and keeps the checking rules, whatever its constants are.
 use Rattle.std.proofs.Common.{◌≡◌, ◌<◌, ℕ, zero, suc, List, [], ◌∷◌, ◌++◌, length, map, None, refl, ℤ, arith, true, false, Bool, lit<, ltb-true}
-use Rattle.std.specs.Prelude.{All, not, ◌&&◌, nat_lt}
-use Rattle.std.specs.Fmt.{digits}
-use Rattle.std.specs.List.{AllByRecursion, IsDistinct, list_all, range_with_len}
+use Rattle.std.specs.{Prelude.All, Prelude.not, Prelude.◌&&◌, Prelude.nat_lt, Fmt.digits, List.AllByRecursion, List.IsDistinct, List.list_all, List.range_with_len}
 use Rattle.std.proofs.lemmas.List.Elements.{All-append, All-from_recursion}
-use Rattle.oat_ir.specs.declared.program.Program.{Program}
-use Rattle.oat_ir.specs.declared.func.BlockIr.{BlockIr}
-use Rattle.oat_ir.specs.declared.instr.Instr.{Instr}
-use Rattle.oat_ir.specs.declared.instr.Instr.TheVariants.{Binary, RefTo, ICall, Input, Output}
-use Rattle.oat_ir.specs.declared.instr.BinOp.TheVariants.{Add}
-use Rattle.oat_ir.specs.Distinct.{are_one_global, have_one_name, have_one_operation, are_one_local, have_one_label}
-use Rattle.oat_ir.specs.WellFormed.{IsGlobal, IsLocal, IsBlockIr, IsFunc, IsProgram}
-use Rattle.oat_ir.specs.Indices.{IsInstr, HasLocal}
-use Rattle.oat_check.specs.Rules.{first_fault}
-use Rattle.oat_make.specs.Drill.{drill_with, helper, helper_name, helper_call, round_instrs, drill_work, drill_main, drill_limit, drill_constant}
-use Rattle.oat_make.specs.Laws.{DrillsAreChecked, DrillsFit}
+use Rattle.oat_check.specs.{Program, BlockIr, Instr, Binary, RefTo, ICall, Input, Output, Add, are_one_global, have_one_name, have_one_operation, are_one_local, have_one_label, IsGlobal, IsLocal}
+use Rattle.oat_check.specs.{IsBlockIr, IsFunc, IsProgram, IsInstr, HasLocal, Rules.first_fault}
+use Rattle.oat_make.specs.{Drill.drill_with, Drill.helper, Drill.helper_name, Drill.helper_call, Drill.round_instrs, Drill.drill_work, Drill.drill_main, Drill.drill_limit, Drill.drill_constant}
+use Rattle.oat_make.specs.{Laws.DrillsAreChecked, Laws.DrillsFit}
 
 -- ---- what computes to true
 

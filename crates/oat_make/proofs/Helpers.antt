@@ -1,16 +1,11 @@
 -- A call of a helper: at most 8 steps, three edges whichever way it branches, and some result.
 use Rattle.std.proofs.Common.{◌≡◌, ◌+◌, ℕ, Bool, true, false, List, [], ◌∷◌, ◌++◌, Option, Some, None, refl, sym, ap, subst, arith, ℤ}
-use Rattle.std.specs.Prelude.{slice_get, int_lt}
-use Rattle.std.specs.Option.{option_and_then}
-use Rattle.oat_bits.specs.Words.{signed, wrap, difference}
-use Rattle.oat_ir.specs.declared.program.Program.{Program}
-use Rattle.oat_ir.specs.declared.func.Func.{Func}
-use Rattle.oat_events.specs.Events as event
-use Rattle.oat_check.specs.Globals.{Values, cell_number}
-use Rattle.oat_check.specs.Operators.{number, truth}
-use Rattle.oat_check.specs.Steps.{LineEdge, Frame, SourceState, assigned, shows, result_at, current_line, operation_number, operation_of}
+use Rattle.std.specs.{Prelude.slice_get, Prelude.int_lt, Option.option_and_then}
+use Rattle.oat_check.specs.{signed, wrap, difference, Program, Func, Globals.Values, Globals.cell_number, Operators.number, Operators.truth, Steps.LineEdge, Steps.Frame, Steps.SourceState}
+use Rattle.oat_check.specs.{Steps.assigned, Steps.shows, Steps.result_at, Steps.current_line, Steps.operation_number, Steps.operation_of}
 use Rattle.oat_make.specs.Drill.{helper}
 use Rattle.oat_make.proofs.Arriving.{EventCounts, Arrives, arrives_on, arrives_within, runs_in}
+use Rattle.oat_events.specs.Events as event
 
 -- in a function, at a line of a block of it
 abbrev pub standing : ℕ → ℕ → ℕ → (ℕ → ℕ) → List Frame → Values → List ℤ → SourceState

@@ -1,18 +1,12 @@
 -- The text as it is made, part by part, and how long it is.
-use Rattle.std.proofs.Common.{◌≡◌, ◌+◌, ◌*◌, ◌/◌, ◌%◌, ◌^◌, ◌≤◌, ℕ, zero, suc, ℤ, pos, ◌<◌, lit<, lit≤, map, List, [], ◌∷◌, ◌++◌, length, true, refl, sym, ap, subst, ◌∙◌, arith, append_assoc, append-nil, codes, decimal, ltb-true, length-append}
-use Rattle.std.specs.Prelude.{nat_lt, OnOk, Result}
+use Rattle.std.proofs.Common.{◌≡◌, ◌+◌, ◌*◌, ◌/◌, ◌%◌, ◌^◌, ◌≤◌, ℕ, zero, suc, ℤ, pos, ◌<◌, lit<, lit≤, map, List, [], ◌∷◌, ◌++◌, length, true, refl, sym, ap, subst, ◌∙◌, arith, append_assoc}
+use Rattle.std.proofs.Common.{append-nil, codes, decimal, ltb-true, length-append}
+use Rattle.std.specs.{Prelude.nat_lt, Prelude.OnOk, Prelude.Result, Fmt.digits, Int.w64, Int.cast_signed, List.flat_map, List.list_all, List.range_with_len}
 use Rattle.std.proofs.Math.Nat.{mod-lt}
-use Rattle.std.proofs.lemmas.Int.{to_z_pos}
-use Rattle.std.proofs.lemmas.Fmt.{length-decimal-le}
-use Rattle.std.proofs.lemmas.List.FromFn.{map-range_with_len_more}
-use Rattle.std.specs.Fmt.{digits}
-use Rattle.std.specs.Int.{w64, cast_signed}
-use Rattle.std.specs.List.{flat_map, list_all, range_with_len}
-use Rattle.std.proofs.lemmas.List.Concat.{flat_map-append}
-use Rattle.oat_lines.specs.Fields.{ended}
-use Rattle.oat_make.specs.Drill.{drill_state, stirred, draw, drill_constant, drill_input}
-use Rattle.oat_make.specs.Text.{helper_lines, work_lines, main_lines, drill_text}
-use Rattle.oat_make.specs.Laws.{DrillTextsAreShort}
+use Rattle.std.proofs.lemmas.{Int.to_z_pos, Fmt.length-decimal-le, List.FromFn.map-range_with_len_more, List.Concat.flat_map-append}
+use Rattle.oat_text.specs.{ended}
+use Rattle.oat_make.specs.{Drill.drill_state, Drill.stirred, Drill.draw, Drill.drill_constant, Drill.drill_input, Text.helper_lines, Text.work_lines, Text.main_lines, Text.drill_text}
+use Rattle.oat_make.specs.{Laws.DrillTextsAreShort}
 use Rattle.oat_make.proofs.Formed.{both}
 
 -- ---- what is put

@@ -1,19 +1,13 @@
 -- A round of the loop: at most 143 steps, 53 edges and one output; and 80 of them.
 use Rattle.std.proofs.Common.{◌≡◌, ◌+◌, ◌*◌, ◌<◌, ◌≤◌, ℕ, zero, suc, Bool, true, false, List, [], ◌∷◌, ◌++◌, length, get_or, map, Option, Some, None, refl, sym, ap, subst, ◌∙◌, arith, ℤ, pos}
-use Rattle.std.proofs.lemmas.Bool.{lt-ltb}
-use Rattle.std.proofs.lemmas.Int.{to_z_pos}
-use Rattle.std.specs.Prelude.{slice_get, int_lt}
-use Rattle.std.specs.Int.{w64}
-use Rattle.oat_bits.specs.Words.{signed, wrap}
-use Rattle.oat_ir.specs.declared.program.Program.{Program}
-use Rattle.oat_events.specs.Events as event
-use Rattle.oat_check.specs.Globals.{Values}
-use Rattle.oat_check.specs.Lines.{instruction}
-use Rattle.oat_check.specs.Operators.{number, truth}
-use Rattle.oat_check.specs.Steps.{LineEdge, Frame, SourceState, line_place, assigned, shows, result_at, current_line, at_line, operation_of, entered, source_step, calls, icalls}
+use Rattle.std.specs.{Prelude.slice_get, Prelude.int_lt, Int.w64}
+use Rattle.std.proofs.lemmas.{Bool.lt-ltb, Int.to_z_pos}
+use Rattle.oat_check.specs.{signed, wrap, Program, Globals.Values, Lines.instruction, Operators.number, Operators.truth, Steps.LineEdge, Steps.Frame, Steps.SourceState, Steps.line_place}
+use Rattle.oat_check.specs.{Steps.assigned, Steps.shows, Steps.result_at, Steps.current_line, Steps.at_line, Steps.operation_of, Steps.entered, Steps.source_step, Steps.calls, Steps.icalls}
 use Rattle.oat_make.specs.Drill.{drill_with, helper, helper_name, helper_call, drill_work}
-use Rattle.oat_make.proofs.Arriving.{EventCounts, Arrives, arrives_at_once, arrives_on, arrives_within, one_step, local_line, current_line_is, step_is, runs_in}
-use Rattle.oat_make.proofs.Helpers.{standing, back_in, helper_is_plain, helper_returns}
+use Rattle.oat_make.proofs.{Arriving.EventCounts, Arriving.Arrives, Arriving.arrives_at_once, Arriving.arrives_on, Arriving.arrives_within, Arriving.one_step, Arriving.local_line}
+use Rattle.oat_make.proofs.{Arriving.current_line_is, Arriving.step_is, Arriving.runs_in, Helpers.standing, Helpers.back_in, Helpers.helper_is_plain, Helpers.helper_returns}
+use Rattle.oat_events.specs.Events as event
 
 -- all that the proof knows of the program
 pub record IsDrill (p : Program) : Type 0 where

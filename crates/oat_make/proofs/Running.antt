@@ -1,29 +1,17 @@
 -- The whole run: main calls the operation, which runs 80 rounds and returns, and main halts.
 use Rattle.std.proofs.Common.{◌||◌, ◌≡◌, ◌+◌, ◌-◌, ◌≤◌, ℕ, Bool, true, false, cond, List, [], ◌∷◌, ◌++◌, length, get_or, Some, refl, sym, ap, ◌∙◌, arith, ℤ, length-append, append-nil}
-use Rattle.std.specs.Prelude.{slice_get}
-use Rattle.std.specs.Option.{option_and_then}
-use Rattle.std.specs.List.{filter_map, list_any}
-use Rattle.std.proofs.lemmas.List.{length-map}
-use Rattle.std.proofs.lemmas.List.Elements.{filter_map-append}
-use Rattle.std.proofs.lemmas.List.Folds.{list_any-append}
-use Rattle.oat_ir.specs.declared.program.Program.{Program}
-use Rattle.oat_ir.specs.declared.func.Func.{Func}
-use Rattle.oat_events.specs.Windows.{through}
-use Rattle.oat_events.specs.Events as event
-use Rattle.oat_events.specs.Events.{SourceEvent, is_left}
-use Rattle.oat_events.specs.Source.{halted, state_after, shown_from, edge_taken, output_in, has_completed, outputs_of, path_of_call}
+use Rattle.std.specs.{Prelude.slice_get, Option.option_and_then, List.filter_map, List.list_any}
+use Rattle.std.proofs.lemmas.{List.length-map, List.Elements.filter_map-append, List.Folds.list_any-append}
 use Rattle.oat_events.proofs.SourceLaws.{state_after_more, shown_from_more}
-use Rattle.oat_check.specs.Globals.{Values, first_values}
-use Rattle.oat_check.specs.Naming.{written_edge}
-use Rattle.oat_check.specs.Runs.{main_number, source_of, source_run, source_events, source_start}
-use Rattle.oat_check.specs.Shown.{written_end}
-use Rattle.oat_check.specs.Steps.{LineEdge, finishes, LinePlace, Frame, SourceState, assigned, shows, operation_number, operation_of, calls, returns, line_place, current_line, result_at}
+use Rattle.oat_check.specs.{Program, Func, through, SourceEvent, is_left, halted, state_after, shown_from, edge_taken, output_in, has_completed, outputs_of, path_of_call, Globals.Values}
+use Rattle.oat_check.specs.{Globals.first_values, Naming.written_edge, Runs.main_number, Runs.source_of, Runs.source_run, Runs.source_events, Runs.source_start, Shown.written_end, Steps.LineEdge}
+use Rattle.oat_check.specs.{Steps.finishes, Steps.LinePlace, Steps.Frame, Steps.SourceState, Steps.assigned, Steps.shows, Steps.operation_number, Steps.operation_of, Steps.calls, Steps.returns}
+use Rattle.oat_check.specs.{Steps.line_place, Steps.current_line, Steps.result_at}
 use Rattle.oat_check.proofs.Sourcing.{ended_runs_stay}
-use Rattle.oat_make.specs.Drill.{drill_work, drill_main, drill_limit, drill_constant, drill_inputs, drill_program}
-use Rattle.oat_make.specs.Laws.{DrillsComplete}
-use Rattle.oat_make.proofs.Arriving.{Events, EventCounts, Arrives, arrives_on, runs_in, steps_in}
-use Rattle.oat_make.proofs.Helpers.{standing}
-use Rattle.oat_make.proofs.Rounds.{IsDrill, work_is, at_test, tested, goes_out, rounds}
+use Rattle.oat_make.specs.{Drill.drill_work, Drill.drill_main, Drill.drill_limit, Drill.drill_constant, Drill.drill_inputs, Drill.drill_program, Laws.DrillsComplete}
+use Rattle.oat_make.proofs.{Arriving.Events, Arriving.EventCounts, Arriving.Arrives, Arriving.arrives_on, Arriving.runs_in, Arriving.steps_in, Helpers.standing, Rounds.IsDrill, Rounds.work_is}
+use Rattle.oat_make.proofs.{Rounds.at_test, Rounds.tested, Rounds.goes_out, Rounds.rounds}
+use Rattle.oat_events.specs.Events as event
 
 -- ---- the operation, from its entry to its end
 

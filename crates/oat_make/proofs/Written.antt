@@ -1,25 +1,16 @@
 -- The drill's text is what is printed for its program, and so a text of it; it is short. The case is well formed, and leaves room for the run.
 use Rattle.std.proofs.Common.{◌≡◌, ◌+◌, ◌<◌, ◌%◌, ◌^◌, ◌≤◌, Bool, true, ℕ, ℤ, pos, List, [], ◌∷◌, ◌++◌, map, refl, subst, lit<, arith}
-use Rattle.std.specs.Prelude.{All, IsTrue}
-use Rattle.std.specs.Fmt.{digits}
-use Rattle.std.specs.List.{AllByRecursion, flat_map, list_all, range_with_len}
-use Rattle.std.proofs.lemmas.Bool.{lt-ltb}
-use Rattle.std.proofs.lemmas.List.Elements.{All-append, All-from_recursion}
+use Rattle.std.specs.{Prelude.All, Prelude.IsTrue, Fmt.digits, List.AllByRecursion, List.flat_map, List.list_all, List.range_with_len}
 use Rattle.std.proofs.Math.Nat.{mod-lt}
-use Rattle.oat_map.specs.Name.{IsName, is_name}
+use Rattle.std.proofs.lemmas.{Bool.lt-ltb, List.Elements.All-append, List.Elements.All-from_recursion}
 use Rattle.oat_map.proofs.NameTests.{name_from_test}
-use Rattle.oat_lines.specs.Fields.{ended}
-use Rattle.oat_lines.specs.Integer.{is_i64}
-use Rattle.oat_ir.specs.declared.func.Local.{Local}
-use Rattle.oat_ir.specs.declared.instr.Instr.TheVariants.{Input}
-use Rattle.oat_text.specs.Grammar.{IsProgramText, program_text}
-use Rattle.oat_text.specs.Laws.{HasGlobalValues, HasConstant, HasBlockValues, HasFuncValues, HasValues, PrintedIsText}
+use Rattle.oat_check.specs.{IsName, is_name, Local, Input}
+use Rattle.oat_text.specs.{ended, is_i64, Grammar.IsProgramText, Grammar.program_text, Laws.HasGlobalValues, Laws.HasConstant, Laws.HasBlockValues, Laws.HasFuncValues, Laws.HasValues}
+use Rattle.oat_text.specs.{Laws.PrintedIsText}
 use Rattle.oat_case.specs.Limits.{IsWellFormedCase}
-use Rattle.oat_make.specs.Drill.{helper, helper_name, helper_call, round_instrs, drill_work, drill_main, drill_with, drill_limit, drill_constant, draw, drill_program}
-use Rattle.oat_make.specs.Text.{drill_case, drill_lines}
-use Rattle.oat_make.specs.Laws.{DrillsAreWritten, DrillsCanBeAttested}
-use Rattle.oat_make.proofs.Formed.{both, formed, instrs_at, last_instrs}
-use Rattle.oat_make.proofs.Running.{drills_complete}
+use Rattle.oat_make.specs.{Drill.helper, Drill.helper_name, Drill.helper_call, Drill.round_instrs, Drill.drill_work, Drill.drill_main, Drill.drill_with, Drill.drill_limit, Drill.drill_constant}
+use Rattle.oat_make.specs.{Drill.draw, Drill.drill_program, Text.drill_case, Text.drill_lines, Laws.DrillsAreWritten, Laws.DrillsCanBeAttested}
+use Rattle.oat_make.proofs.{Formed.both, Formed.formed, Formed.instrs_at, Formed.last_instrs, Running.drills_complete}
 
 printed_so : (limit : ℤ) (constant : ℕ → ℤ) → program_text (drill_with limit constant) ≡ flat_map ended (drill_lines limit constant)
 unfolding digits

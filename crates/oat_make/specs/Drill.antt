@@ -1,17 +1,9 @@
 -- The drill of a number (docs/FORMATS.md, "Drill"): a program that calls sixteen functions in a loop over 80 inputs. Its constants and inputs are drawn from the number.
-use Rattle.std.specs.Prelude.{ℕ, zero, suc, ◌+◌, ◌*◌, ◌/◌, ◌%◌, ◌^◌, true, List, [], ◌∷◌, ◌++◌, map, ℤ, pos, codes, decimal}
-use Rattle.std.specs.List.{range_with_len}
-use Rattle.oat_ir.specs.declared.program.Program.{Program}
-use Rattle.oat_ir.specs.declared.program.GlobalItem.TheVariants.{Scalar}
-use Rattle.oat_ir.specs.declared.func.Func.{Func}
-use Rattle.oat_ir.specs.declared.func.Role.TheVariants.{Plain, Operation}
-use Rattle.oat_ir.specs.declared.func.Ty.TheVariants.{Fn}
-use Rattle.oat_ir.specs.declared.instr.BinOp.TheVariants.{Add, Sub, Lt}
-use Rattle.oat_ir.specs.declared.instr.Instr.{Instr}
-use Rattle.oat_ir.specs.declared.instr.Instr.TheVariants.{Const, Binary, Load, RefTo, Call, ICall, Input, Output}
-use Rattle.oat_ir.specs.declared.instr.Term.TheVariants.{Jump, Branch, Ret}
-use Rattle.oat_ir.specs.WorkedPrograms.{numbers}
-use Rattle.oat_check.specs.WorkedPrograms.{code_block, number_func, main_func}
+use Rattle.std.specs.{Prelude.ℕ, Prelude.zero, Prelude.suc, Prelude.◌+◌, Prelude.◌*◌, Prelude.◌/◌, Prelude.◌%◌, Prelude.◌^◌, Prelude.true, Prelude.List, Prelude.[], Prelude.◌∷◌, Prelude.◌++◌}
+use Rattle.std.specs.{Prelude.map, Prelude.ℤ, Prelude.pos, Prelude.codes, Prelude.decimal, List.range_with_len}
+use Rattle.oat_check.specs.{Program, Scalar, Func, Plain, Operation, Fn, Add, Sub, Lt, Instr, Const, Binary, Load, RefTo, Call, ICall, Input, Output, numbers, WorkedPrograms.code_block}
+use Rattle.oat_check.specs.{WorkedPrograms.number_func, WorkedPrograms.main_func}
+use Rattle.oat_text.specs.{Jump, Branch, Ret}
 
 -- ---- the program, with any limit and any constants
 

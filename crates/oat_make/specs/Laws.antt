@@ -1,15 +1,9 @@
 -- What holds of the drill of every number: its text is read and its program checked, its code is small, its operation completes, and its case leaves room for that.
 use Rattle.std.specs.Prelude.{◌≡◌, ◌≤◌, ◌+◌, ◌*◌, ℕ, true, [], length}
-use Rattle.oat_ir.specs.declared.source.SourceEnd.TheVariants.{Halted}
-use Rattle.oat_events.specs.Source.{has_completed}
-use Rattle.oat_ir.specs.Size.{most_words}
-use Rattle.oat_check.specs.Rules.{IsChecked, has_operation}
-use Rattle.oat_check.specs.Runs.{source_events}
-use Rattle.oat_check.specs.Shown.{source_end, source_outputs, source_path}
+use Rattle.oat_check.specs.{Halted, has_completed, most_words, Rules.IsChecked, Rules.has_operation, Runs.source_events, Shown.source_end, Shown.source_outputs, Shown.source_path}
 use Rattle.oat_text.specs.Grammar.{IsProgramText}
 use Rattle.oat_case.specs.Limits.{IsWellFormedCase}
-use Rattle.oat_make.specs.Drill.{drill_program, drill_inputs}
-use Rattle.oat_make.specs.Text.{drill_text, drill_case}
+use Rattle.oat_make.specs.{Drill.drill_program, Drill.drill_inputs, Text.drill_text, Text.drill_case}
 
 -- ---- its text
 

@@ -1,9 +1,7 @@
 -- The text of the drill's program, line by line, and the drill's case (docs/FORMATS.md, "Drill").
-use Rattle.std.specs.Prelude.{ℕ, ℤ, List, [], ◌∷◌, ◌++◌, None, map, replicate, codes}
-use Rattle.std.specs.Fmt.{signed_decimal}
-use Rattle.std.specs.Int.{w64, to_be_bytes}
-use Rattle.std.specs.List.{flat_map, range_with_len}
-use Rattle.oat_lines.specs.Fields.{ended}
+use Rattle.std.specs.{Prelude.ℕ, Prelude.ℤ, Prelude.List, Prelude.[], Prelude.◌∷◌, Prelude.◌++◌, Prelude.None, Prelude.map, Prelude.replicate, Prelude.codes, Fmt.signed_decimal, Int.w64}
+use Rattle.std.specs.{Int.to_be_bytes, List.flat_map, List.range_with_len}
+use Rattle.oat_text.specs.{ended}
 use Rattle.oat_case.specs.declared.case.Case.{Case}
 use Rattle.oat_make.specs.Drill.{drill_limit, drill_constant, drill_inputs, helper_name}
 

@@ -1,8 +1,6 @@
 -- The drill of 1 as another program computed it: what is drawn, its outputs, and how many steps it takes.
-use Rattle.std.specs.Prelude.{◌≡◌, ℕ, ℤ, pos, List, [], ◌∷◌, map}
-use Rattle.std.specs.List.{range_with_len}
-use Rattle.oat_ir.specs.declared.source.SourceEnd.TheVariants.{Halted, OutOfSteps}
-use Rattle.oat_check.specs.Shown.{source_end, source_outputs}
+use Rattle.std.specs.{Prelude.◌≡◌, Prelude.ℕ, Prelude.ℤ, Prelude.pos, Prelude.List, Prelude.[], Prelude.◌∷◌, Prelude.map, List.range_with_len}
+use Rattle.oat_check.specs.{Halted, OutOfSteps, Shown.source_end, Shown.source_outputs}
 use Rattle.oat_make.specs.Drill.{drill_limit, drill_constant, drill_inputs, drill_program}
 
 abbrev pub integers : List ℕ → List ℤ

@@ -6,7 +6,7 @@ ghost use Rattle.oat_make.specs.Text.{drill_case};
 
 use crate::draws::Draws;
 use oat_case::{Case, Session};
-use oat_list::Listed;
+use oat_text::Listed;
 use std::alloc::{AllocError, Global};
 
 /// Behind the draws of the program's constants.

@@ -1,5 +1,5 @@
 ghost use Rattle.std.specs.Prelude.{◌≡◌, ◌++◌, codes, decimal, flat_map, pos, IfOk, OnOk};
-ghost use Rattle.oat_lines.specs.Fields.{ended};
+ghost use Rattle.oat_text.specs.{ended};
 ghost use Rattle.oat_make.specs.Text.{drill_text, helper_lines, main_lines, work_lines};
 
 use crate::draws::Draws;

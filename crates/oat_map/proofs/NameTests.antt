@@ -1,12 +1,7 @@
 -- The test of a name says what a name is.
 use Rattle.std.proofs.Common.{◌≡◌, ℕ, ◌<◌, Bool, true, false, not, ◌&&◌, leb, ltb, List, length, get_or, Some, None, refl, arith}
-use Rattle.std.specs.Prelude.{All}
-use Rattle.std.specs.Bool.{Decides}
-use Rattle.std.specs.List.{list_all}
-use Rattle.std.specs.Char.{is_ascii_digit}
-use Rattle.std.specs.Int.{is_in_range, IsInRange}
-use Rattle.std.proofs.lemmas.Bool.{leb-true, le-leb, ltb-true, lt-ltb}
-use Rattle.std.proofs.lemmas.Bool.Decides.{Decides-by_and, Decides-and, Decides-or, Decides-eqb}
+use Rattle.std.specs.{Prelude.All, Bool.Decides, List.list_all, Char.is_ascii_digit, Int.is_in_range, Int.IsInRange}
+use Rattle.std.proofs.lemmas.{Bool.leb-true, Bool.le-leb, Bool.ltb-true, Bool.lt-ltb, Bool.Decides.Decides-by_and, Bool.Decides.Decides-and, Bool.Decides.Decides-or, Bool.Decides.Decides-eqb}
 use Rattle.oat_map.specs.Name.{IsName, IsNameByte, is_name_byte, is_name, read_name}
 
 both : (a b : Bool) → (a && b) ≡ true → (a ≡ true) × (b ≡ true)

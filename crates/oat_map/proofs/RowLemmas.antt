@@ -1,19 +1,10 @@
 -- Rows in the order of their addresses, and the row next behind an address.
 use Rattle.std.proofs.Common.{◌≡◌, ℕ, zero, suc, ◌+◌, ◌-◌, ◌<◌, ◌≤◌, Bool, true, false, List, [], ◌∷◌, length, map, get_or, None, Some, refl, sym, ap, subst, ◌∙◌, inl, inr, arith, cond, position}
-use Rattle.std.specs.List.{slice_get, position_or_len, find}
-use Rattle.std.specs.Option.{option_and_then}
-use Rattle.std.specs.Prelude.{nat_le, nat_lt}
-use Rattle.std.specs.List.Sorted.{IsPartitionedBy, IsPartitionPoint, IsNonDecreasingBy}
-use Rattle.std.proofs.lemmas.Bool.{cases_lt, lt-ltb, le-ltb, le-leb, lt-leb, ltb-true, ltb-false, leb-true, leb-false}
-use Rattle.std.proofs.lemmas.List.{get_or_default, get_or-map, length-map}
-use Rattle.std.proofs.lemmas.List.Folds.{find_at}
-use Rattle.std.proofs.lemmas.List.Sorted.{IsPartitionedBy-ltb}
-use Rattle.std.proofs.lemmas.List.Sums.{position_or_len_is}
-use Rattle.std.proofs.lemmas.List.Kept.{AllPairs-from_increasing}
-use Rattle.std.proofs.lemmas.Option.{slice_get_past}
-use Rattle.oat_map.specs.declared.row.Row.{Row}
-use Rattle.oat_map.specs.declared.row.Row.TheVariants.{Jump}
-use Rattle.oat_map.specs.Rows.{address_of, next, IsOrdered, NextIsLowest}
+use Rattle.std.specs.{List.slice_get, List.position_or_len, List.find, Option.option_and_then, Prelude.nat_le, Prelude.nat_lt, List.Sorted.IsPartitionedBy, List.Sorted.IsPartitionPoint}
+use Rattle.std.specs.{List.Sorted.IsNonDecreasingBy}
+use Rattle.std.proofs.lemmas.{Bool.cases_lt, Bool.lt-ltb, Bool.le-ltb, Bool.le-leb, Bool.lt-leb, Bool.ltb-true, Bool.ltb-false, Bool.leb-true, Bool.leb-false, List.get_or_default, List.get_or-map}
+use Rattle.std.proofs.lemmas.{List.length-map, List.Folds.find_at, List.Sorted.IsPartitionedBy-ltb, List.Sums.position_or_len_is, List.Kept.AllPairs-from_increasing, Option.slice_get_past}
+use Rattle.oat_map.specs.{declared.row.Row.Row, declared.row.Row.TheVariants.Jump, Rows.address_of, Rows.next, Rows.IsOrdered, Rows.NextIsLowest}
 
 -- the rows' addresses rise up to row number i
 abbrev pub RisesBelow : List Row → ℕ → Type 0

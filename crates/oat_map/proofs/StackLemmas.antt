@@ -1,18 +1,12 @@
 -- How the stack of open calls changes with each step, and what its top says of a return.
 use Rattle.std.proofs.Common.{◌≡◌, ◌≢◌, ℕ, zero, suc, ◌+◌, ◌<◌, ◌≤◌, Bool, List, [], ◌∷◌, ◌++◌, length, take, None, Some, refl, sym, ap, ◌∙◌, inl, inr, arith, length-append}
-use Rattle.std.specs.List.{slice_get}
-use Rattle.std.specs.Option.{option_and_then}
+use Rattle.std.specs.{List.slice_get, Option.option_and_then}
 use Rattle.std.proofs.Math.Seq.{take-append_seam}
-use Rattle.std.proofs.lemmas.Bool.{cases_lt}
-use Rattle.std.proofs.lemmas.List.{take-append-le}
-use Rattle.std.proofs.lemmas.List.Sums.{sum_by_push}
-use Rattle.std.proofs.lemmas.Option.{option_and_then_some, slice_get_past, slice_get_within}
-use Rattle.oat_map.specs.declared.row.Row.TheVariants.{Call, ICall}
-use Rattle.oat_map.specs.declared.edge.Edge.TheVariants as edges
-use Rattle.oat_map.specs.Rows.{after}
-use Rattle.oat_map.specs.Walk.{Step, passed, moved, return_site_of, call_count, return_count, depth, LastCall, Returns}
-use Rattle.oat_map.specs.Stack.{IsStack}
+use Rattle.std.proofs.lemmas.{Bool.cases_lt, List.take-append-le, List.Sums.sum_by_push, Option.option_and_then_some, Option.slice_get_past, Option.slice_get_within}
+use Rattle.oat_map.specs.{declared.row.Row.TheVariants.Call, declared.row.Row.TheVariants.ICall, Rows.after, Walk.Step, Walk.passed, Walk.moved, Walk.return_site_of, Walk.call_count}
+use Rattle.oat_map.specs.{Walk.return_count, Walk.depth, Walk.LastCall, Walk.Returns, Stack.IsStack}
 use Rattle.oat_map.proofs.WalkLemmas.{Returns-one}
+use Rattle.oat_map.specs.declared.edge.Edge.TheVariants as edges
 
 -- the items of a list with one more
 get-front : {X : Type 0} (xs : List X) (x : X) (i : ℕ) → i < length xs → slice_get (xs ++ x ∷ []) i ≡ slice_get xs i

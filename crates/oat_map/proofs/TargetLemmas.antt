@@ -1,10 +1,8 @@
 -- The test of an indirect call's target, against what it means.
 use Rattle.std.proofs.Common.{◌≡◌, ℕ, true, List, ◌∙◌, ap, eq-eqb, eqb-true}
 use Rattle.std.specs.List.{list_any}
-use Rattle.std.proofs.lemmas.Bool.{and_parts, and_from}
-use Rattle.std.proofs.lemmas.List.Folds.{Any-from_list_any, list_any_at}
-use Rattle.oat_map.specs.declared.map.Function.{Function}
-use Rattle.oat_map.specs.Rows.{IsIndirectTarget, is_called_at}
+use Rattle.std.proofs.lemmas.{Bool.and_parts, Bool.and_from, List.Folds.Any-from_list_any, List.Folds.list_any_at}
+use Rattle.oat_map.specs.{declared.map.Function.Function, Rows.IsIndirectTarget, Rows.is_called_at}
 
 pub target_found : (functions : List Function) (params target : ℕ) → list_any (is_called_at params target) functions ≡ true
     → IsIndirectTarget functions params target

@@ -1,17 +1,11 @@
 -- Paths that go back: those whose returns match their calls, and those of walks.
 use Rattle.std.proofs.Common.{◌≡◌, ℕ, suc, ◌<◌, List, [], ◌∷◌, ◌++◌, length, map, Contains, true, false, refl, sym, ap, subst, ◌∙◌, inl, inr, arith, append_assoc, append-nil}
 use Rattle.std.proofs.lemmas.List.{map-append}
-use Rattle.oat_map.specs.declared.edge.Edge.{Edge}
-use Rattle.oat_map.specs.declared.map.Map.{Map}
-use Rattle.oat_map.specs.declared.row.Row.{Row}
+use Rattle.oat_map.specs.{declared.edge.Edge.Edge, declared.map.Map.Map, declared.row.Row.Row, Walk.Step, Walk.passed, Walk.moved, Walk.path_of, Walk.depth, Walk.Returns, Walk.RowGoes, Walk.Leads}
+use Rattle.oat_map.specs.{Stack.IsStack, StackLaws.ReturnsGoToTheTop, StackLaws.StacksFollow, Turns.Turned, Turns.GoesBack, Turns.turn_of, TurnLaws.WalksGoBack, TurnLaws.MatchedPathsGoBack}
+use Rattle.oat_map.proofs.StackLemmas.{IsStack-empty, IsStack-quiet, IsStack-passed, IsStack-jump, IsStack-branch, IsStack-call, IsStack-icall, IsStack-return, Returns-top, Returns-only_top, depth-is}
 use Rattle.oat_map.specs.declared.row.Row.TheVariants as rows
 use Rattle.oat_map.specs.declared.edge.Edge.TheVariants as edges
-use Rattle.oat_map.specs.Walk.{Step, passed, moved, path_of, depth, Returns, RowGoes, Leads}
-use Rattle.oat_map.specs.Stack.{IsStack}
-use Rattle.oat_map.proofs.StackLemmas.{IsStack-empty, IsStack-quiet, IsStack-passed, IsStack-jump, IsStack-branch, IsStack-call, IsStack-icall, IsStack-return, Returns-top, Returns-only_top, depth-is}
-use Rattle.oat_map.specs.StackLaws.{ReturnsGoToTheTop, StacksFollow}
-use Rattle.oat_map.specs.Turns.{Turned, GoesBack, turn_of}
-use Rattle.oat_map.specs.TurnLaws.{WalksGoBack, MatchedPathsGoBack}
 
 -- ---- lists
 

@@ -1,14 +1,13 @@
 -- Trails put together, and trails with the same records: one continues the other.
 use Rattle.std.proofs.Common.{◌≡◌, ℕ, ◌<◌, ◌≤◌, Bool, List, [], ◌∷◌, ◌++◌, length, Some, refl, sym, ap, ◌∙◌, inl, inr, append_assoc, append-nil, arith}
-use Rattle.std.specs.List.{slice_get}
-use Rattle.std.proofs.lemmas.List.{append_cancel_left}
-use Rattle.std.proofs.lemmas.List.Elements.{filter_map-append}
-use Rattle.std.specs.Option.{option_and_then}
-use Rattle.oat_map.specs.declared.row.Row.{Row}
-use Rattle.oat_map.specs.declared.row.Row.TheVariants.{Jump, Branch, Call, ICall, Ret, Begin, End, UseCell, DefCell, UseAt, DefAt, Check}
+use Rattle.std.specs.{List.slice_get, Option.option_and_then}
+use Rattle.std.proofs.lemmas.{List.append_cancel_left, List.Elements.filter_map-append}
+use Rattle.oat_map.specs.{declared.row.Row.Row, declared.row.Row.TheVariants.Jump, declared.row.Row.TheVariants.Branch, declared.row.Row.TheVariants.Call, declared.row.Row.TheVariants.ICall}
+use Rattle.oat_map.specs.{declared.row.Row.TheVariants.Ret, declared.row.Row.TheVariants.Begin, declared.row.Row.TheVariants.End, declared.row.Row.TheVariants.UseCell}
+use Rattle.oat_map.specs.{declared.row.Row.TheVariants.DefCell, declared.row.Row.TheVariants.UseAt, declared.row.Row.TheVariants.DefAt, declared.row.Row.TheVariants.Check, declared.map.Map.Map}
+use Rattle.oat_map.specs.{Walk.Step, Walk.passed, Walk.moved, Walk.edge_of, Walk.path_of, Walk.bit_of, Walk.bits_of, Walk.target_of, Walk.targets_of, Walk.return_site_of, Walk.LastCall, Walk.Returns}
+use Rattle.oat_map.specs.{Walk.RowGoes, Walk.Goes, Walk.Leads}
 use Rattle.oat_map.specs.declared.edge.Edge.TheVariants as edges
-use Rattle.oat_map.specs.declared.map.Map.{Map}
-use Rattle.oat_map.specs.Walk.{Step, passed, moved, edge_of, path_of, bit_of, bits_of, target_of, targets_of, return_site_of, LastCall, Returns, RowGoes, Goes, Leads}
 
 -- a trail, and one more step
 pub Leads-push : (flow : Map) (before : List Step) (from : ℕ) (steps : List Step) (middle : ℕ) (step : Step) (to : ℕ)

@@ -1,14 +1,12 @@
 -- The walks of the worked maps.
 use Rattle.std.proofs.Common.{◌≡◌, ℕ, ◌+◌, true, List, [], ◌∷◌, ◌++◌, length, take, None, Some, refl, sym, ap, subst, ◌∙◌, inl, arith, lit<}
-use Rattle.std.specs.Prelude.{codes}
-use Rattle.std.specs.List.{slice_get}
-use Rattle.std.specs.Option.{option_and_then}
+use Rattle.std.specs.{Prelude.codes, List.slice_get, Option.option_and_then}
 use Rattle.std.proofs.lemmas.Option.{slice_get_past}
-use Rattle.oat_map.specs.declared.row.Row.TheVariants.{Jump, Branch, Call, ICall, Ret, End, UseCell, Check}
+use Rattle.oat_map.specs.{declared.row.Row.TheVariants.Jump, declared.row.Row.TheVariants.Branch, declared.row.Row.TheVariants.Call, declared.row.Row.TheVariants.ICall}
+use Rattle.oat_map.specs.{declared.row.Row.TheVariants.Ret, declared.row.Row.TheVariants.End, declared.row.Row.TheVariants.UseCell, declared.row.Row.TheVariants.Check, Rows.next}
+use Rattle.oat_map.specs.{Rows.IsIndirectTarget, Walk.Step, Walk.passed, Walk.moved, Walk.return_site_of, Walk.depth, Walk.Returns, Walk.Leads, Worked.jump_map, Worked.JumpIsWalked, Worked.calls_map}
+use Rattle.oat_map.specs.{Worked.CallsAreWalked, Worked.function_named}
 use Rattle.oat_map.specs.declared.edge.Edge.TheVariants as edges
-use Rattle.oat_map.specs.Rows.{next, IsIndirectTarget}
-use Rattle.oat_map.specs.Walk.{Step, passed, moved, return_site_of, depth, Returns, Leads}
-use Rattle.oat_map.specs.Worked.{jump_map, JumpIsWalked, calls_map, CallsAreWalked, function_named}
 
 only_jump : (front : List Step) (place end_address : ℕ) → Leads jump_map [] 0x10008 front place
     → next jump_map.rows place ≡ Some (End end_address 1) → front ≡ moved (edges.Jump 0x10008 0x1000C) ∷ []

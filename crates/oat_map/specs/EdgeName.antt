@@ -1,13 +1,11 @@
 -- Names of edges, as the lines of a path write them: by functions, blocks and numbers of rows, and
 -- not by addresses (docs/FORMATS.md). A path of a program's source has names of the same kind.
-use Rattle.std.specs.Prelude.{ℕ, Bool, true, false, ◌&&◌, ◌==◌, nat_lt, nat_le, max, List, [], ◌++◌, filter, fold, find, reverse, count_by, Option, None, Some, unwrap_or}
-use Rattle.std.specs.Option.{option_map, option_or, option_and_then}
-use Rattle.oat_map.specs.declared.row.Row.{Row}
-use Rattle.oat_map.specs.declared.row.Row.TheVariants.{Jump, Branch, Call, ICall, Ret}
-use Rattle.oat_map.specs.declared.edge.Edge.{Edge}
+use Rattle.std.specs.{Prelude.ℕ, Prelude.Bool, Prelude.true, Prelude.false, Prelude.◌&&◌, Prelude.◌==◌, Prelude.nat_lt, Prelude.nat_le, Prelude.max, Prelude.List, Prelude.[], Prelude.◌++◌}
+use Rattle.std.specs.{Prelude.filter, Prelude.fold, Prelude.find, Prelude.reverse, Prelude.count_by, Prelude.Option, Prelude.None, Prelude.Some, Prelude.unwrap_or, Option.option_map, Option.option_or}
+use Rattle.std.specs.{Option.option_and_then}
+use Rattle.oat_map.specs.{declared.row.Row.Row, declared.row.Row.TheVariants.Jump, declared.row.Row.TheVariants.Branch, declared.row.Row.TheVariants.Call, declared.row.Row.TheVariants.ICall}
+use Rattle.oat_map.specs.{declared.row.Row.TheVariants.Ret, declared.edge.Edge.Edge, declared.map.Map.Map, Rows.address_of, Rows.is_returned_to, Rows.entries_of, Rows.starts_of}
 use Rattle.oat_map.specs.declared.edge.Edge.TheVariants as edges
-use Rattle.oat_map.specs.declared.map.Map.{Map}
-use Rattle.oat_map.specs.Rows.{address_of, is_returned_to, entries_of, starts_of}
 
 -- a place: the entry of the function, written `f`, or one of its blocks, written `f.b`
 pub record PlaceName : Type 0 where

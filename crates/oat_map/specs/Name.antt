@@ -1,7 +1,7 @@
 -- What a name is: the form that program texts and image texts give to functions and labels (docs/FORMATS.md).
-use Rattle.std.specs.Prelude.{ℕ, ◌≡◌, ◌≤◌, ◌⊎◌, Bool, not, ◌&&◌, ◌||◌, ◌==◌, nat_lt, List, length, slice_index, All, Option, Some, None, if◌then◌else◌}
-use Rattle.std.specs.Char.{IsAsciiAlphanumeric, IsAsciiDigit, is_ascii_alphanumeric, is_ascii_digit}
-use Rattle.std.specs.List.{list_all}
+use Rattle.std.specs.{Prelude.ℕ, Prelude.◌≡◌, Prelude.◌≤◌, Prelude.◌⊎◌, Prelude.Bool, Prelude.not, Prelude.◌&&◌, Prelude.◌||◌, Prelude.◌==◌, Prelude.nat_lt, Prelude.List, Prelude.length}
+use Rattle.std.specs.{Prelude.slice_index, Prelude.All, Prelude.Option, Prelude.Some, Prelude.None, Prelude.if◌then◌else◌, Char.IsAsciiAlphanumeric, Char.IsAsciiDigit, Char.is_ascii_alphanumeric}
+use Rattle.std.specs.{Char.is_ascii_digit, List.list_all}
 
 abbrev pub underscore : ℕ
 underscore = 95

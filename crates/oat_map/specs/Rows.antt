@@ -1,14 +1,12 @@
 -- The rows of a control-flow map: the words of their groups (one A64 instruction each, 4 bytes as
 -- the Arm A64 manual has it), the address behind a group, and the row that stands next behind an
 -- address. Addresses are numbers of 64 bits, and their sums are taken modulo 2 ^ 64.
-use Rattle.std.specs.Prelude.{ℕ, ◌≡◌, ◌+◌, ◌*◌, ◌%◌, ◌^◌, ◌≤◌, Bool, true, false, ◌==◌, ◌&&◌, List, map, find, nat_le, nat_lt, Option, Some, Contains}
-use Rattle.std.specs.Option.{option_map}
-use Rattle.std.specs.List.Sorted.{IsStrictlyIncreasing}
-use Rattle.oat_map.specs.declared.row.Row.{Row}
-use Rattle.oat_map.specs.declared.row.Row.TheVariants.{Jump, Branch, Call, ICall, Ret, Begin, End, UseCell, DefCell, UseAt, DefAt, Check}
-use Rattle.oat_map.specs.declared.map.Function.{Function}
-use Rattle.oat_map.specs.declared.map.Block.{Block}
-use Rattle.oat_map.specs.declared.map.Map.{Map}
+use Rattle.std.specs.{Prelude.ℕ, Prelude.◌≡◌, Prelude.◌+◌, Prelude.◌*◌, Prelude.◌%◌, Prelude.◌^◌, Prelude.◌≤◌, Prelude.Bool, Prelude.true, Prelude.false, Prelude.◌==◌, Prelude.◌&&◌, Prelude.List}
+use Rattle.std.specs.{Prelude.map, Prelude.find, Prelude.nat_le, Prelude.nat_lt, Prelude.Option, Prelude.Some, Prelude.Contains, Option.option_map, List.Sorted.IsStrictlyIncreasing}
+use Rattle.oat_map.specs.{declared.row.Row.Row, declared.row.Row.TheVariants.Jump, declared.row.Row.TheVariants.Branch, declared.row.Row.TheVariants.Call, declared.row.Row.TheVariants.ICall}
+use Rattle.oat_map.specs.{declared.row.Row.TheVariants.Ret, declared.row.Row.TheVariants.Begin, declared.row.Row.TheVariants.End, declared.row.Row.TheVariants.UseCell}
+use Rattle.oat_map.specs.{declared.row.Row.TheVariants.DefCell, declared.row.Row.TheVariants.UseAt, declared.row.Row.TheVariants.DefAt, declared.row.Row.TheVariants.Check}
+use Rattle.oat_map.specs.{declared.map.Function.Function, declared.map.Block.Block, declared.map.Map.Map}
 
 -- the address of the first word of the row's group
 abbrev pub address_of : Row → ℕ

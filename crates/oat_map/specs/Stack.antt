@@ -1,8 +1,7 @@
 -- The open calls of a list of steps, as a stack of their return sites. Walks are defined by the last
 -- call at a depth, without a stack (docs/DEFINITIONS.md): this says which stack a machine that walks
 -- them keeps.
-use Rattle.std.specs.Prelude.{ℕ, ◌≡◌, ◌+◌, List, length, slice_get, Some}
-use Rattle.std.specs.List.{sum_by}
+use Rattle.std.specs.{Prelude.ℕ, Prelude.◌≡◌, Prelude.◌+◌, Prelude.List, Prelude.length, Prelude.slice_get, Prelude.Some, List.sum_by}
 use Rattle.oat_map.specs.Walk.{Step, call_count, return_count, LastCall}
 
 -- the stack has one return site for each call that is open behind the steps: at each level it is that

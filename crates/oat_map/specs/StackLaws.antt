@@ -1,9 +1,6 @@
 -- What the stack of open calls says of a walk, and how it changes from step to step.
 use Rattle.std.specs.Prelude.{◌≡◌, ◌↔◌, ℕ, List, [], ◌∷◌, ◌++◌, length}
-use Rattle.oat_map.specs.declared.edge.Edge.{Edge}
-use Rattle.oat_map.specs.Walk.{Step, passed, moved, depth, Returns}
-use Rattle.oat_map.specs.Stack.{IsStack}
-use Rattle.oat_map.specs.Turns.{Turned, turn_of}
+use Rattle.oat_map.specs.{declared.edge.Edge.Edge, Walk.Step, Walk.passed, Walk.moved, Walk.depth, Walk.Returns, Stack.IsStack, Turns.Turned, Turns.turn_of}
 
 -- as many calls are open as the stack has return sites
 abbrev pub StackIsAsDeep : Type 0

@@ -1,10 +1,7 @@
 -- Walks, and the paths that go back as they called.
 use Rattle.std.specs.Prelude.{◌≡◌, ℕ, List, [], ◌∷◌, ◌++◌, map, Contains}
-use Rattle.oat_map.specs.declared.edge.Edge.{Edge}
+use Rattle.oat_map.specs.{declared.edge.Edge.Edge, declared.map.Map.Map, Walk.Step, Walk.moved, Walk.depth, Walk.Returns, Walk.Walk, Walk.path_of, Turns.GoesBack, Turns.turn_of}
 use Rattle.oat_map.specs.declared.edge.Edge.TheVariants as edges
-use Rattle.oat_map.specs.declared.map.Map.{Map}
-use Rattle.oat_map.specs.Walk.{Step, moved, depth, Returns, Walk, path_of}
-use Rattle.oat_map.specs.Turns.{GoesBack, turn_of}
 
 -- each return of the path goes to the site of its matching call, no edge strays, and no call is open at the end
 pub record ReturnsMatch (path : List Edge) : Type 0 where

@@ -1,9 +1,7 @@
 -- What an edge does to the calls that are open, and paths that go back as they called.
 use Rattle.std.specs.Prelude.{◌≡◌, ℕ, List, [], ◌∷◌, ◌++◌}
-use Rattle.oat_map.specs.declared.row.Row.TheVariants.{Call, ICall}
-use Rattle.oat_map.specs.declared.edge.Edge.{Edge}
+use Rattle.oat_map.specs.{declared.row.Row.TheVariants.Call, declared.row.Row.TheVariants.ICall, declared.edge.Edge.Edge, Rows.after}
 use Rattle.oat_map.specs.declared.edge.Edge.TheVariants as edges
-use Rattle.oat_map.specs.Rows.{after}
 
 -- An edge opens a call that is to return to `back`, goes back there, or leaves the open calls as they are; a stray edge does what no path may do.
 pub data Turn (P : Type 0) : Type 0 where

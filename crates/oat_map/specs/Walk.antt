@@ -1,14 +1,12 @@
 -- Walks of an operation over a control-flow map: which steps its rows allow, one behind the other,
 -- from the start of the operation to its end. docs/DEFINITIONS.md says the same in words.
-use Rattle.std.specs.Prelude.{ℕ, ◌≡◌, ◌≢◌, ◌+◌, ◌-◌, ◌<◌, ◌⊎◌, Bool, true, false, List, [], ◌∷◌, ◌++◌, take, Option, None, Some, slice_get}
-use Rattle.std.specs.Option.{option_and_then}
-use Rattle.std.specs.List.{filter_map, sum_by}
-use Rattle.oat_map.specs.declared.row.Row.{Row}
-use Rattle.oat_map.specs.declared.row.Row.TheVariants.{Jump, Branch, Call, ICall, Ret, Begin, End, UseCell, DefCell, UseAt, DefAt, Check}
-use Rattle.oat_map.specs.declared.edge.Edge.{Edge}
+use Rattle.std.specs.{Prelude.ℕ, Prelude.◌≡◌, Prelude.◌≢◌, Prelude.◌+◌, Prelude.◌-◌, Prelude.◌<◌, Prelude.◌⊎◌, Prelude.Bool, Prelude.true, Prelude.false, Prelude.List, Prelude.[], Prelude.◌∷◌}
+use Rattle.std.specs.{Prelude.◌++◌, Prelude.take, Prelude.Option, Prelude.None, Prelude.Some, Prelude.slice_get, Option.option_and_then, List.filter_map, List.sum_by}
+use Rattle.oat_map.specs.{declared.row.Row.Row, declared.row.Row.TheVariants.Jump, declared.row.Row.TheVariants.Branch, declared.row.Row.TheVariants.Call, declared.row.Row.TheVariants.ICall}
+use Rattle.oat_map.specs.{declared.row.Row.TheVariants.Ret, declared.row.Row.TheVariants.Begin, declared.row.Row.TheVariants.End, declared.row.Row.TheVariants.UseCell}
+use Rattle.oat_map.specs.{declared.row.Row.TheVariants.DefCell, declared.row.Row.TheVariants.UseAt, declared.row.Row.TheVariants.DefAt, declared.row.Row.TheVariants.Check, declared.edge.Edge.Edge}
+use Rattle.oat_map.specs.{declared.map.Map.Map, Rows.after, Rows.next, Rows.start, Rows.IsIndirectTarget}
 use Rattle.oat_map.specs.declared.edge.Edge.TheVariants as edges
-use Rattle.oat_map.specs.declared.map.Map.{Map}
-use Rattle.oat_map.specs.Rows.{after, next, start, IsIndirectTarget}
 
 -- the most steps that a walk may have
 abbrev pub path_limit : ℕ

@@ -1,12 +1,11 @@
 -- Two worked maps, and what the definitions of walks and names say of them (docs/DEFINITIONS.md).
 use Rattle.std.specs.Prelude.{ℕ, ◌≡◌, Bool, true, false, List, [], ◌∷◌, map, Option, None, Some, codes}
-use Rattle.oat_map.specs.declared.row.Row.TheVariants.{Jump, Branch, Call, ICall, Ret, Begin, End, UseCell, Check}
-use Rattle.oat_map.specs.declared.edge.Edge.{Edge}
+use Rattle.oat_map.specs.{declared.row.Row.TheVariants.Jump, declared.row.Row.TheVariants.Branch, declared.row.Row.TheVariants.Call, declared.row.Row.TheVariants.ICall}
+use Rattle.oat_map.specs.{declared.row.Row.TheVariants.Ret, declared.row.Row.TheVariants.Begin, declared.row.Row.TheVariants.End, declared.row.Row.TheVariants.UseCell}
+use Rattle.oat_map.specs.{declared.row.Row.TheVariants.Check, declared.edge.Edge.Edge, declared.map.Function.Function, declared.map.Map.Map, Walk.Step, Walk.moved, Walk.Walk, Walk.path_of}
+use Rattle.oat_map.specs.{Walk.bits_of, Walk.targets_of, Walk.returns_of, EdgeName.EdgeName, EdgeName.PlaceName, EdgeName.Site, EdgeName.jump, EdgeName.branch, EdgeName.call, EdgeName.icall}
+use Rattle.oat_map.specs.{EdgeName.return, EdgeName.finish, EdgeName.name_of}
 use Rattle.oat_map.specs.declared.edge.Edge.TheVariants as edges
-use Rattle.oat_map.specs.declared.map.Function.{Function}
-use Rattle.oat_map.specs.declared.map.Map.{Map}
-use Rattle.oat_map.specs.Walk.{Step, moved, Walk, path_of, bits_of, targets_of, returns_of}
-use Rattle.oat_map.specs.EdgeName.{EdgeName, PlaceName, Site, jump, branch, call, icall, return, finish, name_of}
 
 abbrev pub function_named : List ℕ → ℕ → ℕ → Bool → Function
 function_named name entry params referenced = record { entry = entry; name = name; params = params; referenced = referenced }

@@ -13,5 +13,7 @@ pub use edge::{Edge, Path};
 pub use index::RowIndex;
 pub use map::{Block, Function, Map};
 pub use name::Name;
+pub use oat_list::Listed;
+pub use oat_steps::Steps;
 pub use row::Row;
 pub use trap::TrapKind;

@@ -1,14 +1,10 @@
 -- What stands before the branch of a call, and how many words it has.
 use Rattle.std.proofs.Common.{◌≡◌, ◌+◌, ℕ, suc, List, [], ◌∷◌, ◌++◌, length, refl, ap, ◌∙◌, arith}
 use Rattle.std.specs.Prelude.{pos}
-use Rattle.oat_a64.specs.declared.inst.Inst.TheVariants.{AddImm, BCond, Blr, Brk, Cbnz, Ldr, SubsImm, Svc}
-use Rattle.oat_asm.specs.declared.branch_form.BranchForm.TheVariants.{Bl}
-use Rattle.oat_asm.specs.declared.item.Item.{Item}
+use Rattle.oat_asm.proofs.StandingItems.{words_of_two}
+use Rattle.oat_globals.specs.{AddImm, BCond, Blr, Brk, Cbnz, Ldr, SubsImm, Svc, Bl, Item, words_needed, argument_loads, behind_call, call_code, icall_code}
 use Rattle.oat_asm.specs.declared.item.Item.TheVariants as item
 use Rattle.oat_asm.specs.declared.note.Note.TheVariants as note
-use Rattle.oat_asm.specs.Items.{words_needed}
-use Rattle.oat_asm.proofs.StandingItems.{words_of_two}
-use Rattle.oat_frames.specs.Code.{argument_loads, behind_call, call_code, icall_code}
 
 -- the depth test and the count
 abbrev pub depth_test : List Item

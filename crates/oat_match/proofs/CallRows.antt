@@ -1,26 +1,13 @@
 -- The row of a call, and that the run goes on behind its group.
 use Rattle.std.proofs.Common.{◌≡◌, ◌+◌, ◌*◌, ◌%◌, ◌^◌, ◌<◌, ◌≤◌, ℕ, List, ◌∷◌, length, Some, subst, arith}
-use Rattle.oat_a64.specs.declared.inst.Inst.TheVariants.{Blr, Svc}
-use Rattle.oat_asm.specs.declared.branch_form.BranchForm.TheVariants.{Bl}
+use Rattle.oat_asm.proofs.StandingItems.{stand_in_two}
+use Rattle.oat_globals.specs.{Blr, Svc, Bl, words_needed, Row, after, row_over, Program, Call, ICall, instruction, LinePlace, behind_call, call_code, icall_code, World, return_address, IsLineAt}
+use Rattle.oat_match.specs.{Compiled.IsCompiled, Placed.address_of_line, Placed.frame_at}
+use Rattle.oat_match.proofs.{CallCode.before_call, CallCode.before_icall, CallCode.call_words, CallCode.icall_words, CallCode.words_before_call, CallCode.words_before_icall, Finding.Located}
+use Rattle.oat_match.proofs.{Placing.lines_are_placed}
 use Rattle.oat_asm.specs.declared.item.Item.TheVariants as item
 use Rattle.oat_asm.specs.declared.note.Note.TheVariants as note
-use Rattle.oat_asm.specs.Items.{words_needed}
-use Rattle.oat_asm.proofs.StandingItems.{stand_in_two}
-use Rattle.oat_map.specs.declared.row.Row.{Row}
-use Rattle.oat_map.specs.declared.row.Row.TheVariants as rows
-use Rattle.oat_map.specs.Rows.{after, row_over}
-use Rattle.oat_ir.specs.declared.program.Program.{Program}
-use Rattle.oat_ir.specs.declared.instr.Instr.TheVariants.{Call, ICall}
-use Rattle.oat_check.specs.Lines.{instruction}
-use Rattle.oat_check.specs.Steps.{LinePlace}
-use Rattle.oat_frames.specs.Code.{behind_call, call_code, icall_code}
-use Rattle.oat_frames.specs.Frames.{World, return_address}
-use Rattle.oat_frames.specs.Lines.{IsLineAt}
-use Rattle.oat_match.specs.Compiled.{IsCompiled}
-use Rattle.oat_match.specs.Placed.{address_of_line, frame_at}
-use Rattle.oat_match.proofs.CallCode.{before_call, before_icall, call_words, icall_words, words_before_call, words_before_icall}
-use Rattle.oat_match.proofs.Finding.{Located}
-use Rattle.oat_match.proofs.Placing.{lines_are_placed}
+use Rattle.oat_globals.specs.rows as rows
 
 -- The row of a call stands so many words behind its line's place, and the next line's result is stored behind its group.
 pub record HasCallRow (w : World) (at : LinePlace) (words : ℕ) (row : ℕ → Row) : Type 0 where

@@ -1,50 +1,22 @@
 -- The source's step at a call and at an indirect call.
-use Rattle.std.proofs.Common.{◌≡◌, ◌+◌, ◌*◌, ◌-◌, ◌<◌, ◌≤◌, ◌&&◌, inl, inr, ℕ, zero, suc, Bool, true, false, cond, not, eqb, List, [], ◌∷◌, length, map, get_or, Option, option_map, Some, None, refl, sym, ap, subst, ◌∙◌, arith, eqb-true}
-use Rattle.std.specs.Prelude.{slice_get}
-use Rattle.std.specs.Option.{option_and_then}
-use Rattle.std.specs.List.{list_any}
-use Rattle.oat_map.specs.Rows.{is_called_at}
+use Rattle.std.proofs.Common.{◌≡◌, ◌+◌, ◌*◌, ◌-◌, ◌<◌, ◌≤◌, ◌&&◌, inl, inr, ℕ, zero, suc, Bool, true, false, cond, not, eqb, List, [], ◌∷◌, length, map, get_or, Option, option_map, Some, None, refl}
+use Rattle.std.proofs.Common.{sym, ap, subst, ◌∙◌, arith, eqb-true}
+use Rattle.std.specs.{Prelude.slice_get, Option.option_and_then, List.list_any}
 use Rattle.std.proofs.lemmas.Bool.{and_parts, cases_lt, le-leb, lt-leb, not-false, eqb-false}
-use Rattle.oat_map.specs.declared.edge.Edge.TheVariants as edges
-use Rattle.oat_map.specs.declared.trap.TrapKind.TheVariants.{Depth, NullCall}
-use Rattle.oat_measure.specs.declared.call.MonitorCall.TheVariants as svc
-use Rattle.oat_ir.specs.declared.program.Program.{Program}
-use Rattle.oat_ir.specs.declared.func.Func.{Func}
-use Rattle.oat_ir.specs.declared.func.Ty.TheVariants.{I64, Fn}
-use Rattle.oat_ir.specs.declared.instr.Instr.TheVariants.{Call, ICall}
-use Rattle.oat_ir.specs.Indices.{IsInstr}
-use Rattle.oat_ir.specs.WellFormed.{IsFunc}
-use Rattle.oat_events.specs.Events.{enters, takes}
-use Rattle.oat_events.specs.Source.{trapped}
-use Rattle.oat_journal.specs.Run.{Running}
-use Rattle.oat_check.specs.Keeping.{IsValue, is_referenced}
-use Rattle.oat_check.specs.Lines.{instruction}
-use Rattle.oat_check.specs.RuleLaws.{IsAllowed}
-use Rattle.oat_check.specs.Rules.{IsChecked, are_as, hold_numbers, holds_number, is_func, local_ty, parameters, refers_with, takes_numbers}
-use Rattle.oat_check.specs.Steps.{LineEdge, SourceState, calls, current_line, does, entered, icalls, line_place, operation_number, operation_of, runs, shows, traps_by}
-use Rattle.oat_check.proofs.Checking.{func_formed, has_ty}
-use Rattle.oat_check.proofs.Frames.{There, there}
-use Rattle.oat_follow.specs.Events.{MachineEvent, monitors, moves}
-use Rattle.oat_follow.specs.Placement.{seen_at}
-use Rattle.oat_frames.specs.Calls.{CallSite, IsCallAt, IsIndirectCallAt, IsReferencedAt, call_edge, prologue_end}
-use Rattle.oat_frames.specs.Code.{call_code, icall_code}
-use Rattle.oat_frames.specs.Frames.{World, line_address}
-use Rattle.oat_frames.specs.Lines.{IsLineAt}
+use Rattle.oat_check.proofs.{Checking.func_formed, Checking.has_ty, Frames.There, Frames.there}
 use Rattle.oat_frames.proofs.FrameLaws.{deep-calls-trap, indirect-calls-lead, null-calls-trap}
-use Rattle.oat_globals.specs.Operations.{begin_shown, role_words}
+use Rattle.oat_globals.specs.{is_called_at, Depth, NullCall, Program, Func, I64, Fn, Call, ICall, IsInstr, IsFunc, enters, takes, trapped, Running, IsValue, is_referenced, instruction, IsAllowed}
+use Rattle.oat_globals.specs.{IsChecked, are_as, hold_numbers, holds_number, is_func, local_ty, parameters, refers_with, takes_numbers, LineEdge, SourceState, calls, current_line, does, entered}
+use Rattle.oat_globals.specs.{icalls, line_place, operation_number, operation_of, runs, shows, traps_by, MachineEvent, monitors, moves, seen_at, CallSite, IsCallAt, IsIndirectCallAt, IsReferencedAt}
+use Rattle.oat_globals.specs.{call_edge, prologue_end, call_code, icall_code, World, line_address, IsLineAt, Operations.begin_shown, Operations.role_words}
 use Rattle.oat_globals.proofs.GlobalLaws.{operation_calls_lead}
-use Rattle.oat_match.specs.Compiled.{FunctionBegins, IsCompiled, call_result}
-use Rattle.oat_match.specs.Matching.{GoesAlike, StepIsMatched, words_held}
-use Rattle.oat_match.specs.Placed.{call_arguments, placement}
-use Rattle.oat_match.proofs.DeepCalls.{deep_indirect_calls_trap}
-use Rattle.oat_match.proofs.Landing.{ends, steps}
-use Rattle.oat_match.proofs.Operands.{local_inside, number_local}
-use Rattle.oat_match.proofs.CallCode.{call_words, icall_words}
-use Rattle.oat_match.proofs.Finding.{Found, failed, found}
-use Rattle.oat_match.proofs.Leaves.{calls_slotted}
-use Rattle.oat_match.proofs.OperationPlaces.{operation_place}
-use Rattle.oat_match.proofs.Placing.{block_begins, function_at, has_begin}
-use Rattle.oat_match.proofs.Targets.{IsNamed, argument_typed, named_function, number_at, number_taken, parameter_is}
+use Rattle.oat_match.specs.{Compiled.FunctionBegins, Compiled.IsCompiled, Compiled.call_result, Matching.GoesAlike, Matching.StepIsMatched, Matching.words_held, Placed.call_arguments}
+use Rattle.oat_match.specs.{Placed.placement}
+use Rattle.oat_match.proofs.{DeepCalls.deep_indirect_calls_trap, Landing.ends, Landing.steps, Operands.local_inside, Operands.number_local, CallCode.call_words, CallCode.icall_words, Finding.Found}
+use Rattle.oat_match.proofs.{Finding.failed, Finding.found, Leaves.calls_slotted, OperationPlaces.operation_place, Placing.block_begins, Placing.function_at, Placing.has_begin, Targets.IsNamed}
+use Rattle.oat_match.proofs.{Targets.argument_typed, Targets.named_function, Targets.number_at, Targets.number_taken, Targets.parameter_is}
+use Rattle.oat_globals.specs.edges as edges
+use Rattle.oat_globals.specs.svc as svc
 
 behind_words : (p q words n k : ℕ) → q ≡ p + 4 * words → words ≡ n + k → q ≡ p + 4 * n + 4 * k
 behind_words p q words n k h e = omega arith

@@ -1,21 +1,11 @@
 -- An indirect call with 256 callers: the reference passes its test, and the depth doesn't.
 use Rattle.std.proofs.Common.{true, ◌≡◌, ◌+◌, ◌*◌, ◌<◌, ◌-◌, ℕ, Bool, not, cond, [], length, Some, refl, sym, ap, subst, ◌∙◌, arith, ne_eqb, inl, inr}
 use Rattle.std.proofs.lemmas.Bool.{le-leb}
-use Rattle.oat_a64.specs.declared.inst.Inst.TheVariants.{Brk, SubsImm}
-use Rattle.oat_map.specs.declared.row.Row.TheVariants as rows
-use Rattle.oat_map.specs.Rows.{row_over}
-use Rattle.oat_mem.specs.DataMemory.{word_in}
-use Rattle.oat_journal.specs.Run.{Running}
-use Rattle.oat_ir.specs.declared.func.Ty.{Ty}
-use Rattle.oat_ir.specs.declared.func.Ty.TheVariants.{Fn}
-use Rattle.oat_follow.specs.Reaching.{RunsTo, inst_makes}
-use Rattle.oat_frames.specs.Code.{CodeStands, icall_code}
-use Rattle.oat_frames.specs.Frames.{HoldsState, Represents}
-use Rattle.oat_frames.specs.Moments.{jumped, next_moment}
-use Rattle.oat_frames.specs.Phases.{HasSlots}
-use Rattle.oat_frames.proofs.FrameLaws.{opens, slot-of, slot-opens, slot-small}
-use Rattle.oat_frames.proofs.Kit.{bcond-passes, brk-depth, cbnz-skips, compared, compares, ldr, thence, with_x}
+use Rattle.oat_frames.proofs.{FrameLaws.opens, FrameLaws.slot-of, FrameLaws.slot-opens, FrameLaws.slot-small, Kit.bcond-passes, Kit.brk-depth, Kit.cbnz-skips, Kit.compared, Kit.compares, Kit.ldr}
+use Rattle.oat_frames.proofs.{Kit.thence, Kit.with_x}
+use Rattle.oat_globals.specs.{Brk, SubsImm, row_over, word_in, Running, Ty, Fn, RunsTo, inst_makes, CodeStands, icall_code, HoldsState, Represents, jumped, next_moment, HasSlots}
 use Rattle.oat_match.specs.DeepCalls.{DeepIndirectCallsTrap}
+use Rattle.oat_globals.specs.rows as rows
 
 pub deep_indirect_calls_trap : DeepIndirectCallsTrap
 deep_indirect_calls_trap w ok f callers globals args from result m r full call some =

@@ -1,17 +1,10 @@
 -- What is found: an item that passes a test, and the line of a block that has a number.
 use Rattle.std.proofs.Common.{◌≡◌, ◌<◌, ◌⊎◌, inl, inr, ℕ, zero, suc, Bool, true, false, cond, eqb, ne_eqb, List, [], ◌∷◌, ◌++◌, length, Option, option_map, Some, None, refl, sym, ap, ◌∙◌, arith}
-use Rattle.std.specs.Prelude.{slice_get}
+use Rattle.std.specs.{Prelude.slice_get, Option.option_and_then}
 use Rattle.std.proofs.lemmas.Bool.{cases_lt, le-ltb}
-use Rattle.std.specs.Option.{option_and_then}
-use Rattle.oat_ir.specs.declared.program.Program.{Program}
-use Rattle.oat_ir.specs.declared.func.Func.{Func}
-use Rattle.oat_ir.specs.declared.func.BlockIr.{BlockIr}
-use Rattle.oat_ir.specs.declared.instr.Instr.{Instr}
-use Rattle.oat_check.specs.Lines.{CodeLine, instruction, line_in, terminator}
-use Rattle.oat_check.specs.Rules.{passes}
-use Rattle.oat_check.specs.Steps.{LinePlace}
-use Rattle.oat_match.specs.Placed.{code_line_at}
 use Rattle.oat_check.proofs.Frames.{There, instr_is, term_is, there}
+use Rattle.oat_globals.specs.{Program, Func, BlockIr, Instr, CodeLine, instruction, line_in, terminator, passes, LinePlace}
+use Rattle.oat_match.specs.Placed.{code_line_at}
 
 -- ---- by a test
 

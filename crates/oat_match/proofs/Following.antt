@@ -1,25 +1,14 @@
 -- Where each source step of a compiled program is matched, and its start, the image follows the source, and so runs as it.
 use Rattle.std.proofs.Common.{◌≡◌, ℤ, List, [], ◌∷◌, Option, option_map, Some, None, FitsSigned, refl, sym, subst}
-use Rattle.std.specs.Int.{w64}
-use Rattle.std.specs.List.{AllByRecursion}
-use Rattle.oat_ir.specs.declared.program.Program.{Program}
-use Rattle.oat_events.specs.Cells.{Cells}
-use Rattle.oat_events.specs.Events.{SourceEvent, enters, leaves, loads, outputs, stores, takes}
-use Rattle.oat_events.specs.Source.{Finish, SourceKeeps}
-use Rattle.oat_journal.specs.Run.{Running}
-use Rattle.oat_check.specs.Rules.{IsChecked}
-use Rattle.oat_check.specs.Naming.{line_edge_name}
-use Rattle.oat_check.specs.Runs.{source_of, source_start}
-use Rattle.oat_check.specs.Steps.{LineEdge, SourceState, source_step}
+use Rattle.std.specs.{Int.w64, List.AllByRecursion}
 use Rattle.oat_check.proofs.Kept.{keeps}
-use Rattle.oat_follow.specs.Placement.{AreNamed}
-use Rattle.oat_follow.specs.Steps.{FollowsSteps, device_end}
+use Rattle.oat_globals.specs.{Program, Cells, SourceEvent, enters, leaves, outputs, takes, Finish, SourceKeeps, Running, IsChecked, line_edge_name, source_of, source_start, LineEdge, SourceState}
+use Rattle.oat_globals.specs.{source_step, AreNamed, FollowsSteps, device_end, World}
+use Rattle.oat_locals.specs.{loads, stores}
+use Rattle.oat_match.specs.{Compiled.IsCompiled, Following.CompiledProgramsMean, Following.CompiledProgramsRun, Following.StepsTakeEdges, Following.TakesEdgesOf, Matching.CellsStartAlike}
+use Rattle.oat_match.specs.{Matching.IsAlike, Matching.IsRelated, Matching.StartIsMatched, Matching.StartsAreMatched, Matching.StepIsMatched, Matching.StepsAreMatched, Placed.EdgesAreNamed}
+use Rattle.oat_match.specs.{Placed.placement}
 use Rattle.oat_follow.proofs.FollowLaws as follow
-use Rattle.oat_frames.specs.Frames.{World}
-use Rattle.oat_match.specs.Compiled.{IsCompiled}
-use Rattle.oat_match.specs.Following.{CompiledProgramsMean, CompiledProgramsRun, StepsTakeEdges, TakesEdgesOf}
-use Rattle.oat_match.specs.Matching.{CellsStartAlike, IsAlike, IsRelated, StartIsMatched, StartsAreMatched, StepIsMatched, StepsAreMatched}
-use Rattle.oat_match.specs.Placed.{EdgesAreNamed, placement}
 
 -- edges of the program have their names in the image
 names : (p : Program) (w : World) → EdgesAreNamed p w → (es : List (SourceEvent LineEdge)) → TakesEdgesOf p es → AreNamed w.image.map (placement p w) (line_edge_name p) es

@@ -2,31 +2,15 @@
 use Rattle.std.proofs.Common.{◌≡◌, ◌+◌, ◌<◌, ◌≤◌, ◌^◌, ◌&&◌, inl, inr, ℕ, true, [], ◌∷◌, Option, Some, None, refl, sym, subst, arith}
 use Rattle.std.specs.Prelude.{slice_get}
 use Rattle.std.proofs.lemmas.Bool.{and_parts, cases_lt}
-use Rattle.oat_a64.specs.declared.inst.Inst.TheVariants.{Ldr, Str}
+use Rattle.oat_globals.specs.{Ldr, Str, Program, Func, Load, LoadX, RefTo, Store, StoreX, Index, trapped, Running, cell_number, length_at, is_referenced, instruction, ElementsAreNumbered, IsChecked}
+use Rattle.oat_globals.specs.{has_types, holds_number, is_as_scalar, names_array, SourceState, does, reads, writes, World, home_in, home_load, home_store, IsLineAt, IsNumberLocal, Code.define_at_code}
+use Rattle.oat_globals.specs.{Code.define_code, Code.load_code, Code.loadx_code, Code.ref_code, Code.store_code, Code.storex_code, Code.use_at_code, Code.use_code, Elements.IsArrayAt}
+use Rattle.oat_globals.proofs.GlobalLaws.{critical_element_loads_lead, critical_element_loads_trap, critical_element_stores_lead, critical_element_stores_trap, critical_loads_lead}
+use Rattle.oat_globals.proofs.GlobalLaws.{critical_stores_lead, element_loads_lead, element_stores_lead, elements_trap, loads_lead, references_lead, stores_lead}
+use Rattle.oat_match.specs.{Code.by_cell, Code.first_word_of, Compiled.IsCompiled, Matching.GoesAlike, Matching.StepIsMatched, Matching.words_held}
+use Rattle.oat_match.proofs.{Landing.assigns, Landing.beyond, Landing.ends, Landing.inside, Landing.reads_at, Landing.writes_at, Operands.array_at, Operands.critical_element, Operands.critical_scalar}
+use Rattle.oat_match.proofs.{Operands.may_refer, Operands.number_local, Operands.plain_array, Operands.scalar_pair}
 use Rattle.oat_asm.specs.declared.item.Item.TheVariants as item
-use Rattle.oat_ir.specs.declared.program.Program.{Program}
-use Rattle.oat_ir.specs.declared.func.Func.{Func}
-use Rattle.oat_ir.specs.declared.instr.Instr.TheVariants.{Load, LoadX, RefTo, Store, StoreX}
-use Rattle.oat_map.specs.declared.trap.TrapKind.TheVariants.{Index}
-use Rattle.oat_events.specs.Source.{trapped}
-use Rattle.oat_journal.specs.Run.{Running}
-use Rattle.oat_check.specs.Globals.{cell_number, length_at}
-use Rattle.oat_check.specs.Keeping.{is_referenced}
-use Rattle.oat_check.specs.Lines.{instruction}
-use Rattle.oat_check.specs.RunLaws.{ElementsAreNumbered}
-use Rattle.oat_check.specs.Rules.{IsChecked, has_types, holds_number, is_as_scalar, names_array}
-use Rattle.oat_check.specs.Steps.{SourceState, does, reads, writes}
-use Rattle.oat_frames.specs.Frames.{World, home_in}
-use Rattle.oat_frames.specs.Code.{home_load, home_store}
-use Rattle.oat_frames.specs.Lines.{IsLineAt, IsNumberLocal}
-use Rattle.oat_globals.specs.Code.{define_at_code, define_code, load_code, loadx_code, ref_code, store_code, storex_code, use_at_code, use_code}
-use Rattle.oat_globals.specs.Elements.{IsArrayAt}
-use Rattle.oat_globals.proofs.GlobalLaws.{critical_element_loads_lead, critical_element_loads_trap, critical_element_stores_lead, critical_element_stores_trap, critical_loads_lead, critical_stores_lead, element_loads_lead, element_stores_lead, elements_trap, loads_lead, references_lead, stores_lead}
-use Rattle.oat_match.specs.Code.{by_cell, first_word_of}
-use Rattle.oat_match.specs.Compiled.{IsCompiled}
-use Rattle.oat_match.specs.Matching.{GoesAlike, StepIsMatched, words_held}
-use Rattle.oat_match.proofs.Landing.{assigns, beyond, ends, inside, reads_at, writes_at}
-use Rattle.oat_match.proofs.Operands.{array_at, critical_element, critical_scalar, may_refer, number_local, plain_array, scalar_pair}
 
 plus_none : (n : ℕ) → n + 0 ≡ n
 plus_none n = omega arith

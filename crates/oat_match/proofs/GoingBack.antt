@@ -1,30 +1,16 @@
 -- The path of a completed call goes back as it called, in the source and so in the image.
 use Rattle.std.proofs.Common.{◌≡◌, ◌+◌, ◌*◌, ℕ, zero, suc, ℤ, Bool, true, false, List, [], ◌∷◌, ◌++◌, length, map, Option, Some, None, nat_eq, if◌then◌else◌, refl, sym, ap, subst, ◌∙◌, arith}
 use Rattle.std.specs.List.{cons_option, filter_map}
-use Rattle.oat_map.specs.Turns.{GoesBack, Turn, Turned, pops, pushes, stays, strays, turn_of}
-use Rattle.oat_map.specs.declared.row.Row.TheVariants as rows
-use Rattle.oat_map.specs.Rows.{after}
-use Rattle.oat_ir.specs.declared.program.Program.{Program}
-use Rattle.oat_ir.specs.declared.instr.Instr.TheVariants.{Call, ICall}
-use Rattle.oat_events.specs.Events.{SourceEvent, enters, is_entered, is_left, leaves, loads, outputs, stores, takes}
-use Rattle.oat_events.specs.Source.{edge_taken, events_after, has_completed, path_of_call, shown_from}
-use Rattle.oat_events.specs.Windows.{inside, up_to}
 use Rattle.oat_events.proofs.WindowLaws.{windows_are_parts}
-use Rattle.oat_check.specs.Active.{line_turn}
-use Rattle.oat_check.specs.Keeping.{IsConsistent}
-use Rattle.oat_check.specs.Lines.{CodeLine, instruction}
-use Rattle.oat_check.specs.Rules.{IsChecked}
-use Rattle.oat_check.specs.Runs.{source_events, source_of, source_start}
-use Rattle.oat_check.specs.Steps.{LineEdge, LinePlace, SourceState, branches, calls, finishes, icalls, jumps, returns, source_step}
-use Rattle.oat_check.proofs.Kept.{keeps}
-use Rattle.oat_check.proofs.Sourcing.{calls_go_back}
-use Rattle.oat_follow.specs.Following.{Means}
-use Rattle.oat_frames.specs.Frames.{World, return_address}
-use Rattle.oat_match.specs.Compiled.{IsCompiled}
-use Rattle.oat_match.specs.Following.{CompiledProgramsMean, CompiledWindowsGoBack, StepsTakeEdges, TakesEdgesOf}
-use Rattle.oat_match.specs.Placed.{IsLineEdge, address_of_line, call_arguments, code_line_at, edge_in_image, frame_at, placement}
-use Rattle.oat_match.proofs.CallRows.{HasCallRow, call_row, icall_row}
-use Rattle.oat_match.proofs.Finding.{located}
+use Rattle.oat_check.proofs.{Kept.keeps, Sourcing.calls_go_back}
+use Rattle.oat_globals.specs.{GoesBack, Turn, Turned, pops, pushes, stays, strays, turn_of, after, Program, Call, ICall, SourceEvent, enters, is_entered, is_left, leaves, outputs, takes, edge_taken}
+use Rattle.oat_globals.specs.{events_after, has_completed, path_of_call, shown_from, inside, up_to, line_turn, IsConsistent, CodeLine, instruction, IsChecked, source_events, source_of, source_start}
+use Rattle.oat_globals.specs.{LineEdge, LinePlace, SourceState, branches, calls, finishes, icalls, jumps, returns, source_step, Means, World, return_address}
+use Rattle.oat_locals.specs.{loads, stores}
+use Rattle.oat_match.specs.{Compiled.IsCompiled, Following.CompiledProgramsMean, Following.CompiledWindowsGoBack, Following.StepsTakeEdges, Following.TakesEdgesOf, Placed.IsLineEdge}
+use Rattle.oat_match.specs.{Placed.address_of_line, Placed.call_arguments, Placed.code_line_at, Placed.edge_in_image, Placed.frame_at, Placed.placement}
+use Rattle.oat_match.proofs.{CallRows.HasCallRow, CallRows.call_row, CallRows.icall_row, Finding.located}
+use Rattle.oat_globals.specs.rows as rows
 
 -- ---- paths that are mapped
 

@@ -1,26 +1,11 @@
 -- From what the laws of single lines come to, a source step that is matched.
 use Rattle.std.proofs.Common.{◌≡◌, ◌+◌, ◌<◌, ◌≤◌, ℕ, ℤ, Bool, cond, List, [], map, Option, None, FitsSigned, refl, sym, ap, subst, ◌∙◌, arith}
+use Rattle.std.specs.{Int.w64, List.AllByRecursion}
 use Rattle.std.proofs.lemmas.Bool.{lt-ltb, le-ltb}
-use Rattle.std.specs.Int.{w64}
-use Rattle.std.specs.List.{AllByRecursion}
-use Rattle.oat_map.specs.declared.trap.TrapKind.TheVariants.{Index}
-use Rattle.oat_ir.specs.declared.program.Program.{Program}
-use Rattle.oat_events.specs.Events.{loads, stores}
-use Rattle.oat_events.specs.Source.{Finish}
-use Rattle.oat_journal.specs.Run.{Running}
-use Rattle.oat_check.specs.Globals.{cell_number, length_at, put}
-use Rattle.oat_check.specs.RunLaws.{ElementsAreNumbered}
-use Rattle.oat_check.specs.Steps.{Next, SourceState, assigned, ends_by, in_array, reads, sets, shows, silent, traps_by, writes}
-use Rattle.oat_follow.specs.Events.{MachineEvent}
-use Rattle.oat_follow.specs.Placement.{seen_at}
-use Rattle.oat_follow.specs.Reaching.{RunsTo}
-use Rattle.oat_follow.specs.Steps.{device_end}
-use Rattle.oat_frames.specs.Comes.{ComesTo, EndsWithin, StepsTo, with_result}
-use Rattle.oat_frames.specs.Frames.{World}
-use Rattle.oat_frames.specs.Lines.{on_next_line}
-use Rattle.oat_match.specs.Code.{first_word_of}
-use Rattle.oat_match.specs.Matching.{GoesAlike, IsAlike, StepIsMatched, words_held}
-use Rattle.oat_match.specs.Placed.{placement}
+use Rattle.oat_globals.specs.{Index, Program, Finish, Running, cell_number, length_at, put, ElementsAreNumbered, Next, SourceState, assigned, ends_by, in_array, reads, sets, shows, silent, traps_by}
+use Rattle.oat_globals.specs.{writes, MachineEvent, seen_at, RunsTo, device_end, ComesTo, EndsWithin, StepsTo, with_result, World, on_next_line}
+use Rattle.oat_locals.specs.{loads, stores}
+use Rattle.oat_match.specs.{Code.first_word_of, Matching.GoesAlike, Matching.IsAlike, Matching.StepIsMatched, Matching.words_held, Placed.placement}
 use Rattle.oat_match.proofs.Words.{word_read, word_written}
 
 module _ (p : Program) (w : World) (s : SourceState) (m : Running) (going : s.end ≡ None) (r : GoesAlike p w s m) where

@@ -1,15 +1,7 @@
 -- A function that calls is no leaf, so that all its locals have slots.
 use Rattle.std.proofs.Common.{◌≡◌, ◌||◌, inl, inr, ℕ, zero, suc, Bool, true, false, not, List, [], ◌∷◌, Some, refl, sym, ap, ◌∙◌}
-use Rattle.std.specs.Prelude.{slice_get}
-use Rattle.std.specs.List.{list_any}
-use Rattle.oat_ir.specs.declared.program.Program.{Program}
-use Rattle.oat_ir.specs.declared.func.Func.{Func}
-use Rattle.oat_ir.specs.declared.func.BlockIr.{BlockIr}
-use Rattle.oat_ir.specs.declared.instr.Instr.{Instr}
-use Rattle.oat_check.specs.Lines.{instruction, is_calling}
-use Rattle.oat_check.specs.Steps.{Frame, current_line, line_place}
-use Rattle.oat_frames.specs.Frames.{World, IsSlotted}
-use Rattle.oat_frames.specs.Leaves.{is_leaf}
+use Rattle.std.specs.{Prelude.slice_get, List.list_any}
+use Rattle.oat_globals.specs.{Program, Func, BlockIr, Instr, instruction, is_calling, Frame, current_line, line_place, World, IsSlotted, is_leaf}
 use Rattle.oat_match.specs.Compiled.{HasDataOf}
 use Rattle.oat_match.proofs.Finding.{Located, LineCases, line_cases, located}
 

@@ -1,33 +1,18 @@
 -- The source's step at each line whose operands are locals alone.
 use Rattle.std.proofs.Common.{◌≡◌, ℕ, ℤ, Bool, true, false, cond, eqb, eqb-true, ◌&&◌, List, [], ◌∷◌, Option, Some, None, FitsSigned, refl, sym, subst, ◌∙◌, arith}
-use Rattle.std.specs.Prelude.{slice_get}
+use Rattle.std.specs.{Prelude.slice_get, Int.w64, List.AllByRecursion}
 use Rattle.std.proofs.lemmas.Bool.{and_parts, eqb-false}
-use Rattle.std.specs.Int.{w64}
-use Rattle.std.specs.List.{AllByRecursion}
-use Rattle.oat_ir.specs.declared.program.Program.{Program}
-use Rattle.oat_ir.specs.declared.func.Func.{Func}
-use Rattle.oat_ir.specs.declared.instr.BinOp.{BinOp}
-use Rattle.oat_map.specs.declared.trap.TrapKind.TheVariants.{DivZero, InputEnd}
-use Rattle.oat_events.specs.Source.{halted, trapped}
-use Rattle.oat_journal.specs.Run.{Running}
-use Rattle.oat_check.specs.Operators.{number, result_of}
-use Rattle.oat_check.specs.Rules.{IsChecked, are_alike, holds_number, local_ty}
-use Rattle.oat_check.specs.Steps.{SourceState, branches, computes, does, goes_to, jumps, line_place, sets, silent, takes_in}
-use Rattle.oat_check.specs.Steps as source
-use Rattle.oat_ir.specs.declared.instr.Instr.TheVariants.{Output}
 use Rattle.oat_check.proofs.Checking.{OneTy, alike}
+use Rattle.oat_globals.specs.{Program, Func, BinOp, DivZero, InputEnd, halted, trapped, Running, number, result_of, IsChecked, are_alike, holds_number, local_ty, SourceState, branches, computes, does}
+use Rattle.oat_globals.specs.{goes_to, jumps, line_place, sets, silent, takes_in, Output, CodeStands, World, home_in, line_address, IsLineAt}
+use Rattle.oat_locals.specs.{Code.binary_code, Code.branch_code, Code.const_code, Code.copy_code, Code.halt_code, Code.input_code, Code.jump_code, Code.output_code, Lines.IsBinaryLine}
+use Rattle.oat_locals.specs.{Lines.IsCopyLine, Lines.IsInputLine, Terminators.BlockBegins, Terminators.IsBranchLine}
+use Rattle.oat_locals.proofs.LineLaws.{binaries-lead, divisions-trap, consts-lead, copies-lead, inputs-lead, input-ends-trap, outputs-lead, jumps-lead, taken-branches-lead, other-branches-lead}
+use Rattle.oat_locals.proofs.LineLaws.{branches-are-apart, halts-end}
 use Rattle.oat_symbols.specs.Programs.{label_of_block}
-use Rattle.oat_frames.specs.Code.{CodeStands}
-use Rattle.oat_frames.specs.Frames.{World, home_in, line_address}
-use Rattle.oat_frames.specs.Lines.{IsLineAt}
-use Rattle.oat_locals.specs.Code.{binary_code, branch_code, const_code, copy_code, halt_code, input_code, jump_code, output_code}
-use Rattle.oat_locals.specs.Lines.{IsBinaryLine, IsCopyLine, IsInputLine}
-use Rattle.oat_locals.specs.Terminators.{BlockBegins, IsBranchLine}
-use Rattle.oat_locals.proofs.LineLaws.{binaries-lead, divisions-trap, consts-lead, copies-lead, inputs-lead, input-ends-trap, outputs-lead, jumps-lead, taken-branches-lead, other-branches-lead, branches-are-apart, halts-end}
-use Rattle.oat_match.specs.Compiled.{IsCompiled}
-use Rattle.oat_match.specs.Matching.{GoesAlike, StepIsMatched, words_held}
-use Rattle.oat_match.proofs.Landing.{assigns, comes, ends, steps}
-use Rattle.oat_match.proofs.Operands.{local_inside, number_local}
+use Rattle.oat_match.specs.{Compiled.IsCompiled, Matching.GoesAlike, Matching.StepIsMatched, Matching.words_held}
+use Rattle.oat_match.proofs.{Landing.assigns, Landing.comes, Landing.ends, Landing.steps, Operands.local_inside, Operands.number_local}
+use Rattle.oat_check.specs.Steps as source
 
 module _ (p : Program) (ok : IsChecked p) (w : World) (c : IsCompiled p w) (s : SourceState) (m : Running) (going : s.end ≡ None) (r : GoesAlike p w s m) (func : Func) (is : slice_get p.funcs s.frame.func ≡ Some func) where
   pub const_matched : (x : ℕ) (value : ℤ) → holds_number func x ≡ true → IsLineAt w s.frame (const_code (home_in w s.frame x) value) → StepIsMatched p w (silent (sets s x (number value))) m

@@ -1,31 +1,14 @@
 -- What a line asks of its operands, from the checking rules: each has the type, the word or the cell that the line's law wants.
-use Rattle.std.proofs.Common.{◌≡◌, ◌+◌, ◌-◌, ◌^◌, ◌<◌, ◌≤◌, ◌&&◌, ◌⊎◌, inl, inr, ℕ, zero, suc, Bool, true, false, cond, List, [], ◌∷◌, length, Option, option_map, Some, None, refl, sym, ap, subst, ◌∙◌, arith, ltb, eqb}
-use Rattle.std.specs.Prelude.{slice_get, take, get_or}
-use Rattle.std.specs.List.{sum_by}
-use Rattle.std.proofs.lemmas.Bool.{lt-ltb, le-ltb, ltb-true, eq-eqb}
-use Rattle.std.proofs.lemmas.Option.{cond_some, slice_get_within, get_or_from_slice_get}
-use Rattle.std.proofs.lemmas.List.Sums.{sum_by-cons, sum_by_more_le, sum_by-le-sum_by}
-use Rattle.oat_ir.specs.WellFormed.{IsGlobal}
-use Rattle.oat_ir.specs.declared.program.Program.{Program}
-use Rattle.oat_ir.specs.declared.program.GlobalItem.{GlobalItem}
-use Rattle.oat_ir.specs.declared.program.GlobalItem.TheVariants.{Scalar, FnScalar, Array, CriticalArray}
-use Rattle.oat_ir.specs.declared.func.Func.{Func}
-use Rattle.oat_ir.specs.declared.func.Local.{Local}
-use Rattle.oat_ir.specs.declared.func.Ty.{Ty}
-use Rattle.oat_ir.specs.declared.func.Ty.TheVariants.{I64, Fn}
-use Rattle.oat_ir.specs.declared.instr.Instr.TheVariants.{RefTo}
-use Rattle.oat_check.specs.Globals.{size_in_words, size_in_cells, of_global, cell_number, length_at}
-use Rattle.oat_check.specs.Keeping.{item_ty, word_ty, is_referenced}
-use Rattle.oat_check.specs.Lines.{instruction}
-use Rattle.oat_check.specs.Rules.{IsChecked, are_alike, has_types, holds_number, is_array, is_as_scalar, local_ty, names_array, passes, refers_with, scalar_ty}
+use Rattle.std.proofs.Common.{◌≡◌, ◌+◌, ◌-◌, ◌^◌, ◌<◌, ◌≤◌, ◌&&◌, ◌⊎◌, inl, inr, ℕ, zero, suc, Bool, true, false, cond, List, [], ◌∷◌, length, Option, option_map, Some, None, refl, sym, ap, subst}
+use Rattle.std.proofs.Common.{◌∙◌, arith, ltb, eqb}
+use Rattle.std.specs.{Prelude.slice_get, Prelude.take, Prelude.get_or, List.sum_by}
+use Rattle.std.proofs.lemmas.{Bool.lt-ltb, Bool.le-ltb, Bool.ltb-true, Bool.eq-eqb, Option.cond_some, Option.slice_get_within, Option.get_or_from_slice_get, List.Sums.sum_by-cons}
+use Rattle.std.proofs.lemmas.{List.Sums.sum_by_more_le, List.Sums.sum_by-le-sum_by}
 use Rattle.oat_check.proofs.Checking.{OneTy, alike, each_at, has_ty, keeps_rules}
-use Rattle.oat_frames.specs.Frames.{World}
-use Rattle.oat_frames.specs.Lines.{IsNumberLocal}
-use Rattle.oat_check.specs.Steps.{Frame}
-use Rattle.oat_globals.specs.Elements.{IsArrayAt, IsCriticalElementLine}
-use Rattle.oat_globals.specs.Scalars.{IsCriticalScalar, IsScalarPair, MayRefer}
-use Rattle.oat_match.specs.Code.{first_word_of}
-use Rattle.oat_match.specs.Compiled.{HasDataOf}
+use Rattle.oat_globals.specs.{IsGlobal, Program, GlobalItem, Scalar, FnScalar, Array, CriticalArray, Func, Local, Ty, I64, Fn, RefTo, size_in_words, size_in_cells, of_global, cell_number, length_at}
+use Rattle.oat_globals.specs.{item_ty, word_ty, is_referenced, instruction, IsChecked, are_alike, has_types, holds_number, is_array, is_as_scalar, local_ty, names_array, passes, refers_with}
+use Rattle.oat_globals.specs.{scalar_ty, World, IsNumberLocal, Frame, Elements.IsArrayAt, Elements.IsCriticalElementLine, Scalars.IsCriticalScalar, Scalars.IsScalarPair, Scalars.MayRefer}
+use Rattle.oat_match.specs.{Code.first_word_of, Compiled.HasDataOf}
 use Rattle.oat_match.proofs.Finding.{found}
 
 -- ---- what is there

@@ -1,21 +1,10 @@
 -- An operation's number tells its function.
 use Rattle.std.proofs.Common.{◌≡◌, ◌<◌, ℕ, zero, suc, Bool, true, false, List, [], ◌∷◌, length, get_or, Option, Some, None, refl, sym, ap, subst, ◌∙◌, arith, eqb-true, eq-eqb}
-use Rattle.std.specs.Prelude.{slice_get}
-use Rattle.std.specs.Option.{option_and_then}
-use Rattle.std.specs.List.{IsDistinct}
-use Rattle.std.proofs.lemmas.Bool.{both_ways}
-use Rattle.std.proofs.lemmas.Option.{get_or_from_slice_get, slice_get_within}
-use Rattle.std.proofs.lemmas.Map.Keys.{IsDistinct-head, IsDistinct-tail}
-use Rattle.std.proofs.lemmas.List.Sums.{position_or_len_is}
-use Rattle.oat_ir.specs.declared.program.Program.{Program}
-use Rattle.oat_ir.specs.declared.func.Func.{Func}
-use Rattle.oat_ir.specs.declared.func.Role.{Role}
-use Rattle.oat_ir.specs.declared.func.Role.TheVariants.{Main, Operation, Plain}
-use Rattle.oat_ir.specs.Distinct.{are_one_operation, have_one_operation}
-use Rattle.oat_check.specs.Rules.{IsChecked, is_operation_of}
-use Rattle.oat_check.specs.Steps.{operation_number, operation_of}
-use Rattle.oat_check.proofs.Frames.{There, there}
+use Rattle.std.specs.{Prelude.slice_get, Option.option_and_then, List.IsDistinct}
+use Rattle.std.proofs.lemmas.{Bool.both_ways, Option.get_or_from_slice_get, Option.slice_get_within, Map.Keys.IsDistinct-head, Map.Keys.IsDistinct-tail, List.Sums.position_or_len_is}
 use Rattle.oat_parts.proofs.Lists.{all_get}
+use Rattle.oat_check.proofs.Frames.{There, there}
+use Rattle.oat_globals.specs.{Program, Func, Role, Main, Operation, Plain, are_one_operation, have_one_operation, IsChecked, is_operation_of, operation_number, operation_of}
 use Rattle.oat_match.specs.Placed.{function_of_operation}
 
 is_it : (r : Role) (op : ℕ) → operation_number r ≡ Some op → is_operation_of op r ≡ true

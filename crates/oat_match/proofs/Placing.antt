@@ -2,30 +2,15 @@
 use Rattle.std.proofs.Common.{inl, inr, ◌≡◌, ◌+◌, ◌*◌, ◌<◌, ◌≤◌, ℕ, Bool, [], ◌∷◌, length, map, Some, refl, sym, ap, subst, ◌∙◌, arith}
 use Rattle.std.specs.Prelude.{slice_get}
 use Rattle.std.proofs.lemmas.Option.{slice_get_within}
-use Rattle.oat_ir.specs.declared.program.Program.{Program}
-use Rattle.oat_ir.specs.declared.func.Func.{Func}
-use Rattle.oat_ir.specs.declared.func.Role.{Role}
-use Rattle.oat_ir.specs.declared.func.Role.TheVariants.{Main, Operation, Plain}
-use Rattle.oat_ir.specs.declared.func.BlockIr.{BlockIr}
-use Rattle.oat_ir.specs.WellFormed.{IsRole}
-use Rattle.oat_check.specs.Rules.{IsChecked}
-use Rattle.oat_check.specs.Steps.{operation_number}
-use Rattle.oat_check.specs.Lines.{CodeLine}
-use Rattle.oat_check.proofs.Checking.{func_formed}
-use Rattle.oat_check.proofs.Frames.{there}
-use Rattle.oat_symbols.specs.Programs.{label_of_block}
 use Rattle.oat_parts.proofs.Lists.{get_before, map_get, map_length}
-use Rattle.oat_frames.specs.Calls.{IsFunctionAt}
-use Rattle.oat_frames.specs.Code.{CodeStands, prologue}
-use Rattle.oat_frames.specs.Frames.{World}
-use Rattle.oat_frames.specs.Leaves.{is_leaf}
-use Rattle.oat_frames.specs.Lines.{words_before_line}
+use Rattle.oat_check.proofs.{Checking.func_formed, Frames.there}
 use Rattle.oat_frames.proofs.FrameLaws.{lines-stand}
-use Rattle.oat_globals.specs.Operations.{HasBegin, HasShortNumber, start_code}
+use Rattle.oat_globals.specs.{Program, Func, Role, Main, Operation, Plain, BlockIr, IsRole, IsChecked, operation_number, CodeLine, IsFunctionAt, CodeStands, prologue, World, is_leaf}
+use Rattle.oat_globals.specs.{words_before_line, Operations.HasBegin, Operations.HasShortNumber, Operations.start_code}
 use Rattle.oat_globals.proofs.GlobalLaws.{starts_stand}
+use Rattle.oat_symbols.specs.Programs.{label_of_block}
+use Rattle.oat_match.specs.{Code.block_items, Code.instruction_items, Code.line_items, Code.terminator_items, Compiled.IsCompiled, Compiled.LinesArePlaced}
 use Rattle.oat_match.proofs.Finding.{LineCases, last_one, line_cases}
-use Rattle.oat_match.specs.Code.{block_items, instruction_items, line_items, terminator_items}
-use Rattle.oat_match.specs.Compiled.{IsCompiled, LinesArePlaced}
 
 -- ---- an operation's number
 

@@ -1,41 +1,17 @@
 -- The source's step at a return: to the line behind the call of the frame that waits.
 use Rattle.std.proofs.Common.{◌≡◌, ◌+◌, ◌*◌, ◌&&◌, ◌++◌, ℕ, true, List, [], ◌∷◌, length, map, Option, option_map, Some, None, refl, sym, ap, subst, ◌∙◌, arith}
-use Rattle.std.specs.Prelude.{slice_get}
-use Rattle.std.specs.Option.{option_and_then}
+use Rattle.std.specs.{Prelude.slice_get, Option.option_and_then}
 use Rattle.std.proofs.lemmas.Bool.{and_parts, both_ways}
-use Rattle.oat_map.specs.declared.edge.Edge.TheVariants as edges
-use Rattle.oat_ir.specs.declared.program.Program.{Program}
-use Rattle.oat_ir.specs.declared.func.Func.{Func}
-use Rattle.oat_ir.specs.declared.func.Role.{Role}
-use Rattle.oat_ir.specs.declared.func.Role.TheVariants.{Main}
-use Rattle.oat_ir.specs.declared.instr.Instr.{Instr}
-use Rattle.oat_ir.specs.declared.instr.Instr.TheVariants.{Binary, Call, Const, Copy, ICall, Input, Load, LoadX, Output, RefTo, Store, StoreX}
 use Rattle.oat_ir.specs.declared.instr.Term.TheVariants.{Ret}
-use Rattle.oat_events.specs.Events.{leaves, takes}
-use Rattle.oat_journal.specs.Run.{Running}
-use Rattle.oat_check.specs.Keeping.{AreCallers, IsCaller}
-use Rattle.oat_check.specs.Lines.{instruction, is_calling, terminator}
-use Rattle.oat_check.specs.RuleLaws.{IsAllowed}
-use Rattle.oat_check.specs.Rules.{IsChecked, has_types, hold_numbers, holds_number, is_main, is_main_role, refers_with}
-use Rattle.oat_check.specs.Steps.{Frame, LineEdge, SourceState, closes, current_line, gives, line_place, operation_number, operation_of, result_at, returns, shows}
-use Rattle.oat_check.proofs.Checking.{instr_allowed}
-use Rattle.oat_check.proofs.Frames.{instr_is, line_is}
-use Rattle.oat_follow.specs.Events.{moves}
-use Rattle.oat_follow.specs.Placement.{seen_at}
-use Rattle.oat_frames.specs.Code.{CodeStands}
-use Rattle.oat_frames.specs.Comes.{StepsTo, with_result}
-use Rattle.oat_frames.specs.Frames.{IsAt, World, home_in, line_address, return_address}
-use Rattle.oat_frames.specs.Lines.{IsNumberLocal}
-use Rattle.oat_frames.specs.Returns.{IsReturnOf, return_edge}
-use Rattle.oat_globals.specs.Operations.{end_shown, leave_code, role_words}
+use Rattle.oat_check.proofs.{Checking.instr_allowed, Frames.instr_is, Frames.line_is}
+use Rattle.oat_globals.specs.{Program, Func, Role, Main, Instr, Binary, Call, Const, Copy, ICall, Input, Load, LoadX, Output, RefTo, Store, StoreX, leaves, takes, Running, AreCallers, IsCaller}
+use Rattle.oat_globals.specs.{instruction, is_calling, terminator, IsAllowed, IsChecked, has_types, hold_numbers, holds_number, is_main, is_main_role, refers_with, Frame, LineEdge, SourceState}
+use Rattle.oat_globals.specs.{closes, current_line, gives, line_place, operation_number, operation_of, result_at, returns, shows, moves, seen_at, CodeStands, StepsTo, with_result, IsAt, World}
+use Rattle.oat_globals.specs.{home_in, line_address, return_address, IsNumberLocal, IsReturnOf, return_edge, Operations.end_shown, Operations.leave_code, Operations.role_words}
 use Rattle.oat_globals.proofs.GlobalLaws.{operation_returns_lead}
-use Rattle.oat_match.specs.Compiled.{IsCompiled, call_result}
-use Rattle.oat_match.specs.Matching.{GoesAlike, StepIsMatched, words_held}
-use Rattle.oat_match.specs.Placed.{placement}
-use Rattle.oat_match.proofs.Landing.{steps}
-use Rattle.oat_match.proofs.Leaves.{calls_slotted}
-use Rattle.oat_match.proofs.Operands.{number_local}
-use Rattle.oat_match.proofs.Placing.{short_number}
+use Rattle.oat_match.specs.{Compiled.IsCompiled, Compiled.call_result, Matching.GoesAlike, Matching.StepIsMatched, Matching.words_held, Placed.placement}
+use Rattle.oat_match.proofs.{Landing.steps, Leaves.calls_slotted, Operands.number_local, Placing.short_number}
+use Rattle.oat_globals.specs.edges as edges
 
 -- the local that a caller's result goes into
 record Result (p : Program) (func : Func) (i : Instr) : Type 0 where

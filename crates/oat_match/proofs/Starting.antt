@@ -1,40 +1,14 @@
 -- The start of a compiled program's run: its prologue leads to where the source starts, and its cells hold what the source's hold.
 use Rattle.std.proofs.Common.{◌≡◌, ◌+◌, ◌*◌, ◌≤◌, ℕ, ℤ, List, [], inl, Option, option_map, Some, None, refl, sym, ap, subst, ◌∙◌, arith}
-use Rattle.std.specs.Prelude.{slice_get, unwrap_or}
-use Rattle.std.specs.Option.{option_and_then}
-use Rattle.std.specs.List.{sum_by}
+use Rattle.std.specs.{Prelude.slice_get, Prelude.unwrap_or, Option.option_and_then, List.sum_by}
 use Rattle.std.proofs.Math.Path.{fun_ext}
-use Rattle.oat_a64.specs.Step.{code_base}
-use Rattle.oat_mem.specs.DataMemory.{global_address, word_in}
-use Rattle.oat_ir.specs.declared.program.Program.{Program}
-use Rattle.oat_ir.specs.declared.func.Func.{Func}
-use Rattle.oat_ir.specs.declared.func.BlockIr.{BlockIr}
-use Rattle.oat_ir.specs.declared.func.Role.{Role}
-use Rattle.oat_ir.specs.declared.func.Role.TheVariants.{Main}
-use Rattle.oat_ir.specs.declared.func.Ty.{Ty}
-use Rattle.oat_ir.specs.declared.func.Ty.TheVariants.{I64, Fn}
-use Rattle.oat_ir.specs.WellFormed.{IsFunc, IsRole}
-use Rattle.oat_journal.specs.Run.{start_memory}
-use Rattle.oat_check.specs.Globals.{cell_values, cell_words, first_values, size_in_words, word_values}
-use Rattle.oat_check.specs.Keeping.{IsConsistent}
-use Rattle.oat_check.specs.RunLaws.{CellWordsAreThere, CellsAreWords}
-use Rattle.oat_check.specs.Rules.{IsChecked}
-use Rattle.oat_check.specs.Runs.{main_number, source_start}
-use Rattle.oat_check.specs.Steps.{operation_number}
-use Rattle.oat_check.proofs.Checking.{func_formed}
-use Rattle.oat_check.proofs.Kept.{keeps}
-use Rattle.oat_frames.specs.Calls.{IsFunctionAt, prologue_end}
-use Rattle.oat_frames.specs.Code.{CodeStands, prologue}
-use Rattle.oat_frames.specs.Comes.{StepsTo}
-use Rattle.oat_frames.specs.Frames.{GlobalsAt, Represents, World}
-use Rattle.oat_frames.specs.Returns.{main_frame}
-use Rattle.oat_journal.specs.Run.{started}
+use Rattle.oat_check.proofs.{Checking.func_formed, Kept.keeps}
 use Rattle.oat_frames.proofs.FrameLaws.{start-leads}
-use Rattle.oat_globals.specs.Operations.{role_words}
-use Rattle.oat_match.specs.Compiled.{FunctionBegins, IsCompiled}
-use Rattle.oat_match.specs.Matching.{CellsStartAlike, StartsAreMatched, words_held}
-use Rattle.oat_match.proofs.Placing.{block_begins, function_at}
-use Rattle.oat_match.proofs.Words.{FirstWord, IsFirst, first_word_at}
+use Rattle.oat_globals.specs.{code_base, global_address, word_in, Program, Func, BlockIr, Role, Main, Ty, I64, Fn, IsFunc, IsRole, start_memory, cell_values, cell_words, first_values, size_in_words}
+use Rattle.oat_globals.specs.{word_values, IsConsistent, CellWordsAreThere, CellsAreWords, IsChecked, main_number, source_start, operation_number, IsFunctionAt, prologue_end, CodeStands, prologue}
+use Rattle.oat_globals.specs.{StepsTo, GlobalsAt, Represents, World, main_frame, started, Operations.role_words}
+use Rattle.oat_match.specs.{Compiled.FunctionBegins, Compiled.IsCompiled, Matching.CellsStartAlike, Matching.StartsAreMatched, Matching.words_held}
+use Rattle.oat_match.proofs.{Placing.block_begins, Placing.function_at, Words.FirstWord, Words.IsFirst, Words.first_word_at}
 
 -- ---- words
 

@@ -1,39 +1,20 @@
 -- Each source step of a compiled program is matched: one row for each line.
 use Rattle.std.proofs.Common.{◌≡◌, ◌<◌, ◌≤◌, ℕ, cond, length, ◌&&◌, inl, inr, Option, Some, None, is_some, sym, ap, subst, ◌∙◌, arith}
 use Rattle.std.specs.Prelude.{slice_get}
-use Rattle.std.proofs.lemmas.Bool.{cases_lt}
-use Rattle.oat_ir.specs.declared.program.Program.{Program}
-use Rattle.oat_ir.specs.declared.func.Ty.TheVariants.{Fn}
-use Rattle.oat_ir.specs.declared.instr.Instr.{Instr}
-use Rattle.oat_ir.specs.declared.instr.Instr.TheVariants.{Binary, Call, Const, Copy, ICall, Input, Load, LoadX, Output, RefTo, Store, StoreX}
-use Rattle.oat_ir.specs.declared.instr.Term.{Term}
-use Rattle.oat_ir.specs.declared.instr.Term.TheVariants.{Branch, Halt, Jump, Ret}
-use Rattle.oat_ir.specs.Indices.{IsInstr, IsTerm}
-use Rattle.oat_ir.specs.WellFormed.{IsBlockIr}
-use Rattle.oat_events.specs.Source.{Finish}
-use Rattle.oat_journal.specs.Run.{Running}
-use Rattle.oat_check.specs.Keeping.{IsConsistent}
-use Rattle.oat_check.specs.Lines.{CodeLine, instruction, terminator}
-use Rattle.oat_check.specs.RuleLaws.{IsAllowed}
-use Rattle.oat_check.specs.RunLaws.{ElementsAreNumbered}
-use Rattle.oat_check.specs.Rules.{IsChecked, hold_numbers, holds_number, local_ty, refers_with}
-use Rattle.oat_check.specs.Steps.{SourceState, at_line, closes, current_line, does, silent, source_step}
-use Rattle.oat_check.proofs.Checking.{each_at, func_formed, has_ty, instr_allowed, term_allowed, term_formed}
-use Rattle.oat_check.proofs.Frames.{There, instr_is, line_is, term_is, there}
-use Rattle.std.proofs.lemmas.Bool.{and_parts}
-use Rattle.oat_frames.specs.Frames.{World}
-use Rattle.oat_frames.specs.Lines.{IsLineAt}
+use Rattle.std.proofs.lemmas.Bool.{cases_lt, and_parts}
+use Rattle.oat_ir.specs.declared.instr.Term.TheVariants.{Branch, Jump, Ret}
+use Rattle.oat_check.proofs.{Checking.each_at, Checking.func_formed, Checking.has_ty, Checking.instr_allowed, Checking.term_allowed, Checking.term_formed, Frames.There, Frames.instr_is}
+use Rattle.oat_check.proofs.{Frames.line_is, Frames.term_is, Frames.there}
+use Rattle.oat_globals.specs.{Program, Fn, Instr, Binary, Call, Const, Copy, ICall, Input, Load, LoadX, Output, RefTo, Store, StoreX, Term, Halt, IsInstr, IsTerm, IsBlockIr, Finish, Running}
+use Rattle.oat_globals.specs.{IsConsistent, CodeLine, instruction, terminator, IsAllowed, ElementsAreNumbered, IsChecked, hold_numbers, holds_number, local_ty, refers_with, SourceState, at_line}
+use Rattle.oat_globals.specs.{closes, current_line, does, silent, source_step, World, IsLineAt}
 use Rattle.oat_locals.specs.Terminators.{BlockBegins}
 use Rattle.oat_symbols.specs.Programs.{label_of_block}
-use Rattle.oat_match.specs.Code.{instruction_items, terminator_items}
-use Rattle.oat_match.specs.Compiled.{IsCompiled}
-use Rattle.oat_match.specs.Matching.{GoesAlike, IsAlike, StepIsMatched, StepsAreMatched}
-use Rattle.oat_match.proofs.Calling.{call_matched, icall_matched}
-use Rattle.oat_match.proofs.GlobalLines.{load_matched, loadx_matched, ref_matched, store_matched, storex_matched}
-use Rattle.oat_match.proofs.LocalLines.{binary_matched, branch_matched, const_matched, copy_matched, halt_matched, input_matched, jump_matched, output_matched}
-use Rattle.oat_match.proofs.Placing.{block_begins, lines_are_placed}
-use Rattle.oat_match.proofs.Returning.{return_matched}
-use Rattle.oat_match.proofs.Targets.{referenced_here}
+use Rattle.oat_match.specs.{Code.instruction_items, Code.terminator_items, Compiled.IsCompiled, Matching.GoesAlike, Matching.IsAlike, Matching.StepIsMatched, Matching.StepsAreMatched}
+use Rattle.oat_match.proofs.{Calling.call_matched, Calling.icall_matched, GlobalLines.load_matched, GlobalLines.loadx_matched, GlobalLines.ref_matched, GlobalLines.store_matched}
+use Rattle.oat_match.proofs.{GlobalLines.storex_matched, LocalLines.binary_matched, LocalLines.branch_matched, LocalLines.const_matched, LocalLines.copy_matched, LocalLines.halt_matched}
+use Rattle.oat_match.proofs.{LocalLines.input_matched, LocalLines.jump_matched, LocalLines.output_matched, Placing.block_begins, Placing.lines_are_placed, Returning.return_matched}
+use Rattle.oat_match.proofs.{Targets.referenced_here}
 
 module _ (numbered : ElementsAreNumbered) (p : Program) (ok : IsChecked p) (w : World) (c : IsCompiled p w) (s : SourceState) (m : Running) (going : s.end ≡ None) (r : GoesAlike p w s m) (g : IsConsistent p s) where
   by_instruction : (i : Instr) → slice_get g.stands.block.instrs s.frame.line ≡ Some i → current_line p s.frame ≡ Some (instruction i) → IsInstr p g.stands.func i → IsAllowed p g.stands.func (instruction i)

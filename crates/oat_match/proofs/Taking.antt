@@ -1,27 +1,15 @@
 -- The edges that a source step takes are those of the program's lines.
 use Rattle.std.proofs.Common.{◌≡◌, ◌-◌, ◌≤◌, ℕ, ℤ, Bool, true, false, cond, eqb, leb, ltb, ◌&&◌, ◌++◌, List, [], ◌∷◌, length, inl, inr, Option, Some, None, is_some, refl, sym, subst, ◌∙◌, arith}
 use Rattle.std.specs.Prelude.{slice_get}
-use Rattle.std.proofs.lemmas.Bool.{and_parts, cases_lt, eqb-false}
-use Rattle.std.proofs.lemmas.Option.{slice_get_within}
-use Rattle.oat_map.specs.declared.trap.TrapKind.TheVariants.{Depth, Index, NullCall}
-use Rattle.oat_ir.specs.declared.program.Program.{Program}
-use Rattle.oat_ir.specs.declared.func.Ty.TheVariants.{Fn}
-use Rattle.oat_ir.specs.declared.instr.Instr.{Instr}
-use Rattle.oat_ir.specs.declared.instr.Instr.TheVariants.{Binary, Call, Const, Copy, ICall, Input, Load, LoadX, Output, RefTo, Store, StoreX}
-use Rattle.oat_ir.specs.declared.instr.Term.{Term}
-use Rattle.oat_ir.specs.declared.instr.Term.TheVariants.{Branch, Halt, Jump, Ret}
-use Rattle.oat_events.specs.Events.{enters, leaves, loads, stores, takes}
-use Rattle.oat_check.specs.Globals.{cell_number, length_at}
-use Rattle.oat_check.specs.Keeping.{AreCallers, IsCaller, IsConsistent}
-use Rattle.oat_check.specs.Lines.{CodeLine, instruction, terminator}
-use Rattle.oat_check.specs.Operators.{result_of}
-use Rattle.oat_check.specs.RuleLaws.{IsAllowed}
-use Rattle.oat_check.specs.Rules.{IsChecked, hold_numbers, holds_number, local_ty, refers_with}
-use Rattle.oat_check.specs.Steps.{Frame, LineEdge, Next, SourceState, at_line, branches, calls, closes, computes, current_line, does, entered, gives, goes_to, icalls, line_place, operation_of, reads, returns, runs, shows, silent, takes_in, traps_by, writes}
-use Rattle.oat_check.proofs.Checking.{has_ty, instr_allowed}
-use Rattle.oat_check.proofs.Frames.{There, instr_is, line_is, term_is, there}
-use Rattle.oat_match.specs.Following.{StepsTakeEdges, TakesEdgesOf}
-use Rattle.oat_match.specs.Placed.{IsLineEdge}
+use Rattle.std.proofs.lemmas.{Bool.and_parts, Bool.cases_lt, Bool.eqb-false, Option.slice_get_within}
+use Rattle.oat_ir.specs.declared.instr.Term.TheVariants.{Branch, Jump, Ret}
+use Rattle.oat_check.proofs.{Checking.has_ty, Checking.instr_allowed, Frames.There, Frames.instr_is, Frames.line_is, Frames.term_is, Frames.there}
+use Rattle.oat_globals.specs.{Depth, Index, NullCall, Program, Fn, Instr, Binary, Call, Const, Copy, ICall, Input, Load, LoadX, Output, RefTo, Store, StoreX, Term, Halt, enters, leaves, takes}
+use Rattle.oat_globals.specs.{cell_number, length_at, AreCallers, IsCaller, IsConsistent, CodeLine, instruction, terminator, result_of, IsAllowed, IsChecked, hold_numbers, holds_number, local_ty}
+use Rattle.oat_globals.specs.{refers_with, Frame, LineEdge, Next, SourceState, at_line, branches, calls, closes, computes, current_line, does, entered, gives, goes_to, icalls, line_place}
+use Rattle.oat_globals.specs.{operation_of, reads, returns, runs, shows, silent, takes_in, traps_by, writes}
+use Rattle.oat_locals.specs.{loads, stores}
+use Rattle.oat_match.specs.{Following.StepsTakeEdges, Following.TakesEdgesOf, Placed.IsLineEdge}
 
 module _ (p : Program) where
   entering : (o : Option ℕ) → TakesEdgesOf p (shows o enters)

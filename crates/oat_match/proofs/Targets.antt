@@ -1,23 +1,11 @@
 -- What is known of a function that a reference names, and of the parameters and arguments of a call.
 use Rattle.std.proofs.Common.{◌≡◌, ◌<◌, ◌||◌, ℕ, zero, suc, Bool, true, false, not, List, [], ◌∷◌, length, take, get_or, Some, None, refl, subst, ◌∙◌, arith, eqb-true, eq-eqb}
-use Rattle.std.specs.Prelude.{slice_get}
-use Rattle.std.specs.List.{list_any}
+use Rattle.std.specs.{Prelude.slice_get, List.list_any}
 use Rattle.std.proofs.lemmas.Bool.{and_parts, not-false, or_parts}
-use Rattle.oat_ir.specs.declared.program.Program.{Program}
-use Rattle.oat_ir.specs.declared.func.Func.{Func}
-use Rattle.oat_ir.specs.declared.func.Local.{Local}
-use Rattle.oat_ir.specs.declared.func.Role.{Role}
-use Rattle.oat_ir.specs.declared.func.Role.TheVariants.{Main, Operation, Plain}
-use Rattle.oat_ir.specs.declared.func.Ty.TheVariants.{I64}
-use Rattle.oat_ir.specs.declared.func.BlockIr.{BlockIr}
-use Rattle.oat_ir.specs.declared.instr.Instr.{Instr}
-use Rattle.oat_ir.specs.declared.instr.Instr.TheVariants.{Binary, Call, Const, Copy, ICall, Input, Load, LoadX, Output, RefTo, Store, StoreX}
-use Rattle.oat_check.specs.Keeping.{is_referenced, refers_to}
-use Rattle.oat_check.specs.Lines.{instruction}
-use Rattle.oat_check.specs.RuleLaws.{IsAllowed}
-use Rattle.oat_check.specs.Rules.{IsChecked, are_as, hold_numbers, holds_number, is_func, is_main, is_no_target, is_operation, is_operation_role, local_ty, parameters, refers_amiss, takes_numbers}
-use Rattle.oat_check.specs.Steps.{operation_number}
 use Rattle.oat_check.proofs.Checking.{has_ty, instr_allowed, list_any_at, same_ty}
+use Rattle.oat_globals.specs.{Program, Func, Local, Role, Main, Operation, Plain, I64, BlockIr, Instr, Binary, Call, Const, Copy, ICall, Input, Load, LoadX, Output, RefTo, Store, StoreX}
+use Rattle.oat_globals.specs.{is_referenced, refers_to, instruction, IsAllowed, IsChecked, are_as, hold_numbers, holds_number, is_func, is_main, is_no_target, is_operation, is_operation_role}
+use Rattle.oat_globals.specs.{local_ty, parameters, refers_amiss, takes_numbers, operation_number}
 use Rattle.oat_match.proofs.Finding.{failed}
 
 -- ---- one that passes

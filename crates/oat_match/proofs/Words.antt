@@ -1,22 +1,13 @@
 -- Words of global data at the source's steps: an element is read or written at its word, and a word of the start has its type.
-use Rattle.std.proofs.Common.{◌≡◌, ◌+◌, ◌-◌, ◌^◌, ◌<◌, ◌&&◌, ℕ, Bool, true, false, cond, List, [], ◌∷◌, Option, Some, None, is_some, refl, sym, ap, subst, ◌∙◌, arith, ltb, eqb, eqb-true, lit<, inl, inr}
-use Rattle.std.specs.Prelude.{slice_get, unwrap_or}
-use Rattle.std.specs.List.{sum_by}
+use Rattle.std.proofs.Common.{◌≡◌, ◌+◌, ◌-◌, ◌^◌, ◌<◌, ◌&&◌, ℕ, Bool, true, false, cond, List, [], ◌∷◌, Option, Some, None, is_some, refl, sym, ap, subst, ◌∙◌, arith, ltb, eqb, eqb-true, lit<, inl}
+use Rattle.std.proofs.Common.{inr}
+use Rattle.std.specs.{Prelude.slice_get, Prelude.unwrap_or, List.sum_by}
 use Rattle.std.proofs.Math.Path.{fun_ext}
-use Rattle.std.proofs.lemmas.Bool.{cases_lt, lt-ltb, le-ltb}
-use Rattle.std.proofs.lemmas.List.Sums.{sum_by-cons}
-use Rattle.oat_ir.specs.declared.program.Program.{Program}
-use Rattle.oat_ir.specs.declared.program.GlobalItem.{GlobalItem}
-use Rattle.oat_ir.specs.declared.program.GlobalItem.TheVariants.{Scalar, FnScalar, Array, CriticalArray}
-use Rattle.oat_ir.specs.declared.func.Ty.{Ty}
-use Rattle.oat_ir.specs.declared.func.Ty.TheVariants.{I64, Fn}
-use Rattle.oat_check.specs.Globals.{Values, length_at, of_global, put, size_in_words, start_of, word_number, word_values}
-use Rattle.oat_check.specs.Keeping.{item_ty, word_ty}
-use Rattle.oat_check.specs.RunLaws.{ElementsAreNumbered, IsNumbered}
-use Rattle.oat_check.specs.Steps.{assigned}
+use Rattle.std.proofs.lemmas.{Bool.cases_lt, Bool.lt-ltb, Bool.le-ltb, List.Sums.sum_by-cons}
 use Rattle.oat_check.proofs.Bounds.{number_small}
-use Rattle.oat_match.specs.Code.{first_word_of}
-use Rattle.oat_match.specs.Matching.{words_held}
+use Rattle.oat_globals.specs.{Program, GlobalItem, Scalar, FnScalar, Array, CriticalArray, Ty, I64, Fn, Values, length_at, of_global, put, size_in_words, start_of, word_number, word_values, item_ty}
+use Rattle.oat_globals.specs.{word_ty, ElementsAreNumbered, IsNumbered, assigned}
+use Rattle.oat_match.specs.{Code.first_word_of, Matching.words_held}
 
 -- ---- an element's word
 

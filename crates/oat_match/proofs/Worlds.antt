@@ -1,21 +1,10 @@
 -- A checked program has its world.
 use Rattle.std.proofs.Common.{◌≡◌, ◌+◌, ◌*◌, ◌≤◌, ℕ, false, List, [], Option, Some, None, refl, ap, ◌∙◌, arith}
-use Rattle.std.specs.Prelude.{slice_get, unwrap_or}
-use Rattle.std.specs.Option.{option_map, option_and_then}
-use Rattle.oat_asm.specs.declared.item.Item.{Item}
-use Rattle.oat_ir.specs.declared.program.Program.{Program}
-use Rattle.oat_ir.specs.declared.func.Func.{Func}
-use Rattle.oat_ir.specs.declared.func.BlockIr.{BlockIr}
-use Rattle.oat_ir.specs.declared.func.Ty.{Ty}
-use Rattle.oat_ir.specs.declared.func.Ty.TheVariants.{I64}
-use Rattle.oat_check.specs.RuleLaws.{FuncKeepsRules}
-use Rattle.oat_check.specs.Rules.{IsChecked, local_ty}
+use Rattle.std.specs.{Prelude.slice_get, Prelude.unwrap_or, Option.option_map, Option.option_and_then}
 use Rattle.oat_check.proofs.Checking.{each_at, keeps_rules}
+use Rattle.oat_globals.specs.{Item, Program, Func, BlockIr, Ty, I64, FuncKeepsRules, IsChecked, local_ty, is_leaf, words_before_line}
 use Rattle.oat_symbols.specs.Programs.{label_of_block}
-use Rattle.oat_frames.specs.Leaves.{is_leaf}
-use Rattle.oat_frames.specs.Lines.{words_before_line}
-use Rattle.oat_match.specs.Code.{block_items}
-use Rattle.oat_match.specs.Compiled.{ProgramsHaveWorlds, codes_in, count_of_locals}
+use Rattle.oat_match.specs.{Code.block_items, Compiled.ProgramsHaveWorlds, Compiled.codes_in, Compiled.count_of_locals}
 
 few_locals : (p : Program) → IsChecked p → (f : ℕ) (o : Option Func) → slice_get p.funcs f ≡ o → count_of_locals o ≤ 255
 few_locals p ok f None is = omega arith

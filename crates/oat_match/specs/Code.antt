@@ -1,24 +1,11 @@
 -- The code of each line of a program, with each mark expanded, and of a block: a list of items for each of its lines.
-use Rattle.std.specs.Prelude.{ℕ, Bool, List, [], ◌∷◌, ◌++◌, length, map, take, Option, Some, None}
-use Rattle.std.specs.List.{sum_by}
-use Rattle.oat_asm.specs.declared.item.Item.{Item}
-use Rattle.oat_ir.specs.declared.program.Program.{Program}
-use Rattle.oat_ir.specs.declared.func.Func.{Func}
-use Rattle.oat_ir.specs.declared.func.BlockIr.{BlockIr}
-use Rattle.oat_ir.specs.declared.instr.Instr.{Instr}
-use Rattle.oat_ir.specs.declared.instr.Instr.TheVariants.{Const, Copy, Binary, Load, Store, LoadX, StoreX, RefTo, Call, ICall, Input, Output}
-use Rattle.oat_ir.specs.declared.instr.Term.{Term}
-use Rattle.oat_ir.specs.declared.instr.Term.TheVariants.{Jump, Branch, Ret, Halt}
-use Rattle.oat_check.specs.Globals.{size_in_words, length_at, cell_number}
-use Rattle.oat_check.specs.Lines.{CodeLine, instruction, terminator}
-use Rattle.oat_check.specs.Steps.{operation_number}
-use Rattle.oat_symbols.specs.Programs.{label_of_block}
-use Rattle.oat_frames.specs.Code.{call_code, icall_code}
-use Rattle.oat_frames.specs.Frames.{home_of}
-use Rattle.oat_frames.specs.Leaves.{is_leaf}
+use Rattle.std.specs.{Prelude.ℕ, Prelude.Bool, Prelude.List, Prelude.[], Prelude.◌∷◌, Prelude.◌++◌, Prelude.length, Prelude.map, Prelude.take, Prelude.Option, Prelude.Some, Prelude.None, List.sum_by}
+use Rattle.oat_ir.specs.declared.instr.Term.TheVariants.{Jump, Branch, Ret}
+use Rattle.oat_globals.specs.{Item, Program, Func, BlockIr, Instr, Const, Copy, Binary, Load, Store, LoadX, StoreX, RefTo, Call, ICall, Input, Output, Term, Halt, size_in_words, length_at}
+use Rattle.oat_globals.specs.{cell_number, CodeLine, instruction, terminator, operation_number, call_code, icall_code, home_of, is_leaf, Code.define_at_code, Code.define_code, Code.load_code}
+use Rattle.oat_globals.specs.{Code.loadx_code, Code.ref_code, Code.store_code, Code.storex_code, Code.use_at_code, Code.use_code, Operations.leave_code}
 use Rattle.oat_locals.specs.Code.{binary_code, branch_code, const_code, copy_code, halt_code, input_code, jump_code, output_code}
-use Rattle.oat_globals.specs.Code.{define_at_code, define_code, load_code, loadx_code, ref_code, store_code, storex_code, use_at_code, use_code}
-use Rattle.oat_globals.specs.Operations.{leave_code}
+use Rattle.oat_symbols.specs.Programs.{label_of_block}
 
 -- the number of the first word of a global
 abbrev pub first_word_of : Program → ℕ → ℕ

@@ -1,33 +1,10 @@
 -- What the image of a program has that was compiled: all that the laws of its lines ask for.
-use Rattle.std.specs.Prelude.{◌≡◌, ◌+◌, ◌*◌, ◌^◌, ◌<◌, ◌≤◌, ℕ, true, false, List, [], length, slice_get, Option, Some, None}
-use Rattle.std.specs.Option.{option_map, option_and_then, unwrap_or}
-use Rattle.std.specs.List.{sum_by, list_any}
-use Rattle.oat_a64.specs.Step.{code_base}
-use Rattle.oat_mem.specs.DataMemory.{word_in, global_address}
-use Rattle.oat_image.specs.declared.image.Image.{Image}
-use Rattle.oat_map.specs.Rows.{is_called_at}
-use Rattle.oat_asm.specs.declared.item.Item.{Item}
-use Rattle.oat_shape.specs.Shape.{IsShaped}
-use Rattle.oat_journal.specs.Run.{start_memory}
-use Rattle.oat_ir.specs.declared.program.Program.{Program}
-use Rattle.oat_ir.specs.declared.func.Func.{Func}
-use Rattle.oat_ir.specs.declared.func.BlockIr.{BlockIr}
-use Rattle.oat_ir.specs.declared.func.Ty.{Ty}
-use Rattle.oat_ir.specs.declared.func.Ty.TheVariants.{I64}
-use Rattle.oat_ir.specs.declared.instr.Instr.TheVariants.{Call, ICall}
-use Rattle.oat_check.specs.Globals.{size_in_words, cell_words, first_values, word_values}
-use Rattle.oat_check.specs.Keeping.{is_referenced, may_name, word_ty}
-use Rattle.oat_check.specs.Lines.{CodeLine, instruction, line_in}
-use Rattle.oat_check.specs.Rules.{IsChecked, local_ty}
-use Rattle.oat_check.specs.Runs.{main_number}
-use Rattle.oat_check.specs.Steps.{Frame, current_line, operation_number}
+use Rattle.std.specs.{Prelude.◌≡◌, Prelude.◌+◌, Prelude.◌*◌, Prelude.◌^◌, Prelude.◌<◌, Prelude.◌≤◌, Prelude.ℕ, Prelude.true, Prelude.false, Prelude.List, Prelude.[], Prelude.length, Prelude.slice_get}
+use Rattle.std.specs.{Prelude.Option, Prelude.Some, Prelude.None, Option.option_map, Option.option_and_then, Option.unwrap_or, List.sum_by, List.list_any}
+use Rattle.oat_globals.specs.{code_base, word_in, global_address, Image, is_called_at, Item, IsShaped, start_memory, Program, Func, BlockIr, Ty, I64, Call, ICall, size_in_words, cell_words}
+use Rattle.oat_globals.specs.{first_values, word_values, is_referenced, may_name, word_ty, CodeLine, instruction, line_in, IsChecked, local_ty, main_number, Frame, current_line, operation_number}
+use Rattle.oat_globals.specs.{World, IsWorld, IsLow, is_leaf, CodeStands, prologue_end, IsBlockAt, IsLineAt, words_before_line, Operations.start_code, Operations.role_words}
 use Rattle.oat_symbols.specs.Programs.{label_of_block}
-use Rattle.oat_frames.specs.Frames.{World, IsWorld, IsLow}
-use Rattle.oat_frames.specs.Leaves.{is_leaf}
-use Rattle.oat_frames.specs.Code.{CodeStands}
-use Rattle.oat_frames.specs.Calls.{prologue_end}
-use Rattle.oat_frames.specs.Lines.{IsBlockAt, IsLineAt, words_before_line}
-use Rattle.oat_globals.specs.Operations.{start_code, role_words}
 use Rattle.oat_match.specs.Code.{block_items, line_items}
 
 -- ---- data of a program in its world

@@ -1,12 +1,7 @@
 -- An indirect call with 256 callers traps.
 use Rattle.std.specs.Prelude.{◌≡◌, ◌<◌, ℕ, List, length}
-use Rattle.oat_map.specs.declared.trap.TrapKind.TheVariants.{Depth}
-use Rattle.oat_journal.specs.declared.end.DeviceEnd.TheVariants as ends
-use Rattle.oat_journal.specs.Run.{Running}
-use Rattle.oat_check.specs.Steps.{Frame}
-use Rattle.oat_frames.specs.Frames.{World, IsWorld, IsAt}
-use Rattle.oat_frames.specs.Comes.{EndsWithin}
-use Rattle.oat_frames.specs.Calls.{IsIndirectCallAt}
+use Rattle.oat_globals.specs.{Depth, Running, Frame, World, IsWorld, IsAt, EndsWithin, IsIndirectCallAt}
+use Rattle.oat_globals.specs.ends as ends
 
 -- the reference is tested first, and isn't null
 abbrev pub DeepIndirectCallsTrap : Type 0

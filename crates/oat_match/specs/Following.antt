@@ -1,22 +1,8 @@
 -- The image of a compiled program runs as its source: it ends as the source ends, in both directions and within the bound, and each window shows its call.
-use Rattle.std.specs.Prelude.{◌≡◌, ℕ, ℤ, FitsSigned, List, [], ◌∷◌}
-use Rattle.std.specs.Int.{w64}
-use Rattle.std.specs.List.{AllByRecursion}
-use Rattle.oat_ir.specs.declared.program.Program.{Program}
-use Rattle.oat_events.specs.Events.{SourceEvent, takes}
-use Rattle.oat_measure.specs.declared.opening.Opening.{Opening}
-use Rattle.oat_check.specs.Keeping.{IsConsistent}
-use Rattle.oat_check.specs.Rules.{IsChecked}
-use Rattle.oat_check.specs.Runs.{source_of}
-use Rattle.oat_check.specs.Steps.{LineEdge, SourceState, source_step}
-use Rattle.oat_map.specs.Turns.{GoesBack, turn_of}
-use Rattle.oat_blob.specs.Body.{Body}
-use Rattle.oat_journal.specs.Measured.{HasBody, dev, window_of}
-use Rattle.oat_journal.specs.Window.{executed_path}
-use Rattle.oat_follow.specs.Following.{Means, RunsAs}
-use Rattle.oat_frames.specs.Frames.{World}
-use Rattle.oat_match.specs.Compiled.{IsCompiled}
-use Rattle.oat_match.specs.Placed.{EdgesAreNamed, IsLineEdge, placement}
+use Rattle.std.specs.{Prelude.◌≡◌, Prelude.ℕ, Prelude.ℤ, Prelude.FitsSigned, Prelude.List, Prelude.[], Prelude.◌∷◌, Int.w64, List.AllByRecursion}
+use Rattle.oat_globals.specs.{Program, SourceEvent, takes, Opening, IsConsistent, IsChecked, source_of, LineEdge, SourceState, source_step, GoesBack, turn_of, Body, HasBody, dev, window_of}
+use Rattle.oat_globals.specs.{executed_path, Means, RunsAs, World}
+use Rattle.oat_match.specs.{Compiled.IsCompiled, Placed.EdgesAreNamed, Placed.IsLineEdge, Placed.placement}
 
 -- ---- the edges that a step takes are the program's
 

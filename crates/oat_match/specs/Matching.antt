@@ -1,23 +1,9 @@
 -- A compiled program's run and its source: how a moment of the one stands to a state of the other, and that each source step is matched by some instructions.
-use Rattle.std.specs.Prelude.{◌≡◌, ◌≤◌, ℕ, ℤ, FitsSigned, List, [], map, Option, Some, None, unwrap_or}
-use Rattle.std.specs.Int.{w64}
-use Rattle.std.specs.List.{AllByRecursion}
-use Rattle.oat_ir.specs.declared.program.Program.{Program}
-use Rattle.oat_events.specs.Source.{Finish}
-use Rattle.oat_journal.specs.Measured.{start_cells}
-use Rattle.oat_journal.specs.Run.{Running, started}
-use Rattle.oat_check.specs.Active.{first_cells}
-use Rattle.oat_check.specs.Globals.{Values, word_values}
-use Rattle.oat_check.specs.Keeping.{IsConsistent}
-use Rattle.oat_check.specs.Rules.{IsChecked}
-use Rattle.oat_check.specs.Runs.{source_start}
-use Rattle.oat_check.specs.Steps.{Next, SourceState, source_step}
-use Rattle.oat_follow.specs.Placement.{seen_at}
-use Rattle.oat_follow.specs.Reaching.{RunsTo}
-use Rattle.oat_follow.specs.Steps.{device_end, step_limit}
-use Rattle.oat_frames.specs.Frames.{World, IsAt}
-use Rattle.oat_match.specs.Compiled.{IsCompiled}
-use Rattle.oat_match.specs.Placed.{placement}
+use Rattle.std.specs.{Prelude.◌≡◌, Prelude.◌≤◌, Prelude.ℕ, Prelude.ℤ, Prelude.FitsSigned, Prelude.List, Prelude.[], Prelude.map, Prelude.Option, Prelude.Some, Prelude.None, Prelude.unwrap_or, Int.w64}
+use Rattle.std.specs.{List.AllByRecursion}
+use Rattle.oat_globals.specs.{Program, Finish, start_cells, Running, started, first_cells, Values, word_values, IsConsistent, IsChecked, source_start, Next, SourceState, source_step, seen_at, RunsTo}
+use Rattle.oat_globals.specs.{device_end, step_limit, World, IsAt}
+use Rattle.oat_match.specs.{Compiled.IsCompiled, Placed.placement}
 
 -- what each word of global data holds
 abbrev pub words_held : Program → Values → (ℕ → ℕ)

@@ -1,22 +1,11 @@
 -- Where the edges and operations of a program lie in its image, and the names of these edges.
-use Rattle.std.specs.Prelude.{◌≡◌, ◌+◌, ◌*◌, ◌<◌, ℕ, true, if◌then◌else◌, List, [], length, Option, Some}
-use Rattle.std.specs.List.{position_or_len}
-use Rattle.oat_map.specs.declared.edge.Edge.{Edge}
-use Rattle.oat_map.specs.declared.edge.Edge.TheVariants as edges
-use Rattle.oat_map.specs.EdgeName.{name_of}
-use Rattle.oat_ir.specs.declared.program.Program.{Program}
-use Rattle.oat_ir.specs.declared.instr.Instr.{Instr}
-use Rattle.oat_ir.specs.declared.instr.Instr.TheVariants.{Call, ICall}
+use Rattle.std.specs.{Prelude.◌≡◌, Prelude.◌+◌, Prelude.◌*◌, Prelude.◌<◌, Prelude.ℕ, Prelude.true, Prelude.if◌then◌else◌, Prelude.List, Prelude.[], Prelude.length, Prelude.Option, Prelude.Some}
+use Rattle.std.specs.{List.position_or_len}
 use Rattle.oat_ir.specs.declared.instr.Term.TheVariants.{Jump, Branch, Ret}
-use Rattle.oat_check.specs.Lines.{CodeLine, instruction, terminator, is_calling}
-use Rattle.oat_check.specs.Naming.{line_edge_name}
-use Rattle.oat_check.specs.Rules.{is_operation_of}
-use Rattle.oat_check.specs.Steps.{Frame, LineEdge, LinePlace, jumps, branches, calls, icalls, returns, finishes, current_line, operation_of}
-use Rattle.oat_follow.specs.Placement.{Placement}
+use Rattle.oat_globals.specs.{Edge, name_of, Program, Instr, Call, ICall, CodeLine, instruction, terminator, is_calling, line_edge_name, is_operation_of, Frame, LineEdge, LinePlace, jumps, branches}
+use Rattle.oat_globals.specs.{calls, icalls, returns, finishes, current_line, operation_of, Placement, World, return_address, prologue_end, Operations.role_words}
 use Rattle.oat_symbols.specs.Programs.{label_of_block}
-use Rattle.oat_frames.specs.Frames.{World, return_address}
-use Rattle.oat_frames.specs.Calls.{prologue_end}
-use Rattle.oat_globals.specs.Operations.{role_words}
+use Rattle.oat_globals.specs.edges as edges
 
 -- a line of a program, and its address
 abbrev pub frame_at : LinePlace → Frame

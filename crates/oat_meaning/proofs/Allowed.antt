@@ -1,36 +1,16 @@
 -- What the lines of a checked program let the interpreter rely on, in a consistent state.
 use Rattle.std.proofs.Common.{◌≡◌, ◌+◌, ◌-◌, ◌<◌, ◌≤◌, ◌^◌, ◌&&◌, ℕ, true, false, List, [], ◌∷◌, length, get_or, map, take, Some, refl, sym, ap, subst, ◌∙◌, inl, inr, arith}
-use Rattle.std.specs.Prelude.{count_by, slice_get}
-use Rattle.std.specs.Option.{option_and_then, option_map, unwrap_or}
-use Rattle.std.specs.List.{AllByRecursion}
-use Rattle.std.proofs.lemmas.Bool.{and_parts}
-use Rattle.std.proofs.lemmas.List.{length-take-le}
-use Rattle.std.proofs.lemmas.List.Sums.{count_by-le-length, count_by_more_no, count_by_more_yes}
-use Rattle.std.proofs.lemmas.Option.{get_or_from_slice_get, slice_get_read, slice_get_within}
-use Rattle.oat_ir.specs.declared.program.Program.{Program}
-use Rattle.oat_ir.specs.declared.program.GlobalItem.{GlobalItem}
-use Rattle.oat_ir.specs.declared.program.GlobalItem.TheVariants.{Scalar, FnScalar, Array, CriticalArray}
-use Rattle.oat_ir.specs.declared.func.BlockIr.{BlockIr}
-use Rattle.oat_ir.specs.declared.func.Func.{Func}
-use Rattle.oat_ir.specs.declared.func.Ty.TheVariants.{Fn}
-use Rattle.oat_ir.specs.declared.instr.Instr.{Instr}
-use Rattle.oat_ir.specs.declared.instr.Instr.TheVariants.{Const, Copy, Binary, Load, Store, LoadX, StoreX, RefTo, Call, ICall, Input, Output}
-use Rattle.oat_ir.specs.Indices.{IsInstr}
-use Rattle.oat_ir.specs.WellFormed.{IsBlockIr, IsGlobal}
-use Rattle.oat_check.specs.Globals.{length_at, of_global, size_in_words}
-use Rattle.oat_check.specs.Keeping.{AreCallers, IsCaller, IsFrame, IsValue}
-use Rattle.oat_check.specs.Lines.{instruction, is_calling, line_in, terminator}
-use Rattle.oat_check.specs.Naming.{instrs_of, source_site}
-use Rattle.oat_check.specs.Places.{HasBlocks, HasLines}
-use Rattle.oat_check.specs.RuleLaws.{FuncKeepsRules}
-use Rattle.oat_check.specs.Rules.{IsChecked, hold_numbers, holds_number, local_ty, refers_with}
-use Rattle.oat_check.specs.Steps.{current_line, result_at}
-use Rattle.oat_check.proofs.Checking.{each_at, func_formed, has_ty, instr_allowed, keeps_rules}
-use Rattle.oat_check.proofs.Frames.{instr_is, line_is, term_is, there}
-use Rattle.oat_check.proofs.Numbers.{has_funcs}
-use Rattle.oat_meaning.specs.declared.activation.Activation.{Activation}
-use Rattle.oat_meaning.specs.Activations.{CountsCalls, current_block, frame_of, locals_of}
-use Rattle.oat_meaning.specs.Standing.{Allows, CanResume, CanSet, GoesPast, HasElement}
+use Rattle.std.specs.{Prelude.count_by, Prelude.slice_get, Option.option_and_then, Option.option_map, Option.unwrap_or, List.AllByRecursion}
+use Rattle.std.proofs.lemmas.{Bool.and_parts, List.length-take-le, List.Sums.count_by-le-length, List.Sums.count_by_more_no, List.Sums.count_by_more_yes, Option.get_or_from_slice_get}
+use Rattle.std.proofs.lemmas.{Option.slice_get_read, Option.slice_get_within}
+use Rattle.oat_check.specs.{Program, GlobalItem, Scalar, FnScalar, Array, CriticalArray, BlockIr, Func, Fn, Instr, Const, Copy, Binary, Load, Store, LoadX, StoreX, RefTo, Call, ICall, Input, Output}
+use Rattle.oat_check.specs.{IsInstr, IsBlockIr, IsGlobal, Globals.length_at, Globals.of_global, Globals.size_in_words, Keeping.AreCallers, Keeping.IsCaller, Keeping.IsFrame, Keeping.IsValue}
+use Rattle.oat_check.specs.{Lines.instruction, Lines.is_calling, Lines.line_in, Lines.terminator, Naming.instrs_of, Naming.source_site, Places.HasBlocks, Places.HasLines, RuleLaws.FuncKeepsRules}
+use Rattle.oat_check.specs.{Rules.IsChecked, Rules.hold_numbers, Rules.holds_number, Rules.local_ty, Rules.refers_with, Steps.current_line, Steps.result_at}
+use Rattle.oat_check.proofs.{Checking.each_at, Checking.func_formed, Checking.has_ty, Checking.instr_allowed, Checking.keeps_rules, Frames.instr_is, Frames.line_is, Frames.term_is, Frames.there}
+use Rattle.oat_check.proofs.{Numbers.has_funcs}
+use Rattle.oat_meaning.specs.{declared.activation.Activation.Activation, Activations.CountsCalls, Activations.current_block, Activations.frame_of, Activations.locals_of, Standing.Allows}
+use Rattle.oat_meaning.specs.{Standing.CanResume, Standing.CanSet, Standing.GoesPast, Standing.HasElement}
 
 -- ---- globals
 

@@ -1,14 +1,11 @@
 -- Items of calls, those of one call behind those of the other, and the part of them that is of one call.
-use Rattle.std.proofs.Common.{◌≡◌, ◌+◌, ◌<◌, ◌≤◌, ◌⊎◌, ◌-◌, ℕ, zero, suc, List, [], ◌∷◌, ◌++◌, length, get_or, take, drop, Option, Some, None, refl, sym, ap, subst, ◌∙◌, inl, inr, arith, append_assoc, append-nil, drop-cons}
-use Rattle.std.specs.Prelude.{slice_get}
-use Rattle.std.specs.List.{flat_map, slice_range}
+use Rattle.std.proofs.Common.{◌≡◌, ◌+◌, ◌<◌, ◌≤◌, ◌⊎◌, ◌-◌, ℕ, zero, suc, List, [], ◌∷◌, ◌++◌, length, get_or, take, drop, Option, Some, None, refl, sym, ap, subst, ◌∙◌, inl, inr, arith, append_assoc}
+use Rattle.std.proofs.Common.{append-nil, drop-cons}
+use Rattle.std.specs.{Prelude.slice_get, List.flat_map, List.slice_range}
 use Rattle.std.proofs.Math.Seq.{drop-append_seam, get_or-append_seam, take-append_seam, take-length}
-use Rattle.std.proofs.lemmas.Bool.{cases_lt}
-use Rattle.std.proofs.lemmas.List.{get_or_append_left, length-append, take-append-drop, take-append-le, take_more}
-use Rattle.std.proofs.lemmas.Grind.{flat_map-append}
-use Rattle.std.proofs.lemmas.Option.{get_or_from_slice_get, slice_get_within}
-use Rattle.oat_events.specs.Events.{SourceEvent}
-use Rattle.oat_check.specs.Steps.{LineEdge}
+use Rattle.std.proofs.lemmas.{Bool.cases_lt, List.get_or_append_left, List.length-append, List.take-append-drop, List.take-append-le, List.take_more, Grind.flat_map-append}
+use Rattle.std.proofs.lemmas.{Option.get_or_from_slice_get, Option.slice_get_within}
+use Rattle.oat_check.specs.{SourceEvent, Steps.LineEdge}
 use Rattle.oat_meaning.specs.Recording.{calls_end}
 
 abbrev pub Events : Type 0

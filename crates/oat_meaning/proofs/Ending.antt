@@ -1,7 +1,6 @@
 -- Where paths end among edges that lie one behind the other.
 use Rattle.std.proofs.Common.{◌≡◌, ◌+◌, ℕ, Bool, true, false, cond, List, [], ◌∷◌, ◌++◌, length, ap, ◌∙◌, arith, append-nil}
-use Rattle.oat_ir.specs.declared.source.SourceEdge.{SourceEdge}
-use Rattle.oat_ir.specs.declared.source.SourceEdge.TheVariants.{End}
+use Rattle.oat_check.specs.{SourceEdge, End}
 use Rattle.oat_meaning.specs.Recording.{ends_behind, ends_path}
 
 ends_append : (n : ℕ) (xs ys : List SourceEdge) → ends_behind n (xs ++ ys) ≡ ends_behind n xs ++ ends_behind (n + length xs) ys

@@ -1,8 +1,6 @@
 -- The number of the main function, where the functions are looked at one by one.
 use Rattle.std.proofs.Common.{◌≡◌, ◌+◌, ◌<◌, ℕ, suc, Bool, true, false, cond, List, ◌∷◌, length, get_or, drop, sym, ap, ◌∙◌, arith, drop-cons}
-use Rattle.oat_ir.specs.declared.func.Func.{Func}
-use Rattle.oat_check.specs.Rules.{is_main}
-use Rattle.oat_check.specs.Runs.{main_number}
+use Rattle.oat_check.specs.{Func, Rules.is_main, Runs.main_number}
 
 from_here : (funcs : List Func) (k : ℕ) (f : Func) (b : Bool) → k < length funcs → f ≡ get_or funcs k f → is_main f ≡ b → main_number (drop k funcs) ≡ cond b 0 (suc (main_number (drop (suc k) funcs)))
 from_here funcs k f b low is main =

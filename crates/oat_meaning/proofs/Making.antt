@@ -1,30 +1,17 @@
 -- From one step of a run to the next, and to its last one.
 use Rattle.std.proofs.Common.{◌≡◌, ◌+◌, ◌-◌, ◌<◌, ◌≤◌, ◌⊎◌, ℕ, ℤ, true, List, [], ◌++◌, map, replicate, Option, Some, None, refl, sym, ap, subst, ◌∙◌, inl, inr, arith, append-nil}
-use Rattle.std.specs.Prelude.{is_some}
-use Rattle.std.specs.List.{AllByRecursion}
+use Rattle.std.specs.{Prelude.is_some, List.AllByRecursion}
 use Rattle.std.proofs.Math.Path.{fun_ext}
 use Rattle.std.proofs.lemmas.List.Sums.{fold-append}
-use Rattle.oat_ir.specs.declared.program.Program.{Program}
-use Rattle.oat_ir.specs.declared.source.SourceEnd.{SourceEnd}
-use Rattle.oat_ir.specs.declared.source.SourceEnd.TheVariants as ends
-use Rattle.oat_events.specs.Events.{SourceEvent}
-use Rattle.oat_events.specs.Source.{Finish, SourceMachine}
 use Rattle.oat_events.proofs.SourceLaws.{shown_from_more, state_after_more}
-use Rattle.oat_check.specs.Runs.{main_number, source_events, source_of, source_run, source_start}
-use Rattle.oat_check.specs.Shown.{written_end}
-use Rattle.oat_check.specs.Steps.{LineEdge, SourceState, source_step}
-use Rattle.oat_check.specs.Globals.{first_values}
-use Rattle.oat_check.specs.Rules.{IsChecked}
+use Rattle.oat_check.specs.{Program, SourceEnd, SourceEvent, Finish, SourceMachine, Runs.main_number, Runs.source_events, Runs.source_of, Runs.source_run, Runs.source_start, Shown.written_end}
+use Rattle.oat_check.specs.{Steps.LineEdge, Steps.SourceState, Steps.source_step, Globals.first_values, Rules.IsChecked, Keeping.IsConsistent}
 use Rattle.oat_check.proofs.Sourcing.{ended_runs_stay, runs_are_consistent}
-use Rattle.oat_check.specs.Keeping.{IsConsistent}
-use Rattle.oat_meaning.specs.declared.interpreter.Interpreter.{Interpreter}
-use Rattle.oat_meaning.specs.Made.{HasReached}
-use Rattle.oat_meaning.specs.Activations.{CountsCalls, frame_of}
-use Rattle.oat_meaning.specs.Globals.{values_of}
-use Rattle.oat_meaning.specs.Recording.{RoomyRecord, nothing_recorded, event_added, events_added}
-use Rattle.oat_meaning.specs.SourceRun.{SourceRun, end_so_far, events_so_far, first_run}
-use Rattle.oat_meaning.specs.Standing.{HasStepped, finish_of, source_state_of}
+use Rattle.oat_meaning.specs.{declared.interpreter.Interpreter.Interpreter, Made.HasReached, Activations.CountsCalls, Activations.frame_of, Globals.values_of, Recording.RoomyRecord}
+use Rattle.oat_meaning.specs.{Recording.nothing_recorded, Recording.event_added, Recording.events_added, SourceRun.SourceRun, SourceRun.end_so_far, SourceRun.events_so_far, SourceRun.first_run}
+use Rattle.oat_meaning.specs.{Standing.HasStepped, Standing.finish_of, Standing.source_state_of}
 use Rattle.oat_meaning.proofs.Passing.{all_alike}
+use Rattle.oat_ir.specs.declared.source.SourceEnd.TheVariants as ends
 
 pub stands_consistent : (m : Interpreter) (run : SourceRun) → HasReached m run → IsConsistent m.program.now (source_state_of m)
 stands_consistent m run s =

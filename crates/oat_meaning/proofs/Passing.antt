@@ -1,8 +1,8 @@
 -- The locals of a function that is called.
 use Rattle.std.proofs.Common.{◌≡◌, ◌+◌, ◌<◌, ◌⊎◌, ℕ, List, [], ◌∷◌, ◌++◌, length, get_or, set, map, take, replicate, sym, ap, ◌∙◌, inl, inr, arith, get_or-set_same, get_or-set_other}
 use Rattle.std.proofs.Math.Seq.{get_or-append_seam}
-use Rattle.std.proofs.lemmas.Bool.{cases_lt, cases_order}
-use Rattle.std.proofs.lemmas.List.{get_or-replicate, get_or_append_left, get_or_past, length-append, length-map, length-replicate, length-take-le, map_more}
+use Rattle.std.proofs.lemmas.{Bool.cases_lt, Bool.cases_order, List.get_or-replicate, List.get_or_append_left, List.get_or_past, List.length-append, List.length-map, List.length-replicate}
+use Rattle.std.proofs.lemmas.{List.length-take-le, List.map_more}
 
 -- a value at each place, read with that value as default
 pub all_alike : (n a i : ℕ) → get_or (replicate n a) i a ≡ a

@@ -1,20 +1,10 @@
 -- What is recorded of a list of events: its outputs, and of the calls of the operation their edges and loads, one call behind the other.
 use Rattle.std.proofs.Common.{◌≡◌, ◌+◌, ℕ, Bool, true, false, cond, eqb, ◌&&◌, ◌||◌, List, [], ◌∷◌, ◌++◌, length, map, Option, Some, None, refl, sym, ap, subst, ◌∙◌, append_assoc, append-nil}
-use Rattle.std.specs.Prelude.{is_some}
-use Rattle.std.specs.List.{cons_option, filter_map, fold}
-use Rattle.std.proofs.lemmas.List.{length-append, map-append}
-use Rattle.std.proofs.lemmas.List.Elements.{filter_map-append}
-use Rattle.oat_ir.specs.declared.program.Program.{Program}
-use Rattle.oat_ir.specs.declared.source.CriticalLoad.{CriticalLoad}
-use Rattle.oat_ir.specs.declared.source.SourceEdge.{SourceEdge}
-use Rattle.oat_ir.specs.declared.source.SourceEdge.TheVariants.{End}
-use Rattle.oat_events.specs.Cuts.{Cut, cut_up, taken_up, takes_up}
-use Rattle.oat_events.specs.Events.{SourceEvent, takes, enters, leaves, loads, stores, outputs, is_entered, is_left}
-use Rattle.oat_events.specs.Source.{edge_taken, load_in, outputs_of}
-use Rattle.oat_check.specs.Naming.{written_edge}
-use Rattle.oat_check.specs.Steps.{LineEdge, finishes}
+use Rattle.std.specs.{Prelude.is_some, List.cons_option, List.filter_map, List.fold}
+use Rattle.std.proofs.lemmas.{List.length-append, List.map-append, List.Elements.filter_map-append}
+use Rattle.oat_check.specs.{Program, CriticalLoad, SourceEdge, End, Cut, cut_up, taken_up, takes_up, SourceEvent, takes, enters, leaves, loads, stores, outputs, is_entered, is_left, edge_taken}
+use Rattle.oat_check.specs.{load_in, outputs_of, Naming.written_edge, Steps.LineEdge, Steps.finishes, Shown.written_load}
 use Rattle.oat_meaning.specs.Recording.{Recorded, completed, nothing_recorded, when_entered, when_left, edge_added, event_added, events_added, load_added}
-use Rattle.oat_check.specs.Shown.{written_load}
 use Rattle.oat_meaning.proofs.CallItems.{Events, FromCalls, from_calls_ended, from_calls_more, from_no_calls, opened}
 
 -- ---- outputs

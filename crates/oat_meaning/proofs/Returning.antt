@@ -1,16 +1,11 @@
 -- A return to the last caller.
 use Rattle.std.proofs.Common.{◌≡◌, ◌+◌, ℕ, List, [], ◌∷◌, ◌++◌, map, Option, Some, None, sym, ap, subst, ◌∙◌, arith}
 use Rattle.std.specs.List.{AllByRecursion}
-use Rattle.oat_ir.specs.declared.program.Program.{Program}
-use Rattle.oat_ir.specs.declared.source.SourceEdge.{SourceEdge}
-use Rattle.oat_events.specs.Events.{leaves, takes}
-use Rattle.oat_check.specs.Naming.{site_of_line, written_edge}
-use Rattle.oat_check.specs.Steps.{Frame, LineEdge, Next, assigned, current_line, gives, line_place, operation_of, result_at, returns, shows}
-use Rattle.oat_meaning.specs.declared.activation.Activation.{Activation}
-use Rattle.oat_meaning.specs.declared.interpreter.Interpreter.{Interpreter}
-use Rattle.oat_meaning.specs.Activations.{CountsCalls, frame_of, locals_of, site_of}
-use Rattle.oat_meaning.specs.Recording.{Recorded, edge_added, events_added, return_added, when_left}
-use Rattle.oat_meaning.specs.Standing.{GoesPast, HasStepped, IsWellKept, source_state_of}
+use Rattle.oat_check.specs.{Program, SourceEdge, leaves, takes, Naming.site_of_line, Naming.written_edge, Steps.Frame, Steps.LineEdge, Steps.Next, Steps.assigned, Steps.current_line, Steps.gives}
+use Rattle.oat_check.specs.{Steps.line_place, Steps.operation_of, Steps.result_at, Steps.returns, Steps.shows}
+use Rattle.oat_meaning.specs.{declared.activation.Activation.Activation, declared.interpreter.Interpreter.Interpreter, Activations.CountsCalls, Activations.frame_of, Activations.locals_of}
+use Rattle.oat_meaning.specs.{Activations.site_of, Recording.Recorded, Recording.edge_added, Recording.events_added, Recording.return_added, Recording.when_left, Standing.GoesPast}
+use Rattle.oat_meaning.specs.{Standing.HasStepped, Standing.IsWellKept, Standing.source_state_of}
 
 return_shown : (p : Program) (r : Recorded) (edge : SourceEdge) (o : Option ℕ) (e : LineEdge) → edge ≡ written_edge p e
     → return_added r edge o ≡ events_added p r (shows o leaves ++ takes e ∷ [])

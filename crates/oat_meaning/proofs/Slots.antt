@@ -1,21 +1,14 @@
 -- The slots of the globals of a program, what they hold, and their cells.
-use Rattle.std.proofs.Common.{◌≡◌, ◌+◌, ◌<◌, ◌≤◌, ◌⊎◌, ℕ, zero, suc, true, false, cond, eqb, ltb, ◌&&◌, List, [], ◌∷◌, ◌++◌, length, get_or, set, map, take, replicate, Option, Some, None, refl, sym, ap, subst, ◌∙◌, inl, inr, arith, get_or-set_same, get_or-set_other, length-set}
-use Rattle.std.specs.Prelude.{IsSome, slice_get}
-use Rattle.std.specs.Option.{is_some}
-use Rattle.std.specs.List.{sum_by}
-use Rattle.std.proofs.Math.Path.{fun_ext}
-use Rattle.std.proofs.Math.Seq.{get_or-append_seam}
-use Rattle.std.proofs.lemmas.Bool.{cases_Bool, cases_lt, eqb-true, eqb-false, false≢true, lt-ltb, le-ltb}
-use Rattle.std.proofs.lemmas.List.{get_or-map, get_or_append_left, length-append, length-map, map-set}
-use Rattle.std.proofs.lemmas.List.Sums.{sum_by_more_le_part}
-use Rattle.std.proofs.lemmas.Option.{get_or_from_slice_get, slice_get-get_or, slice_get_past}
-use Rattle.oat_ir.specs.declared.program.Program.{Program}
-use Rattle.oat_ir.specs.declared.program.GlobalItem.{GlobalItem}
-use Rattle.oat_ir.specs.declared.program.GlobalItem.TheVariants.{Scalar, FnScalar, Array, CriticalArray}
-use Rattle.oat_check.specs.Globals.{Values, element_number, first_values, of_global, put, size_in_cells, size_in_words, start_of}
-use Rattle.oat_meaning.specs.declared.globals.Slot.{Slot}
+use Rattle.std.proofs.Common.{◌≡◌, ◌+◌, ◌<◌, ◌≤◌, ◌⊎◌, ℕ, zero, suc, true, false, cond, eqb, ltb, ◌&&◌, List, [], ◌∷◌, ◌++◌, length, get_or, set, map, take, replicate, Option, Some, None, refl, sym}
+use Rattle.std.proofs.Common.{ap, subst, ◌∙◌, inl, inr, arith, get_or-set_same, get_or-set_other, length-set}
+use Rattle.std.specs.{Prelude.IsSome, Prelude.slice_get, Option.is_some, List.sum_by}
+use Rattle.std.proofs.Math.{Path.fun_ext, Seq.get_or-append_seam}
+use Rattle.std.proofs.lemmas.{Bool.cases_Bool, Bool.cases_lt, Bool.eqb-true, Bool.eqb-false, Bool.false≢true, Bool.lt-ltb, Bool.le-ltb, List.get_or-map, List.get_or_append_left, List.length-append}
+use Rattle.std.proofs.lemmas.{List.length-map, List.map-set, List.Sums.sum_by_more_le_part, Option.get_or_from_slice_get, Option.slice_get-get_or, Option.slice_get_past}
+use Rattle.oat_check.specs.{Program, GlobalItem, Scalar, FnScalar, Array, CriticalArray, Globals.Values, Globals.element_number, Globals.first_values, Globals.of_global, Globals.put}
+use Rattle.oat_check.specs.{Globals.size_in_cells, Globals.size_in_words, Globals.start_of}
+use Rattle.oat_meaning.specs.{declared.globals.Slot.Slot, Globals.AreSlotsOf, Globals.IsSlotOf, Globals.slot_words}
 use Rattle.oat_meaning.proofs.Passing.{all_alike}
-use Rattle.oat_meaning.specs.Globals.{AreSlotsOf, IsSlotOf, slot_words}
 
 -- ---- cells
 

@@ -1,14 +1,9 @@
 -- One step of the interpreter, where its line is found.
 use Rattle.std.proofs.Common.{◌≡◌, false, cond, Some, sym, ap, subst, ◌∙◌}
 use Rattle.std.specs.Option.{is_some}
-use Rattle.oat_ir.specs.declared.program.Program.{Program}
-use Rattle.oat_check.specs.Keeping.{IsFrame}
-use Rattle.oat_check.specs.Lines.{CodeLine, line_in}
-use Rattle.oat_check.specs.Steps.{Next, at_line, current_line, silent, source_step}
+use Rattle.oat_check.specs.{Program, Keeping.IsFrame, Lines.CodeLine, Lines.line_in, Steps.Next, Steps.at_line, Steps.current_line, Steps.silent, Steps.source_step}
 use Rattle.oat_check.proofs.Frames.{line_is}
-use Rattle.oat_meaning.specs.declared.interpreter.Interpreter.{Interpreter}
-use Rattle.oat_meaning.specs.Activations.{frame_of}
-use Rattle.oat_meaning.specs.Standing.{HasStepped, finish_of, source_state_of}
+use Rattle.oat_meaning.specs.{declared.interpreter.Interpreter.Interpreter, Activations.frame_of, Standing.HasStepped, Standing.finish_of, Standing.source_state_of}
 
 pub step_made : (old new : Interpreter) (line : CodeLine) (st : IsFrame old.program.now (frame_of old.running)) → is_some (finish_of old.end) ≡ false → line_in st.block old.running.line ≡ Some line
     → HasStepped old (at_line old.program.now (source_state_of old) (Some line)) new → HasStepped old (source_step old.program.now (source_state_of old)) new

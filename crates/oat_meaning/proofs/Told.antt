@@ -1,22 +1,13 @@
 -- What the record of a run tells of it.
 use Rattle.std.proofs.Common.{◌≡◌, ◌+◌, ◌<◌, ◌≤◌, ◌||◌, ℕ, Bool, true, false, cond, ltb, List, [], ◌∷◌, ◌++◌, length, Some, None, refl, sym, ap, subst, ◌∙◌, inl, inr, arith, append_assoc, append-nil}
-use Rattle.std.specs.Prelude.{is_some, slice_get}
-use Rattle.std.specs.List.{fold, list_any}
-use Rattle.std.proofs.lemmas.Bool.{cases_order, lt-ltb, le-ltb, ltb-true, ltb-false, false≢true}
-use Rattle.std.proofs.lemmas.List.{nil_from_length}
-use Rattle.std.proofs.lemmas.Option.{slice_get_past, slice_get_cases}
-use Rattle.oat_events.specs.Cuts.{Cut, cut_up, takes_up}
-use Rattle.oat_events.specs.Events.{SourceEvent, is_entered, is_left}
-use Rattle.oat_events.specs.Source.{stretch}
-use Rattle.oat_events.specs.Windows.{beyond, through}
-use Rattle.oat_check.specs.Steps.{LineEdge}
+use Rattle.std.specs.{Prelude.is_some, Prelude.slice_get, List.fold, List.list_any}
+use Rattle.std.proofs.lemmas.{Bool.cases_order, Bool.lt-ltb, Bool.le-ltb, Bool.ltb-true, Bool.ltb-false, Bool.false≢true, List.nil_from_length, Option.slice_get_past, Option.slice_get_cases}
+use Rattle.oat_check.specs.{Cut, cut_up, takes_up, SourceEvent, is_entered, is_left, stretch, beyond, through, Steps.LineEdge}
 use Rattle.oat_check.proofs.Sourcing.{calls_are_counted, calls_are_cut}
-use Rattle.oat_meaning.specs.declared.interpreter.Interpreter.{Interpreter}
-use Rattle.oat_meaning.specs.Made.{HasReached}
-use Rattle.oat_meaning.specs.Recording.{Recorded, calls_end, nothing_recorded}
-use Rattle.oat_meaning.specs.SourceRun.{SourceRun, calls_so_far, completed_so_far, events_so_far, loads_so_far, outputs_so_far, path_so_far}
-use Rattle.oat_meaning.proofs.CallItems.{Events, IsPart, joined, part_of_call, opened}
-use Rattle.oat_meaning.proofs.Recordings.{Holds, edges_append, edges_in, loads_append, loads_in, outputs_recorded, recorded_holds}
+use Rattle.oat_meaning.specs.{declared.interpreter.Interpreter.Interpreter, Made.HasReached, Recording.Recorded, Recording.calls_end, Recording.nothing_recorded, SourceRun.SourceRun}
+use Rattle.oat_meaning.specs.{SourceRun.calls_so_far, SourceRun.completed_so_far, SourceRun.events_so_far, SourceRun.loads_so_far, SourceRun.outputs_so_far, SourceRun.path_so_far}
+use Rattle.oat_meaning.proofs.{CallItems.Events, CallItems.IsPart, CallItems.joined, CallItems.part_of_call, CallItems.opened, Recordings.Holds, Recordings.edges_append, Recordings.edges_in}
+use Rattle.oat_meaning.proofs.{Recordings.loads_append, Recordings.loads_in, Recordings.outputs_recorded, Recordings.recorded_holds}
 
 -- ---- a call that is on its way
 

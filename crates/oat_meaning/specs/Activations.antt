@@ -1,11 +1,6 @@
 -- The frame for which an activation stands.
-use Rattle.std.specs.Prelude.{◌≡◌, ℕ, get_or, slice_get, Option}
-use Rattle.std.specs.Option.{option_and_then}
-use Rattle.oat_ir.specs.declared.func.BlockIr.{BlockIr}
-use Rattle.oat_ir.specs.declared.program.Program.{Program}
-use Rattle.oat_ir.specs.declared.source.SourceSite.{SourceSite}
-use Rattle.oat_check.specs.Naming.{site_of_line, source_site}
-use Rattle.oat_check.specs.Steps.{Frame, line_place}
+use Rattle.std.specs.{Prelude.◌≡◌, Prelude.ℕ, Prelude.get_or, Prelude.slice_get, Prelude.Option, Option.option_and_then}
+use Rattle.oat_check.specs.{BlockIr, Program, SourceSite, Naming.site_of_line, Naming.source_site, Steps.Frame, Steps.line_place}
 use Rattle.oat_meaning.specs.declared.activation.Activation.{Activation}
 
 abbrev pub locals_of : Activation → (ℕ → ℕ)

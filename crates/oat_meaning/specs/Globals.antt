@@ -1,9 +1,6 @@
 -- The words and cells in which the globals of a program are kept.
-use Rattle.std.specs.Prelude.{◌≡◌, ◌<◌, ◌≤◌, ℕ, List, [], length, take, map, get_or}
-use Rattle.std.specs.List.{sum_by}
-use Rattle.oat_ir.specs.declared.program.Program.{Program}
-use Rattle.oat_ir.specs.declared.program.GlobalItem.{GlobalItem}
-use Rattle.oat_check.specs.Globals.{Values, first_values, size_in_cells, size_in_words}
+use Rattle.std.specs.{Prelude.◌≡◌, Prelude.◌<◌, Prelude.◌≤◌, Prelude.ℕ, Prelude.List, Prelude.[], Prelude.length, Prelude.take, Prelude.map, Prelude.get_or, List.sum_by}
+use Rattle.oat_check.specs.{Program, GlobalItem, Globals.Values, Globals.first_values, Globals.size_in_cells, Globals.size_in_words}
 use Rattle.oat_meaning.specs.declared.globals.Slot.{Slot}
 
 -- the words of each global of a program

@@ -1,11 +1,8 @@
 -- The run for which an interpreter stands on its way.
 use Rattle.std.specs.Prelude.{◌≡◌, ◌+◌, ◌≤◌}
-use Rattle.oat_check.specs.Rules.{IsChecked}
-use Rattle.oat_check.specs.Runs.{source_run}
-use Rattle.oat_meaning.specs.declared.interpreter.Interpreter.{Interpreter}
-use Rattle.oat_meaning.specs.Recording.{nothing_recorded, events_added}
-use Rattle.oat_meaning.specs.SourceRun.{SourceRun, events_so_far}
-use Rattle.oat_meaning.specs.Standing.{IsWellKept, source_state_of}
+use Rattle.oat_check.specs.{Rules.IsChecked, Runs.source_run}
+use Rattle.oat_meaning.specs.{declared.interpreter.Interpreter.Interpreter, Recording.nothing_recorded, Recording.events_added, SourceRun.SourceRun, SourceRun.events_so_far, Standing.IsWellKept}
+use Rattle.oat_meaning.specs.{Standing.source_state_of}
 
 -- It is in the state behind the steps that were made, has recorded what they show, and has room for the other ones.
 pub record HasReached (m : Interpreter) (run : SourceRun) : Type 0 where

@@ -1,14 +1,7 @@
 -- What is kept of the events of a run: its outputs, and of the calls of one operation the edges and the loads.
-use Rattle.std.specs.Prelude.{◌+◌, ◌*◌, ◌≤◌, ℕ, ℤ, Bool, true, false, ◌&&◌, ◌||◌, nat_eq, if◌then◌else◌, List, [], ◌∷◌, ◌++◌, length, get_or, Option, Some, None}
-use Rattle.std.specs.List.{fold}
-use Rattle.oat_bits.specs.Words.{signed}
-use Rattle.oat_ir.specs.declared.program.Program.{Program}
-use Rattle.oat_ir.specs.declared.source.CriticalLoad.{CriticalLoad}
-use Rattle.oat_ir.specs.declared.source.SourceEdge.{SourceEdge}
-use Rattle.oat_ir.specs.declared.source.SourceEdge.TheVariants.{End}
-use Rattle.oat_events.specs.Events.{SourceEvent, takes, enters, leaves, loads, stores, outputs}
-use Rattle.oat_check.specs.Naming.{written_edge}
-use Rattle.oat_check.specs.Steps.{LineEdge}
+use Rattle.std.specs.{Prelude.◌+◌, Prelude.◌*◌, Prelude.◌≤◌, Prelude.ℕ, Prelude.ℤ, Prelude.Bool, Prelude.true, Prelude.false, Prelude.◌&&◌, Prelude.◌||◌, Prelude.nat_eq, Prelude.if◌then◌else◌}
+use Rattle.std.specs.{Prelude.List, Prelude.[], Prelude.◌∷◌, Prelude.◌++◌, Prelude.length, Prelude.get_or, Prelude.Option, Prelude.Some, Prelude.None, List.fold}
+use Rattle.oat_check.specs.{signed, Program, CriticalLoad, SourceEdge, End, SourceEvent, takes, enters, leaves, loads, stores, outputs, Naming.written_edge, Steps.LineEdge}
 
 -- The edges and loads of all calls of the operation lie one behind the other, and of each call that has completed it is told where its path and its loads end.
 pub record Recorded : Type 0 where

@@ -1,14 +1,7 @@
 -- The run that a source has made so far, and what it shows of itself (docs/FORMATS.md, "Program text").
 use Rattle.std.specs.Prelude.{ℕ, ℤ, Bool, List}
-use Rattle.oat_ir.specs.declared.program.Program.{Program}
-use Rattle.oat_ir.specs.declared.source.CriticalLoad.{CriticalLoad}
-use Rattle.oat_ir.specs.declared.source.SourceEdge.{SourceEdge}
-use Rattle.oat_ir.specs.declared.source.SourceEnd.{SourceEnd}
-use Rattle.oat_events.specs.Events.{SourceEvent}
-use Rattle.oat_events.specs.Source.{calls_done, has_completed}
-use Rattle.oat_check.specs.Runs.{source_events}
-use Rattle.oat_check.specs.Shown.{critical_loads, source_end, source_outputs, source_path}
-use Rattle.oat_check.specs.Steps.{LineEdge}
+use Rattle.oat_check.specs.{Program, CriticalLoad, SourceEdge, SourceEnd, SourceEvent, calls_done, has_completed, Runs.source_events, Shown.critical_loads, Shown.source_end, Shown.source_outputs}
+use Rattle.oat_check.specs.{Shown.source_path, Steps.LineEdge}
 
 -- A program with its inputs, the operation whose calls are told, the most steps that the run may make, and for how many it is made: for all, where it has ended.
 pub record SourceRun : Type 0 where

@@ -1,20 +1,11 @@
 -- The state of a run for which the interpreter's values stand.
-use Rattle.std.specs.Prelude.{◌≡◌, ◌+◌, ◌-◌, ◌<◌, ◌≤◌, ◌^◌, ℕ, nat_eq, if◌then◌else◌, List, [], ◌∷◌, map, Option, Some, None}
-use Rattle.std.specs.List.{AllByRecursion}
-use Rattle.oat_map.specs.declared.trap.TrapKind.TheVariants.{NullCall}
-use Rattle.oat_ir.specs.declared.instr.Instr.{Instr}
-use Rattle.oat_ir.specs.declared.instr.Instr.TheVariants.{Const, Copy, Binary, Load, Store, LoadX, StoreX, RefTo, Call, ICall, Input, Output}
-use Rattle.oat_ir.specs.declared.program.Program.{Program}
-use Rattle.oat_ir.specs.declared.source.SourceEnd.{SourceEnd}
+use Rattle.std.specs.{Prelude.◌≡◌, Prelude.◌+◌, Prelude.◌-◌, Prelude.◌<◌, Prelude.◌≤◌, Prelude.◌^◌, Prelude.ℕ, Prelude.nat_eq, Prelude.if◌then◌else◌, Prelude.List, Prelude.[], Prelude.◌∷◌}
+use Rattle.std.specs.{Prelude.map, Prelude.Option, Prelude.Some, Prelude.None, List.AllByRecursion}
+use Rattle.oat_check.specs.{NullCall, Instr, Const, Copy, Binary, Load, Store, LoadX, StoreX, RefTo, Call, ICall, Input, Output, Program, SourceEnd, Finish, halted, trapped, Steps.Next}
+use Rattle.oat_check.specs.{Steps.SourceState, Steps.current_line, Steps.icalls, Steps.line_place, Steps.result_at, Steps.runs, Steps.traps_by, Globals.length_at}
+use Rattle.oat_meaning.specs.{declared.activation.Activation.Activation, declared.interpreter.Interpreter.Interpreter, Activations.CountsCalls, Activations.frame_of, Activations.locals_of}
+use Rattle.oat_meaning.specs.{Globals.values_of, Recording.events_added}
 use Rattle.oat_ir.specs.declared.source.SourceEnd.TheVariants as ends
-use Rattle.oat_events.specs.Source.{Finish, halted, trapped}
-use Rattle.oat_check.specs.Steps.{Next, SourceState, current_line, icalls, line_place, result_at, runs, traps_by}
-use Rattle.oat_check.specs.Globals.{length_at}
-use Rattle.oat_meaning.specs.declared.activation.Activation.{Activation}
-use Rattle.oat_meaning.specs.declared.interpreter.Interpreter.{Interpreter}
-use Rattle.oat_meaning.specs.Activations.{CountsCalls, frame_of, locals_of}
-use Rattle.oat_meaning.specs.Globals.{values_of}
-use Rattle.oat_meaning.specs.Recording.{events_added}
 
 abbrev pub finish_of : SourceEnd → Option Finish
 finish_of ends.OutOfSteps = None

@@ -1,11 +1,6 @@
 //! What the operations make of two numbers.
 ghost use Rattle.std.specs.Prelude.{◌≡◌, ◌%◌};
-ghost use Rattle.oat_bits.specs.Words.{
-  shifted_left,
-  shifted_right_signed,
-  signed_quotient,
-  signed_remainder,
-};
+ghost use Rattle.oat_check.specs.{shifted_left, shifted_right_signed, signed_quotient, signed_remainder};
 ghost use Rattle.oat_check.specs.Operators.{divided, result_of};
 
 use oat_ir::BinOp;

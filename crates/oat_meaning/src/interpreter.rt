@@ -1,8 +1,6 @@
 //! The interpreter: the state of a run, and what each part of a step makes of it.
 ghost use Rattle.std.specs.Prelude.{◌≡◌, ◌<◌, ◌≤◌, ◌^◌, false, [], ◌∷◌, is_some, length, IfOk};
-ghost use Rattle.oat_bits.specs.Words.{signed};
-ghost use Rattle.oat_events.specs.Events.{outputs};
-ghost use Rattle.oat_events.specs.Source.{halted};
+ghost use Rattle.oat_check.specs.{signed, outputs, halted};
 ghost use Rattle.oat_check.specs.Globals.{length_at};
 ghost use Rattle.oat_check.specs.Keeping.{IsConsistent};
 ghost use Rattle.oat_check.specs.Rules.{IsChecked};
@@ -37,8 +35,7 @@ use crate::callers::{Callers, MOST_CALLERS};
 use crate::globals::Globals;
 use crate::lines::{current_block, main_number, operation_of, result_at};
 use crate::record::Record;
-use oat_ir::{Instr, Program, SourceEdge, SourceEnd, SourceSite, Term};
-use oat_map::TrapKind;
+use oat_ir::{Instr, Program, SourceEdge, SourceEnd, SourceSite, Term, TrapKind};
 use std::alloc::{AllocError, Global};
 use std::mem;
 

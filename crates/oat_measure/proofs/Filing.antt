@@ -1,12 +1,9 @@
 -- What a shelf keeps of its bodies: each stays what it is while more bits and targets come behind those that are there.
 use Rattle.std.proofs.Common.{◌≡◌, ℕ, ◌+◌, ◌-◌, ◌≤◌, Bool, List, [], ◌∷◌, ◌++◌, length, map, take, drop, refl, ap, ◌∙◌, arith, length-append, length-drop}
-use Rattle.std.specs.Prelude.{slice_range}
-use Rattle.std.specs.List.{All}
-use Rattle.std.proofs.lemmas.List.{take-append-le, drop-append-le, take_all, map_push}
-use Rattle.std.proofs.lemmas.List.Elements.{All-head, All-tail, All-weaker}
+use Rattle.std.specs.{Prelude.slice_range, List.All}
 use Rattle.std.proofs.Math.Seq.{drop-append_seam}
-use Rattle.oat_measure.specs.declared.shelf.Filed.{Filed}
-use Rattle.oat_measure.specs.BodyShelf.{filed_body, IsFiledIn}
+use Rattle.std.proofs.lemmas.{List.take-append-le, List.drop-append-le, List.take_all, List.map_push, List.Elements.All-head, List.Elements.All-tail, List.Elements.All-weaker}
+use Rattle.oat_measure.specs.{declared.shelf.Filed.Filed, BodyShelf.filed_body, BodyShelf.IsFiledIn}
 
 map-agree : {X Y : Type 0} (f g : X → Y) (xs : List X) → All (λ x. f x ≡ g x) xs → map f xs ≡ map g xs
 map-agree f g [] same = refl

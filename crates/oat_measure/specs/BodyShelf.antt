@@ -1,8 +1,7 @@
 -- The bodies of the windows that are done, as a shelf keeps them: their bits and their targets stand one behind the other.
 use Rattle.std.specs.Prelude.{ℕ, ◌≤◌, Bool, List, slice_range}
 use Rattle.oat_blob.specs.Body.{Body}
-use Rattle.oat_measure.specs.declared.shelf.Part.{Part}
-use Rattle.oat_measure.specs.declared.shelf.Filed.{Filed}
+use Rattle.oat_measure.specs.{declared.shelf.Part.Part, declared.shelf.Filed.Filed}
 
 -- bodies in the order of their windows, and how many more bodies, bits and targets there is room for
 pub record BodyShelf : Type 0 where

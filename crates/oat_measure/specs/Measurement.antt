@@ -3,15 +3,12 @@
 -- It speaks of calls alone and knows no machine.
 use Rattle.std.specs.Prelude.{if◌then◌else◌, ℕ, Bool, not, List, [], ◌∷◌, ◌++◌, Option, Some, None, Result, Ok, Err, nat_eq}
 use Rattle.sha2.specs.Sha256.{sha256}
-use Rattle.oat_blob.specs.declared.body.Violation.{Violation}
-use Rattle.oat_measure.specs.Monitor.{opens}
-use Rattle.oat_measure.specs.declared.call.MonitorCall.{MonitorCall}
-use Rattle.oat_measure.specs.declared.call.MonitorCall.TheVariants as svc
 use Rattle.oat_chain.specs.Chain.{window_head, link}
+use Rattle.oat_blob.specs.declared.body.Violation.{Violation}
 use Rattle.oat_events.specs.Cells.{Cells, defined}
-use Rattle.oat_measure.specs.declared.opening.Opening.{Opening}
-use Rattle.oat_measure.specs.declared.stop.StopKind.{StopKind}
-use Rattle.oat_measure.specs.declared.stop.StopKind.TheVariants.{Nested, WrongEnd}
+use Rattle.oat_measure.specs.{Monitor.opens, declared.call.MonitorCall.MonitorCall, declared.opening.Opening.Opening, declared.stop.StopKind.StopKind, declared.stop.StopKind.TheVariants.Nested}
+use Rattle.oat_measure.specs.{declared.stop.StopKind.TheVariants.WrongEnd}
+use Rattle.oat_measure.specs.declared.call.MonitorCall.TheVariants as svc
 
 pub data Stage : Type 0 where
   unmeasured : Stage

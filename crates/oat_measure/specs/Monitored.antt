@@ -1,9 +1,8 @@
 -- What the measurement states show: the state of the measurement step, the window's opening, and the room for records (docs/FORMATS.md, "Monitor calls").
 use Rattle.std.specs.Prelude.{◌≡◌, ℕ, Bool, List, Option, slice_get}
 use Rattle.oat_blob.specs.declared.body.Violation.{Violation}
-use Rattle.oat_measure.specs.declared.opening.Opening.{Opening}
-use Rattle.oat_measure.specs.Measurement.{Stage, State}
 use Rattle.oat_events.specs.Cells.{Cells}
+use Rattle.oat_measure.specs.{declared.opening.Opening.Opening, Measurement.Stage, Measurement.State}
 
 pub record Monitored : Type 0 where
   pub opening : Opening

@@ -1,8 +1,6 @@
 -- How a window's return chain is kept while the window is open (docs/DEFINITIONS.md).
 use Rattle.std.specs.Prelude.{ℕ, List, ◌≤◌, length}
-use Rattle.oat_chain.specs.declared.Chain.{Chain}
-use Rattle.oat_chain.specs.Chain.{window_head}
-use Rattle.oat_chain.specs.Standing.{StandsFor}
+use Rattle.oat_chain.specs.{declared.Chain.Chain, Chain.window_head, Standing.StandsFor}
 use Rattle.oat_measure.specs.declared.opening.Opening.{Opening}
 
 -- the chain stands for the returns that went to some addresses, behind the window's begin record

@@ -1,12 +1,9 @@
 -- The measurement of a session: its windows one behind the other, of which those that are done lie on a shelf (docs/FORMATS.md, "Monitor calls").
 use Rattle.std.specs.Prelude.{ℕ, ◌+◌, ◌≡◌, ◌≤◌, Bool, false, List, [], ◌∷◌, ◌++◌, Option, None, Some, option_map, MatchOption, nat_lt, Result, Ok, Err, slice_get, if◌then◌else◌}
-use Rattle.oat_blob.specs.declared.body.BodyHead.{BodyHead}
-use Rattle.oat_blob.specs.Body.{Body}
-use Rattle.oat_measure.specs.declared.call.MonitorCall.{MonitorCall}
-use Rattle.oat_measure.specs.declared.opening.Opening.{Opening}
-use Rattle.oat_measure.specs.declared.stop.StopKind.{StopKind}
+use Rattle.oat_blob.specs.{declared.body.BodyHead.BodyHead, Body.Body}
 use Rattle.oat_events.specs.Cells.{Cells}
-use Rattle.oat_measure.specs.Measurement.{State, unmeasured, measuring, sealed, booted, measured}
+use Rattle.oat_measure.specs.{declared.call.MonitorCall.MonitorCall, declared.opening.Opening.Opening, declared.stop.StopKind.StopKind, Measurement.State, Measurement.unmeasured}
+use Rattle.oat_measure.specs.{Measurement.measuring, Measurement.sealed, Measurement.booted, Measurement.measured}
 
 -- ---- the body of a window
 

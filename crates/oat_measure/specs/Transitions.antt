@@ -1,14 +1,9 @@
 -- What a begin, an end and the device's engine leave, in the words of the measurement step (docs/FORMATS.md, "Monitor calls").
 use Rattle.std.specs.Prelude.{◌≡◌, Result, Ok, Err}
-use Rattle.oat_measure.specs.Measurement.{State, unmeasured, measuring, sealed}
-use Rattle.oat_measure.specs.declared.stop.StopKind.{StopKind}
-use Rattle.oat_measure.specs.declared.stop.StopKind.TheVariants.{WrongEnd}
-use Rattle.oat_measure.specs.Monitored.{Monitored, state_at}
-use Rattle.oat_measure.specs.declared.states.Begun.{Begun}
+use Rattle.oat_measure.specs.{Measurement.State, Measurement.unmeasured, Measurement.measuring, Measurement.sealed, declared.stop.StopKind.StopKind, declared.stop.StopKind.TheVariants.WrongEnd}
+use Rattle.oat_measure.specs.{Monitored.Monitored, Monitored.state_at, declared.states.Begun.Begun, declared.states.Ended.Ended, declared.engine.Engine.Engine}
 use Rattle.oat_measure.specs.declared.states.Begun.TheVariants as begun
-use Rattle.oat_measure.specs.declared.states.Ended.{Ended}
 use Rattle.oat_measure.specs.declared.states.Ended.TheVariants as ended
-use Rattle.oat_measure.specs.declared.engine.Engine.{Engine}
 use Rattle.oat_measure.specs.declared.engine.Engine.TheVariants as engine
 
 -- ---- a begin

@@ -4,8 +4,7 @@ ghost use Rattle.std.specs.Prelude.{◌≡◌, ◌+◌, ◌-◌, ◌<◌, ◌≤
 ghost use Rattle.oat_blob.specs.Body.{Body};
 ghost use Rattle.oat_measure.specs.BodyShelf.{IsPartOf};
 
-use oat_bits::PackedBits;
-use oat_blob::BodyHead;
+use oat_blob::{BodyHead, PackedBits};
 use std::alloc::{AllocError, Global};
 use std::marker::Model;
 

@@ -10,8 +10,7 @@ ghost use Rattle.oat_measure.specs.Transitions.{begun_shown, begun_state, BegunU
 use crate::cells::{define, unsound};
 use crate::opening::Opening;
 use crate::shelf::Shelf;
-use oat_bits::PackedBits;
-use oat_blob::{BodyHead, Violation};
+use oat_blob::{BodyHead, PackedBits, Violation};
 use oat_chain::{Chain, window_head};
 use std::alloc::{AllocError, Global};
 use std::marker::Model;

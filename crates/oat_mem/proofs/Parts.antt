@@ -1,9 +1,8 @@
 -- What a read or a write of one region means for the memory as a whole.
 use Rattle.std.proofs.Common.{◌≡◌, ℕ, ◌+◌, ◌-◌, ◌*◌, ◌<◌, ◌≤◌, inl, inr, Bool, true, false, cond, leb, List, ◌++◌, length, get_or, take, drop, refl, ap, arith, sym, ◌∙◌}
-use Rattle.std.proofs.Math.Path.{fun_ext}
 use Rattle.std.specs.List.{All}
-use Rattle.std.proofs.lemmas.Bool.{le-leb, leb-true, lt-leb, and_parts, and_from, and_right, cases_lt, cond-true, or_cases}
-use Rattle.std.proofs.lemmas.List.{places, get_or_past}
+use Rattle.std.proofs.Math.Path.{fun_ext}
+use Rattle.std.proofs.lemmas.{Bool.le-leb, Bool.leb-true, Bool.lt-leb, Bool.and_parts, Bool.and_from, Bool.and_right, Bool.cases_lt, Bool.cond-true, Bool.or_cases, List.places, List.get_or_past}
 use Rattle.oat_mem.specs.DataMemory.{lies_in, with_bytes, word_in, byte_at, fits, can_access, global_base, global_size, stack_base, stack_size}
 use Rattle.oat_mem.proofs.Words.{with_bytes-within, with_bytes-below, with_bytes-above, word_in-at}
 

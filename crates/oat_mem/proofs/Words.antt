@@ -1,9 +1,7 @@
 -- The laws of words in memory.
 use Rattle.std.proofs.Common.{◌≡◌, ℕ, zero, suc, ◌+◌, ◌-◌, ◌<◌, ◌≤◌, inl, inr, ◌&&◌, leb, ltb, List, length, get_or, ap, ◌∙◌, arith, subst, add-zero, lit<}
-use Rattle.std.specs.Prelude.{slice_index}
-use Rattle.std.specs.Int.{w64, to_le_bytes, byte_at, bytes_low_first}
-use Rattle.std.proofs.lemmas.Nat.{from_le_bytes-to_le_bytes_8}
-use Rattle.std.proofs.lemmas.Bool.{le-leb, lt-leb, lt-ltb, le-ltb, cond_both}
+use Rattle.std.specs.{Prelude.slice_index, Int.w64, Int.to_le_bytes, Int.byte_at, Int.bytes_low_first}
+use Rattle.std.proofs.lemmas.{Nat.from_le_bytes-to_le_bytes_8, Bool.le-leb, Bool.lt-leb, Bool.lt-ltb, Bool.le-ltb, Bool.cond_both}
 use Rattle.oat_mem.specs.DataMemory.{with_bytes, with_word, word_in, IsBytes, WordsReadBack, OtherWordsStay, WordsAreBounded, MemoryStaysBytes}
 
 pub with_bytes-within : (f : ℕ → ℕ) (a : ℕ) (bs : List ℕ) (b : ℕ) → a ≤ b → b < a + length bs → with_bytes f a bs b ≡ slice_index bs (b - a)

@@ -1,6 +1,7 @@
 -- The device's data memory: bytes by address in two regions, and the little-endian words of 8 bytes in them, as the Arm A64 manual's memory accesses read and write them.
-use Rattle.std.specs.Prelude.{◌≡◌, ℕ, ◌+◌, ◌-◌, ◌*◌, ◌%◌, ◌^◌, ◌<◌, ◌≤◌, ◌⊎◌, Bool, ◌&&◌, ◌||◌, ◌==◌, nat_le, nat_lt, if◌then◌else◌, List, [], ◌∷◌, length, slice_index}
-use Rattle.std.specs.Int.{w64, to_le_bytes, from_le_bytes}
+use Rattle.std.specs.{Prelude.◌≡◌, Prelude.ℕ, Prelude.◌+◌, Prelude.◌-◌, Prelude.◌*◌, Prelude.◌%◌, Prelude.◌^◌, Prelude.◌<◌, Prelude.◌≤◌, Prelude.◌⊎◌, Prelude.Bool, Prelude.◌&&◌, Prelude.◌||◌}
+use Rattle.std.specs.{Prelude.◌==◌, Prelude.nat_le, Prelude.nat_lt, Prelude.if◌then◌else◌, Prelude.List, Prelude.[], Prelude.◌∷◌, Prelude.length, Prelude.slice_index, Int.w64, Int.to_le_bytes}
+use Rattle.std.specs.{Int.from_le_bytes}
 
 -- the global data
 abbrev pub global_base : ℕ

@@ -4,5 +4,6 @@
 pub mod laws;
 mod memory;
 mod region;
+
 pub use memory::Memory;
 pub use region::{GLOBAL_BASE, fits};

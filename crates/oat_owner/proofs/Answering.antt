@@ -1,14 +1,14 @@
 -- Answer frames: what bytes tell, and where they stop to be one.
-use Rattle.std.proofs.Common.{◌≡◌, ◌≢◌, ℕ, zero, suc, ◌+◌, ◌-◌, ◌<◌, ◌≤◌, ◌^◌, List, [], ◌∷◌, ◌++◌, length, take, drop, get_or, slice_get, replicate, refl, ap, sym, subst, ◌∙◌, arith, length-append, append_assoc, Fits, w8}
+use Rattle.std.proofs.Common.{◌≡◌, ◌≢◌, ℕ, zero, suc, ◌+◌, ◌-◌, ◌<◌, ◌≤◌, ◌^◌, List, [], ◌∷◌, ◌++◌, length, take, drop, get_or, slice_get, replicate, refl, ap, sym, subst, ◌∙◌, arith, length-append}
+use Rattle.std.proofs.Common.{append_assoc, Fits, w8}
+use Rattle.std.specs.{Int.w32, Int.to_be_bytes, Int.from_be_bytes, List.All}
 use Rattle.std.proofs.Math.Seq.{take-append-add}
-use Rattle.std.proofs.lemmas.List.{append-nil, length-replicate, length-take-le, length-drop, take-append-drop, take_all, drop_all, take_at, drop_at}
-use Rattle.std.proofs.lemmas.List.Elements.{All-append, All-from_get_or, All-nil, All-replicate, All-take, All-drop}
-use Rattle.std.proofs.lemmas.Nat.{be_bytes_4, from_be_bytes-to_be_bytes_4}
-use Rattle.std.specs.Int.{w32, to_be_bytes, from_be_bytes}
-use Rattle.std.specs.List.{All}
-use Rattle.oat_blob.specs.Body.{AreBytes}
-use Rattle.oat_owner.specs.Frames.{Delivery, answer_front, answer_head, answer_frame, IsAnswerFrame, BeginsAnswer, IsFrameOffset}
-use Rattle.oat_owner.specs.Fields.{fields_part, AreFields}
+use Rattle.std.proofs.lemmas.{List.append-nil, List.length-replicate, List.length-take-le, List.length-drop, List.take-append-drop, List.take_all, List.drop_all, List.take_at, List.drop_at}
+use Rattle.std.proofs.lemmas.{List.Elements.All-append, List.Elements.All-from_get_or, List.Elements.All-nil, List.Elements.All-replicate, List.Elements.All-take, List.Elements.All-drop}
+use Rattle.std.proofs.lemmas.{Nat.be_bytes_4, Nat.from_be_bytes-to_be_bytes_4}
+use Rattle.oat_verify.specs.{AreBytes}
+use Rattle.oat_owner.specs.{Frames.Delivery, Frames.answer_front, Frames.answer_head, Frames.answer_frame, Frames.IsAnswerFrame, Frames.BeginsAnswer, Frames.IsFrameOffset, Fields.fields_part}
+use Rattle.oat_owner.specs.{Fields.AreFields}
 
 abbrev pub IsByte : ℕ → Type 0
 IsByte byte = byte < 256

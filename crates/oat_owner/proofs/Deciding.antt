@@ -1,27 +1,19 @@
 -- The calls and replies before it leave one reply.
-use Rattle.std.proofs.Common.{◌≡◌, ℕ, ◌<◌, Bool, true, false, List, length, slice_get, Option, Some, None, Err, sym, ap, subst, ◌∙◌, inl, inr, arith}
-use Rattle.std.proofs.Common.{◌++◌, take, drop}
-use Rattle.std.proofs.lemmas.Bool.{cases_lt}
-use Rattle.std.proofs.lemmas.Nat.{from_be_bytes-to_be_bytes_2, from_be_bytes-to_be_bytes_4}
+use Rattle.std.proofs.Common.{◌≡◌, ℕ, ◌<◌, Bool, true, false, List, length, slice_get, Option, Some, None, Err, sym, ap, subst, ◌∙◌, inl, inr, arith, ◌++◌, take, drop}
 use Rattle.std.specs.Int.{w16, w32, to_be_bytes, from_be_bytes}
-use Rattle.oat_first.specs.First.{IsOne, IsDecisive}
+use Rattle.std.proofs.lemmas.{Bool.cases_lt, Nat.from_be_bytes-to_be_bytes_2, Nat.from_be_bytes-to_be_bytes_4}
 use Rattle.oat_first.proofs.FirstLaws.{First-one, Tests-decisive}
-use Rattle.oat_verify.specs.Verdict.{subject_of}
+use Rattle.oat_verify.specs.{IsOne, IsDecisive, Verdict.subject_of}
 use Rattle.oat_verify.proofs.OneVerdict.{one_verdict}
-use Rattle.oat_owner.specs.declared.device.Known.{Known}
-use Rattle.oat_owner.specs.declared.challenge.Challenge.{Challenge}
-use Rattle.oat_owner.specs.declared.owner.Answer.{Answer}
-use Rattle.oat_owner.specs.declared.owner.Answer.TheVariants.{Refused}
+use Rattle.oat_owner.specs.{declared.device.Known.Known, declared.challenge.Challenge.Challenge, declared.owner.Answer.Answer, declared.owner.Answer.TheVariants.Refused}
+use Rattle.oat_owner.specs.{declared.owner.IssueFault.IssueFault, Frames.Delivery, Frames.IsAnswerFrame, Frames.IsFrameOffset, Ledger.Ledger, Ledger.device_of, Ledger.number_with, Ledger.number_to}
+use Rattle.oat_owner.specs.{Replies.IssueReply, Replies.OrRefused, Replies.OrUsed, Replies.IsIssueReply, Replies.Asked, Replies.IsAsked, Replies.Judged, Replies.challenge_session, Replies.judged}
+use Rattle.oat_owner.specs.{Replies.IsAnswerReply, Laws.OneReply, Laws.ChallengeFramesTell, Laws.AnswerFramesTell, Laws.OneFrameOffset}
+use Rattle.oat_owner.proofs.Answering.{only_delivery}
 use Rattle.oat_owner.specs.declared.owner.AnswerCause.TheVariants as causes
-use Rattle.oat_owner.specs.declared.owner.IssueFault.{IssueFault}
 use Rattle.oat_owner.specs.declared.owner.IssueFault.TheVariants as faults
 use Rattle.oat_owner.specs.declared.call.OwnerCall.TheVariants as calls
 use Rattle.oat_owner.specs.declared.call.OwnerReply.TheVariants as replies
-use Rattle.oat_owner.specs.Frames.{Delivery, IsAnswerFrame, IsFrameOffset}
-use Rattle.oat_owner.specs.Ledger.{Ledger, device_of, number_with, number_to}
-use Rattle.oat_owner.specs.Replies.{IssueReply, OrRefused, OrUsed, IsIssueReply, Asked, IsAsked, Judged, challenge_session, judged, IsAnswerReply}
-use Rattle.oat_owner.specs.Laws.{OneReply, ChallengeFramesTell, AnswerFramesTell, OneFrameOffset}
-use Rattle.oat_owner.proofs.Answering.{only_delivery}
 
 -- ---- frames
 

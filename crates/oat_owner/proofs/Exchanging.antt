@@ -1,29 +1,18 @@
 -- Calls one by one, and the definition over their whole list.
-use Rattle.std.proofs.Common.{◌≡◌, ℕ, zero, suc, ◌+◌, ◌<◌, ◌≤◌, Bool, true, false, ◌||◌, List, [], ◌∷◌, ◌++◌, length, slice_get, take, Option, Some, None, Ok, Err, refl, sym, ap, subst, ◌∙◌, inl, inr, append_assoc, arith}
-use Rattle.std.specs.Prelude.{◌==◌}
-use Rattle.std.specs.List.{list_any, filter_map, cons_option}
-use Rattle.std.proofs.lemmas.Bool.{cases_Bool, cases_lt, eq-eqb, ne_eqb, eqb-true}
-use Rattle.std.proofs.lemmas.List.{append-nil, length-append}
-use Rattle.std.proofs.lemmas.Option.{slice_get_within}
-use Rattle.oat_first.specs.First.{fails, passes}
-use Rattle.oat_map.specs.declared.edge.Edge.{Edge}
-use Rattle.oat_verify.specs.declared.verdict.Verdict.{Verdict}
+use Rattle.std.proofs.Common.{◌≡◌, ℕ, zero, suc, ◌+◌, ◌<◌, ◌≤◌, Bool, true, false, ◌||◌, List, [], ◌∷◌, ◌++◌, length, slice_get, take, Option, Some, None, Ok, Err, refl, sym, ap, subst, ◌∙◌, inl, inr}
+use Rattle.std.proofs.Common.{append_assoc, arith}
+use Rattle.std.specs.{Prelude.◌==◌, List.list_any, List.filter_map, List.cons_option}
+use Rattle.std.proofs.lemmas.{Bool.cases_Bool, Bool.cases_lt, Bool.eq-eqb, Bool.ne_eqb, Bool.eqb-true, List.append-nil, List.length-append, Option.slice_get_within}
+use Rattle.oat_verify.specs.{fails, passes, Edge, declared.verdict.Verdict.Verdict, Verdict.subject_of, Verdict.IsVerdict}
+use Rattle.oat_owner.specs.{declared.device.Known.Known, declared.challenge.Challenge.Challenge, declared.owner.Answer.TheVariants.Accepted, declared.owner.Answer.TheVariants.Refused}
+use Rattle.oat_owner.specs.{declared.call.OwnerCall.OwnerCall, declared.call.OwnerReply.OwnerReply, Frames.Delivery, Frames.IsAnswerFrame, Ledger.Ledger, Ledger.device_of, Ledger.number_to}
+use Rattle.oat_owner.specs.{Ledger.spent_at, Replies.IsAnswerReply, Replies.challenge_session, Replies.judged, Laws.CallsGiveReplies, Laws.AcceptedOnce, Laws.AcceptedByVerdict, Laws.CallsGoOn}
+use Rattle.oat_owner.specs.{Laws.AcceptedIsIssued, Exchanges.Exchange, Exchanges.IsReply, Exchanges.behind, Exchanges.CallByCall, Exchanges.issued_in, Exchanges.issued_by, Exchanges.accepts}
+use Rattle.oat_owner.specs.{Exchanges.is_spent, Exchanges.marked, Exchanges.owner_behind, Exchanges.AreRepliesBehind, Exchanges.AreReplies}
+use Rattle.oat_owner.proofs.{Answering.delivery_same, Tabling.asked_is}
 use Rattle.oat_verify.specs.declared.verdict.Verdict.TheVariants as verdicts
-use Rattle.oat_verify.specs.Verdict.{subject_of, IsVerdict}
-use Rattle.oat_owner.specs.declared.device.Known.{Known}
-use Rattle.oat_owner.specs.declared.challenge.Challenge.{Challenge}
-use Rattle.oat_owner.specs.declared.owner.Answer.TheVariants.{Accepted, Refused}
-use Rattle.oat_owner.specs.declared.call.OwnerCall.{OwnerCall}
 use Rattle.oat_owner.specs.declared.call.OwnerCall.TheVariants as calls
-use Rattle.oat_owner.specs.declared.call.OwnerReply.{OwnerReply}
 use Rattle.oat_owner.specs.declared.call.OwnerReply.TheVariants as replies
-use Rattle.oat_owner.specs.Frames.{Delivery, IsAnswerFrame}
-use Rattle.oat_owner.specs.Ledger.{Ledger, device_of, number_to, spent_at}
-use Rattle.oat_owner.specs.Replies.{IsAnswerReply, challenge_session, judged}
-use Rattle.oat_owner.specs.Laws.{CallsGiveReplies, AcceptedOnce, AcceptedByVerdict, CallsGoOn, AcceptedIsIssued}
-use Rattle.oat_owner.proofs.Answering.{delivery_same}
-use Rattle.oat_owner.proofs.Tabling.{asked_is}
-use Rattle.oat_owner.specs.Exchanges.{Exchange, IsReply, behind, CallByCall, issued_in, issued_by, accepts, is_spent, marked, owner_behind, AreRepliesBehind, AreReplies}
 
 -- ---- what an acceptance says
 

@@ -1,13 +1,8 @@
 -- What is kept of each challenge stays kept.
-use Rattle.std.proofs.Common.{◌≡◌, ℕ, zero, suc, true, List, [], ◌∷◌, ◌++◌, ◌⊎◌, length, slice_get, Option, Some, None, refl, sym, ap, subst, ◌∙◌, inl, inr, arith}
-use Rattle.std.proofs.Common.{Bor, IsSome}
+use Rattle.std.proofs.Common.{◌≡◌, ℕ, zero, suc, true, List, [], ◌∷◌, ◌++◌, ◌⊎◌, length, slice_get, Option, Some, None, refl, sym, ap, subst, ◌∙◌, inl, inr, arith, Bor, IsSome}
 use Rattle.std.specs.Option.{option_copied}
-use Rattle.oat_map.specs.Rows.{IsOperation, BeginsAt}
-use Rattle.oat_map.specs.declared.map.Map.{Map}
-use Rattle.oat_owner.specs.declared.device.Known.{Known}
-use Rattle.oat_owner.specs.declared.challenge.Challenge.{Challenge}
-use Rattle.oat_owner.specs.Ledger.{device_of, spent_at}
-use Rattle.oat_owner.specs.Kept.{IsKept, AreKept}
+use Rattle.oat_verify.specs.{IsOperation, BeginsAt, Map}
+use Rattle.oat_owner.specs.{declared.device.Known.Known, declared.challenge.Challenge.Challenge, Ledger.device_of, Ledger.spent_at, Kept.IsKept, Kept.AreKept}
 
 -- an item of a longer list is one of the list, or the last
 pub pushed_item : {X : Type 0} (xs : List X) (y : X) (n : ℕ) (x : X) → slice_get (xs ++ y ∷ []) n ≡ Some x → (slice_get xs n ≡ Some x) ⊎ ((n ≡ length xs) × (y ≡ x))

@@ -1,11 +1,7 @@
 -- What is found among the keys of a table is found among the items of its list.
 use Rattle.std.proofs.Common.{◌≡◌, ℕ, suc, ◌+◌, Bool, true, false, cond, ◌&&◌, List, [], ◌∷◌, length, map, get_or, slice_get, Option, Some, None, refl, sym, ap, subst, ◌∙◌, inl, inr, arith}
-use Rattle.std.specs.Prelude.{position, find, nat_lt, option_map}
-use Rattle.std.specs.List.{list_any, position_or_len, IsDistinct, AllByRecursion}
-use Rattle.std.specs.Str.{bytes_eq}
-use Rattle.std.proofs.lemmas.Bool.{cases_Bool, ltb-true, ltb-false, lt-ltb, le-ltb}
-use Rattle.std.proofs.lemmas.Map.Keys.{IsDistinct-head, IsDistinct-tail}
-use Rattle.std.proofs.lemmas.Slice.Eq.{bytes_eq-Decides}
+use Rattle.std.specs.{Prelude.position, Prelude.find, Prelude.nat_lt, Prelude.option_map, List.list_any, List.position_or_len, List.IsDistinct, List.AllByRecursion, Str.bytes_eq}
+use Rattle.std.proofs.lemmas.{Bool.cases_Bool, Bool.ltb-true, Bool.ltb-false, Bool.lt-ltb, Bool.le-ltb, Map.Keys.IsDistinct-head, Map.Keys.IsDistinct-tail, Slice.Eq.bytes_eq-Decides}
 
 -- the first place that passes, counted along the list
 pub place : {X : Type 0} → (X → Bool) → List X → Option ℕ

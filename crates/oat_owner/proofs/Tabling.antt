@@ -1,18 +1,12 @@
 -- What the tables of an owner find, of its devices and its challenges.
-use Rattle.std.proofs.Common.{◌≡◌, ℕ, zero, suc, ◌+◌, ◌<◌, Bool, true, false, not, ◌&&◌, List, [], ◌∷◌, ◌++◌, length, take, drop, get_or, slice_get, set, Option, Some, None, refl, sym, ap, subst, ◌∙◌, arith}
-use Rattle.std.specs.Prelude.{position, nat_eq, ◌==◌, if◌then◌else◌}
-use Rattle.std.specs.List.{list_any, IsDistinct}
-use Rattle.std.specs.Str.{bytes_eq}
-use Rattle.std.proofs.lemmas.Bool.{and_parts, eq-eqb, eqb-true, ne_eqb}
-use Rattle.std.proofs.lemmas.Slice.Eq.{bytes_eq-Decides}
-use Rattle.std.proofs.lemmas.List.{map-append, length-append, take_more, drop_more}
-use Rattle.std.proofs.lemmas.Option.{slice_get_within, slice_get_read}
-use Rattle.std.proofs.Math.ListN.{length-set}
-use Rattle.std.proofs.Math.Seq.{map-set_same}
-use Rattle.oat_owner.specs.declared.challenge.Challenge.{Challenge}
-use Rattle.oat_owner.specs.declared.device.Known.{Known}
-use Rattle.oat_owner.specs.Ledger.{device_of, number_with, number_to, spent_at, ids_of, repeated_behind, challenge_limit}
-use Rattle.oat_owner.specs.Tables.{AreNonces}
+use Rattle.std.proofs.Common.{◌≡◌, ℕ, zero, suc, ◌+◌, ◌<◌, Bool, true, false, not, ◌&&◌, List, [], ◌∷◌, ◌++◌, length, take, drop, get_or, slice_get, set, Option, Some, None, refl, sym, ap, subst, ◌∙◌}
+use Rattle.std.proofs.Common.{arith}
+use Rattle.std.specs.{Prelude.position, Prelude.nat_eq, Prelude.◌==◌, Prelude.if◌then◌else◌, List.list_any, List.IsDistinct, Str.bytes_eq}
+use Rattle.std.proofs.Math.{ListN.length-set, Seq.map-set_same}
+use Rattle.std.proofs.lemmas.{Bool.and_parts, Bool.eq-eqb, Bool.eqb-true, Bool.ne_eqb, Slice.Eq.bytes_eq-Decides, List.map-append, List.length-append, List.take_more, List.drop_more}
+use Rattle.std.proofs.lemmas.{Option.slice_get_within, Option.slice_get_read}
+use Rattle.oat_owner.specs.{declared.challenge.Challenge.Challenge, declared.device.Known.Known, Ledger.device_of, Ledger.number_with, Ledger.number_to, Ledger.spent_at, Ledger.ids_of}
+use Rattle.oat_owner.specs.{Ledger.repeated_behind, Ledger.challenge_limit, Tables.AreNonces}
 use Rattle.oat_owner.proofs.Searching.{place, place_is, place_mapped, place_within, nowhere, find_place, find_nowhere, none_both, first_both, missed_both}
 
 nonce_of : Challenge → List ℕ

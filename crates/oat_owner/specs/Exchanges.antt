@@ -1,15 +1,10 @@
 -- Calls of an owner in any order and number: each reply is given by the calls and replies before it alone (docs/DEFINITIONS.md, "Owner's replies").
-use Rattle.std.specs.Prelude.{◌≡◌, ℕ, ◌+◌, ◌==◌, Bool, false, List, [], ◌∷◌, ◌++◌, Option, Some, None, Ok}
-use Rattle.std.specs.List.{list_any, filter_map}
-use Rattle.oat_owner.specs.declared.device.Known.{Known}
-use Rattle.oat_owner.specs.declared.challenge.Challenge.{Challenge}
-use Rattle.oat_owner.specs.declared.owner.Answer.TheVariants.{Accepted}
-use Rattle.oat_owner.specs.declared.call.OwnerCall.{OwnerCall}
+use Rattle.std.specs.{Prelude.◌≡◌, Prelude.ℕ, Prelude.◌+◌, Prelude.◌==◌, Prelude.Bool, Prelude.false, Prelude.List, Prelude.[], Prelude.◌∷◌, Prelude.◌++◌, Prelude.Option, Prelude.Some, Prelude.None}
+use Rattle.std.specs.{Prelude.Ok, List.list_any, List.filter_map}
+use Rattle.oat_owner.specs.{declared.device.Known.Known, declared.challenge.Challenge.Challenge, declared.owner.Answer.TheVariants.Accepted, declared.call.OwnerCall.OwnerCall}
+use Rattle.oat_owner.specs.{declared.call.OwnerReply.OwnerReply, Ledger.Ledger, Replies.IsIssueReply, Replies.behind_issue, Replies.IsAnswerReply, Replies.behind_answer}
 use Rattle.oat_owner.specs.declared.call.OwnerCall.TheVariants as calls
-use Rattle.oat_owner.specs.declared.call.OwnerReply.{OwnerReply}
 use Rattle.oat_owner.specs.declared.call.OwnerReply.TheVariants as replies
-use Rattle.oat_owner.specs.Ledger.{Ledger}
-use Rattle.oat_owner.specs.Replies.{IsIssueReply, behind_issue, IsAnswerReply, behind_answer}
 
 -- a call, and what was replied to it
 pub record Exchange : Type 0 where

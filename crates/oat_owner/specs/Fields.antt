@@ -1,7 +1,6 @@
 -- The fields of an answer frame between its front and its blob.
-use Rattle.std.specs.Prelude.{◌≡◌, ◌<◌, ◌^◌, ℕ, List, ◌++◌}
-use Rattle.std.specs.Int.{w32, to_be_bytes}
-use Rattle.oat_blob.specs.Body.{AreBytes}
+use Rattle.std.specs.{Prelude.◌≡◌, Prelude.◌<◌, Prelude.◌^◌, Prelude.ℕ, Prelude.List, Prelude.◌++◌, Int.w32, Int.to_be_bytes}
+use Rattle.oat_verify.specs.{AreBytes}
 
 -- the fields of a frame that states so many bytes for its blob
 abbrev pub fields_part : (device : ℕ) → (nonce : List ℕ) → (stated : ℕ) → List ℕ

@@ -1,8 +1,7 @@
 -- The frames in which challenges and answers travel: docs/FORMATS.md, "Frames". Numbers stand with the high byte first.
-use Rattle.std.specs.Prelude.{◌≡◌, ◌<◌, ◌≤◌, ◌^◌, ℕ, List, [], ◌∷◌, ◌++◌, length, take}
-use Rattle.std.specs.Int.{w16, w32, to_be_bytes}
-use Rattle.std.specs.List.{All}
-use Rattle.oat_blob.specs.Body.{AreBytes}
+use Rattle.std.specs.{Prelude.◌≡◌, Prelude.◌<◌, Prelude.◌≤◌, Prelude.◌^◌, Prelude.ℕ, Prelude.List, Prelude.[], Prelude.◌∷◌, Prelude.◌++◌, Prelude.length, Prelude.take, Int.w16, Int.w32}
+use Rattle.std.specs.{Int.to_be_bytes, List.All}
+use Rattle.oat_verify.specs.{AreBytes}
 
 -- 'OATC' and the version
 abbrev pub challenge_front : List ℕ

@@ -1,9 +1,7 @@
 -- What is kept of each challenge: its device is known, and has its operation.
 use Rattle.std.specs.Prelude.{◌≡◌, ℕ, List, slice_get, Some}
-use Rattle.oat_map.specs.Rows.{IsOperation}
-use Rattle.oat_owner.specs.declared.device.Known.{Known}
-use Rattle.oat_owner.specs.declared.challenge.Challenge.{Challenge}
-use Rattle.oat_owner.specs.Ledger.{device_of}
+use Rattle.oat_verify.specs.{IsOperation}
+use Rattle.oat_owner.specs.{declared.device.Known.Known, declared.challenge.Challenge.Challenge, Ledger.device_of}
 
 pub record IsKept (known : List Known) (c : Challenge) : Type 0 where
   pub device : Known

@@ -1,20 +1,12 @@
 -- What an owner's replies are good for, in any order and number of calls.
 use Rattle.std.specs.Prelude.{◌≡◌, ◌<◌, ◌^◌, ℕ, List, [], ◌∷◌, ◌++◌, length, slice_get, take, Some}
-use Rattle.oat_map.specs.declared.edge.Edge.{Edge}
-use Rattle.oat_verify.specs.declared.verdict.Verdict.TheVariants.{Accept}
-use Rattle.oat_verify.specs.Verdict.{subject_of, IsVerdict}
-use Rattle.oat_owner.specs.declared.device.Known.{Known}
-use Rattle.oat_owner.specs.declared.challenge.Challenge.{Challenge}
-use Rattle.oat_owner.specs.declared.owner.Answer.TheVariants.{Accepted}
-use Rattle.oat_owner.specs.declared.call.OwnerCall.{OwnerCall}
+use Rattle.oat_verify.specs.{Edge, declared.verdict.Verdict.TheVariants.Accept, Verdict.subject_of, Verdict.IsVerdict, AreBytes}
+use Rattle.oat_owner.specs.{declared.device.Known.Known, declared.challenge.Challenge.Challenge, declared.owner.Answer.TheVariants.Accepted, declared.call.OwnerCall.OwnerCall}
+use Rattle.oat_owner.specs.{declared.call.OwnerReply.OwnerReply, Frames.Delivery, Frames.challenge_frame, Frames.IsAnswerFrame, Frames.IsFrameOffset, Ledger.Ledger, Ledger.device_of}
+use Rattle.oat_owner.specs.{Replies.challenge_session, Replies.IsAnswerReply, Replies.behind_answer, Exchanges.Exchange, Exchanges.IsReply, Exchanges.behind, Exchanges.CallByCall, Exchanges.issued_by}
+use Rattle.oat_owner.specs.{Exchanges.owner_behind, Exchanges.AreReplies}
 use Rattle.oat_owner.specs.declared.call.OwnerCall.TheVariants as calls
-use Rattle.oat_owner.specs.declared.call.OwnerReply.{OwnerReply}
 use Rattle.oat_owner.specs.declared.call.OwnerReply.TheVariants as replies
-use Rattle.oat_blob.specs.Body.{AreBytes}
-use Rattle.oat_owner.specs.Frames.{Delivery, challenge_frame, IsAnswerFrame, IsFrameOffset}
-use Rattle.oat_owner.specs.Ledger.{Ledger, device_of}
-use Rattle.oat_owner.specs.Replies.{challenge_session, IsAnswerReply, behind_answer}
-use Rattle.oat_owner.specs.Exchanges.{Exchange, IsReply, behind, CallByCall, issued_by, owner_behind, AreReplies}
 
 -- What the clauses say call by call, of an owner that has issued nothing, is what the definition says of the whole list.
 abbrev pub CallsGiveReplies : Type 0

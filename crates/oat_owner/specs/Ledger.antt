@@ -1,10 +1,8 @@
 -- An owner as its contracts see it: the devices that it knows, and the challenges that it issued, by number.
-use Rattle.std.specs.Prelude.{ℕ, zero, suc, ◌==◌, ◌&&◌, true, List, [], ◌∷◌, ◌++◌, Option, Some, None, find, position, map, slice_get, option_map, option_and_then, if◌then◌else◌}
-use Rattle.oat_image.specs.declared.image.Image.{Image}
-use Rattle.std.specs.List.{list_any}
-use Rattle.std.specs.Str.{bytes_eq}
-use Rattle.oat_owner.specs.declared.device.Known.{Known}
-use Rattle.oat_owner.specs.declared.challenge.Challenge.{Challenge}
+use Rattle.std.specs.{Prelude.ℕ, Prelude.zero, Prelude.suc, Prelude.◌==◌, Prelude.◌&&◌, Prelude.true, Prelude.List, Prelude.[], Prelude.◌∷◌, Prelude.◌++◌, Prelude.Option, Prelude.Some, Prelude.None}
+use Rattle.std.specs.{Prelude.find, Prelude.position, Prelude.map, Prelude.slice_get, Prelude.option_map, Prelude.option_and_then, Prelude.if◌then◌else◌, List.list_any, Str.bytes_eq}
+use Rattle.oat_verify.specs.{Image}
+use Rattle.oat_owner.specs.{declared.device.Known.Known, declared.challenge.Challenge.Challenge}
 
 pub record Ledger : Type 0 where
   pub known : List Known

@@ -1,22 +1,13 @@
 -- What an owner replies, by the devices that it knows and the challenges that it issued (docs/DEFINITIONS.md, "Owner's replies").
 -- What is looked at is looked at in this order, and the first that fails is answered.
 use Rattle.std.specs.Prelude.{◌≡◌, ◌<◌, ℕ, true, false, List, [], ◌∷◌, ◌++◌, length, slice_get, Some, None, Result, Ok, Err}
-use Rattle.oat_first.specs.First.{First, Tests}
-use Rattle.oat_map.specs.Rows.{IsOperation}
-use Rattle.oat_case.specs.declared.case.Session.{Session}
-use Rattle.oat_verify.specs.declared.verdict.Verdict.{Verdict}
+use Rattle.oat_verify.specs.{First, Tests, IsOperation, Session, declared.verdict.Verdict.Verdict, Verdict.subject_of, Verdict.IsVerdict}
+use Rattle.oat_owner.specs.{declared.device.Known.Known, declared.challenge.Challenge.Challenge, declared.owner.Issued.Issued, declared.owner.IssueFault.IssueFault, declared.owner.Answer.Answer}
+use Rattle.oat_owner.specs.{declared.owner.Answer.TheVariants.Accepted, declared.owner.Answer.TheVariants.Refused, Frames.Delivery, Frames.challenge_frame, Frames.IsAnswerFrame, Frames.IsFrameOffset}
+use Rattle.oat_owner.specs.{Ledger.Ledger, Ledger.challenge_limit, Ledger.device_of, Ledger.number_with, Ledger.number_to, Ledger.spent_at}
 use Rattle.oat_verify.specs.declared.verdict.Verdict.TheVariants as verdicts
-use Rattle.oat_verify.specs.Verdict.{subject_of, IsVerdict}
-use Rattle.oat_owner.specs.declared.device.Known.{Known}
-use Rattle.oat_owner.specs.declared.challenge.Challenge.{Challenge}
-use Rattle.oat_owner.specs.declared.owner.Issued.{Issued}
-use Rattle.oat_owner.specs.declared.owner.IssueFault.{IssueFault}
 use Rattle.oat_owner.specs.declared.owner.IssueFault.TheVariants as faults
-use Rattle.oat_owner.specs.declared.owner.Answer.{Answer}
-use Rattle.oat_owner.specs.declared.owner.Answer.TheVariants.{Accepted, Refused}
 use Rattle.oat_owner.specs.declared.owner.AnswerCause.TheVariants as causes
-use Rattle.oat_owner.specs.Frames.{Delivery, challenge_frame, IsAnswerFrame, IsFrameOffset}
-use Rattle.oat_owner.specs.Ledger.{Ledger, challenge_limit, device_of, number_with, number_to, spent_at}
 
 -- ---- a challenge is asked for
 

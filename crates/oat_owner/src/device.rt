@@ -5,7 +5,7 @@ ghost use Rattle.oat_owner.specs.Refusal.{IsOwnerFault};
 
 use indexmap::IndexSet;
 use oat_case::Key;
-use oat_shape::Shaped;
+use oat_verify::Shaped;
 use std::alloc::{AllocError, AllocFailed, Global};
 use std::marker::Model;
 

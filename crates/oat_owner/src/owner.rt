@@ -1,9 +1,9 @@
 ghost use Rattle.std.specs.Prelude.{◌≡◌, ◌<◌, [], Some, length, IfOk, IfErr, OnOk, OnErr};
+ghost use Rattle.oat_verify.specs.{IsOperation};
 ghost use Rattle.oat_owner.specs.Ledger.{repeated_id, shaped_of};
 ghost use Rattle.oat_owner.specs.Refusal.{IsOwnerFault};
 ghost use Rattle.oat_owner.specs.Replies.{IssuesOrStarves, IsAnswerReply, behind_issue, behind_answer, judged, challenge_session};
 ghost use Rattle.oat_owner.specs.Exchanges.{IsReply, behind};
-ghost use Rattle.oat_map.specs.Rows.{IsOperation};
 ghost use Rattle.oat_verify.specs.Verdict.{subject_of, IsVerdict};
 
 use crate::call::{OwnerCall, OwnerReply};
@@ -12,9 +12,7 @@ use crate::device::{Devices, Known, OwnerRefusal};
 use crate::frame::{challenge_frame, read_answer};
 use oat_case::{Bytes, Session};
 use oat_list::Listed;
-use oat_map::Path;
-use oat_shape::Shaped;
-use oat_verify::{Cause, Verdict, verify};
+use oat_verify::{Cause, Path, Shaped, Verdict, verify};
 use std::alloc::{AllocError, Global};
 use std::marker::Model;
 

@@ -1,29 +1,19 @@
 -- What the assembler and the expansion ask of items holds of items in parts, and then of what becomes of them.
 use Rattle.std.proofs.Common.{◌≡◌, ℕ, ◌+◌, ◌^◌, ◌<◌, ◌≤◌, List, [], ◌∷◌, refl, sym, ap, ◌∙◌, subst, Bool, false, cond, Some, arith, inl, inr, eq-eqb}
-use Rattle.std.specs.Prelude.{slice_get, Contains, nat_eq, ⊤}
-use Rattle.std.specs.List.{AllByRecursion, count_by}
-use Rattle.std.proofs.lemmas.Bool.{ne_eqb, cases_eq}
-use Rattle.std.proofs.lemmas.Option.{slice_get_within}
-use Rattle.std.proofs.lemmas.List.Sums.{sum_by-cons, sum_by-append}
-use Rattle.oat_a64.specs.Table.{IsInRange}
-use Rattle.oat_asm.specs.declared.mark.Mark.{Mark}
-use Rattle.oat_asm.specs.declared.mark.Mark.TheVariants.{Jump, Branch, Call, Begin, End, UseCell, DefCell, UseAt, DefAt}
-use Rattle.oat_asm.specs.declared.note.Note.TheVariants.{Check}
-use Rattle.oat_asm.specs.declared.item.Item.{Item}
+use Rattle.std.specs.{Prelude.slice_get, Prelude.Contains, Prelude.nat_eq, Prelude.⊤, List.AllByRecursion, List.count_by}
+use Rattle.std.proofs.lemmas.{Bool.ne_eqb, Bool.cases_eq, Option.slice_get_within, List.Sums.sum_by-cons, List.Sums.sum_by-append}
+use Rattle.oat_asm.specs.{IsInRange, declared.mark.Mark.Mark, declared.mark.Mark.TheVariants.Jump, declared.mark.Mark.TheVariants.Branch, declared.mark.Mark.TheVariants.Call}
+use Rattle.oat_asm.specs.{declared.mark.Mark.TheVariants.Begin, declared.mark.Mark.TheVariants.End, declared.mark.Mark.TheVariants.UseCell, declared.mark.Mark.TheVariants.DefCell}
+use Rattle.oat_asm.specs.{declared.mark.Mark.TheVariants.UseAt, declared.mark.Mark.TheVariants.DefAt, declared.note.Note.TheVariants.Check, declared.item.Item.Item, Items.words_needed, Items.is_label}
+use Rattle.oat_asm.specs.{Items.code_limit, Items.StandsOnce, Expansion.expansion, ExpansionLaws.IsMark, ExpansionLaws.LeadsTo, StandingLaws.CanBeAssembled, StandingLaws.LabelsStandOnce, IsIndex}
+use Rattle.oat_asm.specs.{IsLength, AreElements}
+use Rattle.oat_asm.proofs.{LayoutLaws.counted, ExpansionProofs.leaves_no_mark, ExpansionProofs.keeps_labels, ExpansionProofs.uses_once, ExpansionProofs.stays_in_range}
+use Rattle.oat_parts.specs.{Symbols.SymbolTable, Symbols.IsSymbolTable, Symbols.AreDistinct, Symbols.labels_of, Parts.CodePart, Parts.simple, Parts.label, Parts.reference, Parts.mark, Parts.check}
+use Rattle.oat_parts.specs.{Parts.items_of, Parts.all_items, Parts.IsMarkOf, Parts.IsCodePart, Parts.labels_in_part, Parts.labels_in, Parts.IsMadeOfParts, Parts.AreInParts, Built.CanBeExpanded}
+use Rattle.oat_parts.specs.{Built.PartsCanBeExpanded, Built.PartsHaveTheLabels}
+use Rattle.oat_parts.proofs.{Lists.not_in_none, Lists.only_in, Lists.in_flat_map, Lists.first_in, Lists.later_in, Lists.cons_cases, Lists.in_get, Lists.all_get, Lists.all_in, Lists.of_flat_map}
+use Rattle.oat_parts.proofs.{Orders.function_in_labels, Orders.block_in_labels}
 use Rattle.oat_asm.specs.declared.item.Item.TheVariants as item
-use Rattle.oat_asm.specs.Items.{words_needed, is_label, code_limit, StandsOnce}
-use Rattle.oat_asm.specs.Expansion.{expansion}
-use Rattle.oat_asm.specs.ExpansionLaws.{IsMark, LeadsTo}
-use Rattle.oat_asm.specs.StandingLaws.{CanBeAssembled, LabelsStandOnce}
-use Rattle.oat_asm.proofs.LayoutLaws.{counted}
-use Rattle.oat_asm.proofs.ExpansionProofs.{leaves_no_mark, keeps_labels, uses_once, stays_in_range}
-use Rattle.oat_image.specs.Grammar.{IsIndex, IsLength}
-use Rattle.oat_shape.specs.Groups.{AreElements}
-use Rattle.oat_parts.specs.Symbols.{SymbolTable, IsSymbolTable, AreDistinct, labels_of}
-use Rattle.oat_parts.specs.Parts.{CodePart, simple, label, reference, mark, check, items_of, all_items, IsMarkOf, IsCodePart, labels_in_part, labels_in, IsMadeOfParts, AreInParts}
-use Rattle.oat_parts.specs.Built.{CanBeExpanded, PartsCanBeExpanded, PartsHaveTheLabels}
-use Rattle.oat_parts.proofs.Lists.{not_in_none, only_in, in_flat_map, first_in, later_in, cons_cases, in_get, all_get, all_in, of_flat_map}
-use Rattle.oat_parts.proofs.Orders.{function_in_labels, block_in_labels}
 
 -- ---- each item
 

@@ -1,34 +1,17 @@
 -- The image of items in parts stands on its parts. So its items stand in it, it is well formed, and it has the shape.
 use Rattle.std.proofs.Common.{◌≡◌, ℕ, zero, suc, ◌+◌, ◌*◌, ◌<◌, ◌≤◌, List, [], ◌∷◌, ◌++◌, map, refl, sym, ap, ◌∙◌, subst, Bool, true, false, cond, Some, arith}
-use Rattle.std.specs.Prelude.{slice_get, find, nat_le, nat_lt}
-use Rattle.std.specs.List.{flat_map, position_or_len}
-use Rattle.std.proofs.lemmas.Bool.{le-leb, lt-ltb, le-ltb, and_from, and_right}
-use Rattle.std.proofs.lemmas.List.{map-append}
-use Rattle.oat_a64.specs.Laws.{FetchesByTheTable}
-use Rattle.oat_a64.specs.Step.{code_base}
-use Rattle.oat_map.specs.declared.row.Row.{Row}
-use Rattle.oat_map.specs.Rows.{address_of, word_count, is_over, row_over}
-use Rattle.oat_asm.specs.declared.assembled.NoteAt.{NoteAt}
-use Rattle.oat_asm.specs.declared.item.Item.{Item}
-use Rattle.oat_asm.specs.Giving.{gives_from}
-use Rattle.oat_asm.specs.Items.{item_words, words_needed, label_place, address, is_label, code_limit}
-use Rattle.oat_asm.specs.Layout.{notes_of_item, items_give, layout}
-use Rattle.oat_asm.specs.Expansion.{expansion}
-use Rattle.oat_asm.specs.Standing.{ItemsStand}
-use Rattle.oat_asm.specs.StandingLaws.{RowsAreOver}
-use Rattle.oat_asm.specs.NoteRows.{row_of}
-use Rattle.oat_asm.proofs.Giving.{before_within, words-flat, gives-flat}
-use Rattle.oat_asm.proofs.StandingItems.{laid_items_stand, laid_words_encode}
-use Rattle.oat_parts.specs.Symbols.{FunctionSymbol, SymbolTable, IsSymbolTable, AreDistinct, Rises, labels_of, functions_of}
-use Rattle.oat_parts.specs.Parts.{CodePart, label, expanded_part, part_words, labels_in, AreInParts}
-use Rattle.oat_parts.specs.Built.{built_address, row_at, built_image, Signature, in_map, in_table, BuiltImagesAreShaped, BuiltItemsStand, BuiltLabelsRise}
-use Rattle.oat_parts.proofs.Lists.{in_get, in_map as in_mapped}
-use Rattle.oat_parts.proofs.Views.{all_words, part_place, label_at, rows_in, rows_given, expanded_parts}
-use Rattle.oat_parts.proofs.Spacing.{part_labelled, labels_rise}
-use Rattle.oat_parts.proofs.Assembling.{can_be_assembled, labels_once}
-use Rattle.oat_parts.proofs.Grounds.{Ground}
-use Rattle.oat_parts.proofs.Rules.{AreBehind, behind_next, rows_behind, s1, s2, s3, s4, s5, s6, s7, operation_begins, begin_is_operation}
-use Rattle.oat_parts.proofs.Naming.{s8, well_formed}
+use Rattle.std.specs.{Prelude.slice_get, Prelude.find, Prelude.nat_le, Prelude.nat_lt, List.flat_map, List.position_or_len}
+use Rattle.std.proofs.lemmas.{Bool.le-leb, Bool.lt-ltb, Bool.le-ltb, Bool.and_from, Bool.and_right, List.map-append}
+use Rattle.oat_asm.specs.{FetchesByTheTable, code_base, Row, address_of, word_count, is_over, row_over, declared.assembled.NoteAt.NoteAt, declared.item.Item.Item, Giving.gives_from, Items.item_words}
+use Rattle.oat_asm.specs.{Items.words_needed, Items.label_place, Items.address, Items.is_label, Items.code_limit, Layout.notes_of_item, Layout.items_give, Layout.layout, Expansion.expansion}
+use Rattle.oat_asm.specs.{Standing.ItemsStand, StandingLaws.RowsAreOver, NoteRows.row_of}
+use Rattle.oat_asm.proofs.{Giving.before_within, Giving.words-flat, Giving.gives-flat, StandingItems.laid_items_stand, StandingItems.laid_words_encode}
+use Rattle.oat_parts.specs.{Symbols.FunctionSymbol, Symbols.SymbolTable, Symbols.IsSymbolTable, Symbols.AreDistinct, Symbols.Rises, Symbols.labels_of, Symbols.functions_of, Parts.CodePart}
+use Rattle.oat_parts.specs.{Parts.label, Parts.expanded_part, Parts.part_words, Parts.labels_in, Parts.AreInParts, Built.built_address, Built.row_at, Built.built_image, Built.Signature, Built.in_map}
+use Rattle.oat_parts.specs.{Built.in_table, Built.BuiltImagesAreShaped, Built.BuiltItemsStand, Built.BuiltLabelsRise}
+use Rattle.oat_parts.proofs.{Lists.in_get, Lists.in_map as in_mapped, Views.all_words, Views.part_place, Views.label_at, Views.rows_in, Views.rows_given, Views.expanded_parts, Spacing.part_labelled}
+use Rattle.oat_parts.proofs.{Spacing.labels_rise, Assembling.can_be_assembled, Assembling.labels_once, Grounds.Ground, Rules.AreBehind, Rules.behind_next, Rules.rows_behind, Rules.s1, Rules.s2}
+use Rattle.oat_parts.proofs.{Rules.s3, Rules.s4, Rules.s5, Rules.s6, Rules.s7, Rules.operation_begins, Rules.begin_is_operation, Naming.s8, Naming.well_formed}
 
 -- ---- one row is over an address
 

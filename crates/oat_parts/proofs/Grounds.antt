@@ -1,28 +1,15 @@
 -- What is known of an image that is built of parts: what stands at each part, and which part each row and each word is of.
-use Rattle.std.proofs.Common.{◌≡◌, ℕ, zero, suc, ◌+◌, ◌-◌, ◌*◌, ◌/◌, ◌%◌, ◌<◌, ◌≤◌, List, [], ◌∷◌, length, refl, sym, ap, ◌∙◌, subst, Bool, true, false, cond, Option, Some, None, arith, inl, inr, eqb, leb, eqb-true}
-use Rattle.std.specs.Prelude.{slice_get, Contains, IsSome, ◌&&◌}
-use Rattle.std.specs.List.{AllByRecursion, flat_map}
-use Rattle.std.specs.Option.{option_and_then}
-use Rattle.std.proofs.lemmas.Bool.{leb-true}
-use Rattle.std.proofs.lemmas.Option.{slice_get_within}
-use Rattle.oat_a64.specs.declared.inst.Inst.{Inst}
-use Rattle.oat_a64.specs.Fetch.{inst_of}
-use Rattle.oat_a64.specs.Step.{code_base, word_at}
-use Rattle.oat_map.specs.declared.row.Row.{Row}
-use Rattle.oat_map.specs.Rows.{address_of, word_count}
-use Rattle.oat_image.specs.declared.image.Image.{Image}
-use Rattle.oat_asm.specs.Giving.{gives_from}
-use Rattle.oat_asm.specs.Items.{address, code_limit}
-use Rattle.oat_asm.specs.Standing.{ItemsStand}
-use Rattle.oat_asm.specs.StandingLaws.{IsEncoded}
-use Rattle.oat_asm.proofs.Giving.{before_next, before_within, GivenBy, given_by, gives_at}
-use Rattle.oat_asm.proofs.LayoutLaws.{word_at_place}
-use Rattle.oat_asm.proofs.StandingItems.{stand_in_two}
-use Rattle.oat_shape.specs.Groups.{Stands, IsGroup}
-use Rattle.oat_parts.specs.Symbols.{SymbolTable, IsSymbolTable, operations_in, labels_of, functions_of, blocks_of}
-use Rattle.oat_parts.specs.Parts.{CodePart, label, expanded_part, part_words, IsCodePart, ArePaced, labels_in, begun_in}
-use Rattle.oat_parts.proofs.Lists.{not_in_none, cons_cases, all_get, all_in}
-use Rattle.oat_parts.proofs.Views.{all_words, part_place, label_at, rows_in, Kind, loose, grouped, kind, PartStands, group_stands}
+use Rattle.std.proofs.Common.{◌≡◌, ℕ, zero, suc, ◌+◌, ◌-◌, ◌*◌, ◌/◌, ◌%◌, ◌<◌, ◌≤◌, List, [], ◌∷◌, length, refl, sym, ap, ◌∙◌, subst, Bool, true, false, cond, Option, Some, None, arith, inl, inr, eqb}
+use Rattle.std.proofs.Common.{leb, eqb-true}
+use Rattle.std.specs.{Prelude.slice_get, Prelude.Contains, Prelude.IsSome, Prelude.◌&&◌, List.AllByRecursion, List.flat_map, Option.option_and_then}
+use Rattle.std.proofs.lemmas.{Bool.leb-true, Option.slice_get_within}
+use Rattle.oat_asm.specs.{Inst, inst_of, code_base, word_at, Row, address_of, word_count, Image, Giving.gives_from, Items.address, Items.code_limit, Standing.ItemsStand, StandingLaws.IsEncoded}
+use Rattle.oat_asm.specs.{Stands, IsGroup}
+use Rattle.oat_asm.proofs.{Giving.before_next, Giving.before_within, Giving.GivenBy, Giving.given_by, Giving.gives_at, LayoutLaws.word_at_place, StandingItems.stand_in_two}
+use Rattle.oat_parts.specs.{Symbols.SymbolTable, Symbols.IsSymbolTable, Symbols.operations_in, Symbols.labels_of, Symbols.functions_of, Symbols.blocks_of, Parts.CodePart, Parts.label}
+use Rattle.oat_parts.specs.{Parts.expanded_part, Parts.part_words, Parts.IsCodePart, Parts.ArePaced, Parts.labels_in, Parts.begun_in}
+use Rattle.oat_parts.proofs.{Lists.not_in_none, Lists.cons_cases, Lists.all_get, Lists.all_in, Views.all_words, Views.part_place, Views.label_at, Views.rows_in, Views.Kind, Views.loose, Views.grouped}
+use Rattle.oat_parts.proofs.{Views.kind, Views.PartStands, Views.group_stands}
 
 pub record Ground (t : SymbolTable) (i : Image) (to : ℕ → ℕ) (ps : List CodePart) : Type 0 where
   pub table : IsSymbolTable t

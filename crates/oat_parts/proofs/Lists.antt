@@ -1,10 +1,8 @@
 -- Lists: what they contain, distinct elements, and measures that rise.
 use Rattle.std.proofs.Common.{◌≡◌, ℕ, zero, suc, ◌+◌, ◌<◌, ◌≤◌, List, [], ◌∷◌, ◌++◌, length, map, refl, sym, ap, ◌∙◌, subst, Some, arith, inl, inr, get_or}
-use Rattle.std.specs.Prelude.{slice_get, Contains, ◌⊎◌}
-use Rattle.std.specs.List.{AllByRecursion, flat_map}
-use Rattle.std.proofs.lemmas.List.Elements.{Contains-append_left, Contains-append_right, Contains-append_cases}
-use Rattle.std.proofs.lemmas.Bool.{cases_lt}
-use Rattle.std.proofs.lemmas.Option.{slice_get_within, slice_get-get_or, get_or_from_slice_get}
+use Rattle.std.specs.{Prelude.slice_get, Prelude.Contains, Prelude.◌⊎◌, List.AllByRecursion, List.flat_map}
+use Rattle.std.proofs.lemmas.{List.Elements.Contains-append_left, List.Elements.Contains-append_right, List.Elements.Contains-append_cases, Bool.cases_lt, Option.slice_get_within}
+use Rattle.std.proofs.lemmas.{Option.slice_get-get_or, Option.get_or_from_slice_get}
 use Rattle.oat_parts.specs.Symbols.{AreDistinct, Rises, up_from}
 
 pub not_in_none : {A : Type 0} (x : A) → Contains [] x → ⊥

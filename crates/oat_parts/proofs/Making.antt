@@ -1,19 +1,15 @@
 -- Items that are made of parts, by construction.
 use Rattle.std.proofs.Common.{◌≡◌, ℕ, ◌+◌, ◌≤◌, List, [], ◌∷◌, ◌++◌, length, refl, sym, ap, ◌∙◌, subst, Bool, true, false, arith}
-use Rattle.std.specs.List.{AllByRecursion}
-use Rattle.std.specs.Option.{option_to_list}
+use Rattle.std.specs.{List.AllByRecursion, Option.option_to_list}
 use Rattle.std.proofs.lemmas.List.Concat.{flat_map-append}
+use Rattle.oat_asm.specs.{declared.item.Item.Item, Items.item_words, Items.words_needed, Expansion.expanded, Expansion.expansion}
 use Rattle.oat_asm.proofs.Giving.{words-append, words-flat}
-use Rattle.oat_asm.specs.declared.item.Item.{Item}
+use Rattle.oat_parts.specs.{Symbols.FunctionSymbol, Symbols.SymbolTable, Symbols.up_from, Symbols.own_labels, Symbols.labels_from, Symbols.operations_in, Parts.CodePart, Parts.label, Parts.items_of}
+use Rattle.oat_parts.specs.{Parts.all_items, Parts.expanded_part, Parts.waits, Parts.MayFollow, Parts.IsCodePart, Parts.ArePaced, Parts.labels_in_part, Parts.labels_in, Parts.begun_by, Parts.begun_in}
+use Rattle.oat_parts.specs.{Parts.IsMadeOfParts, Making.PartsJoin, Making.PartsBehindLabel, Making.FunctionCode, Making.blocks_code, Making.code_from, Making.IsStretch, Making.IsFunctionCode}
+use Rattle.oat_parts.specs.{Making.AreCodes, Making.CodesAreInParts, Making.words_become, Making.WordsAdd, Making.blocks_words, Making.CodesHaveTheirWords}
+use Rattle.oat_parts.proofs.{Lists.all_join, Views.all_words, Views.expanded_parts, Spacing.Sort, Spacing.labels, Spacing.worded, Spacing.sort}
 use Rattle.oat_asm.specs.declared.item.Item.TheVariants as item
-use Rattle.oat_asm.specs.Items.{item_words, words_needed}
-use Rattle.oat_asm.specs.Expansion.{expanded, expansion}
-use Rattle.oat_parts.specs.Symbols.{FunctionSymbol, SymbolTable, up_from, own_labels, labels_from, operations_in}
-use Rattle.oat_parts.specs.Parts.{CodePart, label, items_of, all_items, expanded_part, waits, MayFollow, IsCodePart, ArePaced, labels_in_part, labels_in, begun_by, begun_in, IsMadeOfParts}
-use Rattle.oat_parts.specs.Making.{PartsJoin, PartsBehindLabel, FunctionCode, blocks_code, code_from, IsStretch, IsFunctionCode, AreCodes, CodesAreInParts, words_become, WordsAdd, blocks_words, CodesHaveTheirWords}
-use Rattle.oat_parts.proofs.Lists.{all_join}
-use Rattle.oat_parts.proofs.Views.{all_words, expanded_parts}
-use Rattle.oat_parts.proofs.Spacing.{Sort, labels, worded, sort}
 
 paced_join : (waiting : Bool) (xs ys : List CodePart) → ArePaced waiting xs → ArePaced false ys → ArePaced waiting (xs ++ ys)
 paced_join waiting [] ys first second = subst (λ (w : Bool). ArePaced w ys) (sym first) second

@@ -1,31 +1,15 @@
 -- The rule of names, and that the image is well formed.
 use Rattle.std.proofs.Common.{◌≡◌, ℕ, suc, ◌+◌, ◌^◌, ◌<◌, ◌≤◌, List, [], ◌∷◌, ◌++◌, length, map, refl, sym, ap, ◌∙◌, subst, false, Some, arith}
-use Rattle.std.specs.Prelude.{slice_get, Contains}
-use Rattle.std.specs.List.{AllByRecursion}
-use Rattle.std.specs.List.Sorted.{IsStrictlyIncreasing}
-use Rattle.oat_asm.specs.Giving.{gives_from}
-use Rattle.oat_asm.specs.StandingLaws.{IsEncoded}
-use Rattle.oat_map.specs.declared.map.Function.{Function}
-use Rattle.oat_map.specs.declared.map.Block.{Block}
-use Rattle.oat_map.specs.declared.row.Row.{Row}
-use Rattle.oat_map.specs.Name.{IsName}
-use Rattle.oat_map.specs.Rows.{entries_of, starts_of, word_count as row_words}
-use Rattle.oat_image.specs.declared.image.InitWord.{InitWord}
-use Rattle.oat_image.specs.declared.image.Image.{Image}
-use Rattle.oat_image.specs.Grammar.{IsWellFormedImage, IsWord, IsFunction, IsBlock, IsRow, IsInitWord, IsIndex, IsSection}
-use Rattle.oat_shape.specs.Shape.{Everywhere}
-use Rattle.oat_shape.specs.MapRules.{S8, HasOwnName, IsPlaced}
-use Rattle.oat_parts.specs.Symbols.{FunctionSymbol, SymbolTable, IsFunctionSymbol, AreDistinct, Rises, function_labels, block_labels, blocks_in, labels_of, function_at}
-use Rattle.oat_parts.specs.Parts.{CodePart, part_words}
-use Rattle.oat_parts.proofs.Lists.{first_in, get_in, get_map, map_get, of_map, all_join, map_length, all_get, all_in, distinct_get}
-use Rattle.oat_parts.proofs.Views.{all_words, part_place, label_at, rows_in, Kind, loose, grouped, kind}
-use Rattle.oat_parts.proofs.Spacing.{labels_rise, labels_few}
-use Rattle.oat_parts.proofs.Orders.{entries_are, starts_are, block_names_are, names_are, labels_length, functions_rise, blocks_rise, kinds_apart, owner, Between, between, increasing}
-use Rattle.oat_parts.proofs.Assembling.{cells_fit}
-use Rattle.oat_parts.proofs.Grounds.{Ground, row_is, part_is, near}
-use Rattle.oat_parts.proofs.Rows.{row_range}
-use Rattle.oat_parts.proofs.Rules.{label_boundary, entry_label, entry_there, function_listed}
-use Rattle.oat_parts.proofs.WordBounds.{word_fits}
+use Rattle.std.specs.{Prelude.slice_get, Prelude.Contains, List.AllByRecursion, List.Sorted.IsStrictlyIncreasing}
+use Rattle.oat_asm.specs.{Giving.gives_from, StandingLaws.IsEncoded, Function, Block, Row, IsName, entries_of, starts_of, word_count as row_words, InitWord, Image, IsWellFormedImage, IsWord}
+use Rattle.oat_asm.specs.{IsFunction, IsBlock, IsRow, IsInitWord, IsIndex, IsSection, Everywhere, S8, HasOwnName, IsPlaced}
+use Rattle.oat_parts.specs.{Symbols.FunctionSymbol, Symbols.SymbolTable, Symbols.IsFunctionSymbol, Symbols.AreDistinct, Symbols.Rises, Symbols.function_labels, Symbols.block_labels, Symbols.blocks_in}
+use Rattle.oat_parts.specs.{Symbols.labels_of, Symbols.function_at, Parts.CodePart, Parts.part_words}
+use Rattle.oat_parts.proofs.{Lists.first_in, Lists.get_in, Lists.get_map, Lists.map_get, Lists.of_map, Lists.all_join, Lists.map_length, Lists.all_get, Lists.all_in, Lists.distinct_get}
+use Rattle.oat_parts.proofs.{Views.all_words, Views.part_place, Views.label_at, Views.rows_in, Views.Kind, Views.loose, Views.grouped, Views.kind, Spacing.labels_rise, Spacing.labels_few}
+use Rattle.oat_parts.proofs.{Orders.entries_are, Orders.starts_are, Orders.block_names_are, Orders.names_are, Orders.labels_length, Orders.functions_rise, Orders.blocks_rise, Orders.kinds_apart}
+use Rattle.oat_parts.proofs.{Orders.owner, Orders.Between, Orders.between, Orders.increasing, Assembling.cells_fit, Grounds.Ground, Grounds.row_is, Grounds.part_is, Grounds.near, Rows.row_range}
+use Rattle.oat_parts.proofs.{Rules.label_boundary, Rules.entry_label, Rules.entry_there, Rules.function_listed, WordBounds.word_fits}
 
 own_names : (es : List FunctionSymbol) → AllByRecursion IsFunctionSymbol es → AllByRecursion (λ (e : FunctionSymbol). AreDistinct e.blocks) es
 own_names [] each = tt

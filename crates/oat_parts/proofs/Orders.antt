@@ -1,17 +1,11 @@
 -- The labels of a program in their order, and the functions and blocks of its map.
 use Rattle.std.proofs.Common.{◌≡◌, ℕ, zero, suc, ◌+◌, ◌-◌, ◌<◌, List, [], ◌∷◌, ◌++◌, length, map, refl, sym, ap, ◌∙◌, subst, Some, arith, inl, inr, length-append, get_or}
-use Rattle.std.specs.Prelude.{slice_get, Contains}
-use Rattle.std.specs.List.{AllByRecursion}
-use Rattle.std.specs.List.Sorted.{IsStrictlyIncreasing}
-use Rattle.std.proofs.lemmas.Bool.{cases_lt}
-use Rattle.std.proofs.lemmas.List.{map-append}
-use Rattle.std.proofs.lemmas.List.Elements.{Contains-append_left, Contains-append_right, Contains-append_cases}
-use Rattle.std.proofs.lemmas.Option.{slice_get-get_or}
-use Rattle.oat_map.specs.declared.map.Function.{Function}
-use Rattle.oat_map.specs.declared.map.Block.{Block}
+use Rattle.std.specs.{Prelude.slice_get, Prelude.Contains, List.AllByRecursion, List.Sorted.IsStrictlyIncreasing}
+use Rattle.std.proofs.lemmas.{Bool.cases_lt, List.map-append, List.Elements.Contains-append_left, List.Elements.Contains-append_right, List.Elements.Contains-append_cases, Option.slice_get-get_or}
+use Rattle.oat_asm.specs.{Function, Block}
+use Rattle.oat_asm.proofs.Giving.{get_right}
 use Rattle.oat_parts.specs.Symbols.{FunctionSymbol, AreDistinct, Rises, up_from, own_labels, function_labels, block_labels, blocks_in, labels_from, functions_of, blocks_from, blocks_of}
 use Rattle.oat_parts.proofs.Lists.{not_in_none, first_in, later_in, cons_cases, get_in, get_map, map_length, distinct_get, get_before, rises_parts, rises_join, rises_get}
-use Rattle.oat_asm.proofs.Giving.{get_right}
 
 -- ---- the functions and blocks of the map by their labels
 

@@ -1,21 +1,15 @@
 -- What each row of a part is like: it stays in its ranges, leads to places, and begins or ends an operation of the program.
 use Rattle.std.proofs.Common.{◌≡◌, ℕ, ◌^◌, ◌<◌, ◌≤◌, List, [], ◌∷◌, refl, subst, Bool, true, false, arith}
-use Rattle.std.specs.Prelude.{Contains}
-use Rattle.std.specs.List.{AllByRecursion}
+use Rattle.std.specs.{Prelude.Contains, List.AllByRecursion}
 use Rattle.std.proofs.lemmas.Bool.{false≢true}
-use Rattle.oat_a64.specs.Step.{code_base}
-use Rattle.oat_map.specs.declared.row.Row.{Row}
+use Rattle.oat_asm.specs.{code_base, Row, is_call, Items.address, Items.code_limit, declared.mark.Mark.TheVariants.Jump, declared.mark.Mark.TheVariants.Branch, declared.mark.Mark.TheVariants.Call}
+use Rattle.oat_asm.specs.{declared.mark.Mark.TheVariants.ICall, declared.mark.Mark.TheVariants.Ret, declared.mark.Mark.TheVariants.Begin, declared.mark.Mark.TheVariants.End}
+use Rattle.oat_asm.specs.{declared.mark.Mark.TheVariants.UseCell, declared.mark.Mark.TheVariants.DefCell, declared.mark.Mark.TheVariants.UseAt, declared.mark.Mark.TheVariants.DefAt, IsRow}
+use Rattle.oat_asm.specs.{LeadsToPlaces}
+use Rattle.oat_parts.specs.{Symbols.SymbolTable, Symbols.IsFunctionLabel, Symbols.IsBlockLabel, Symbols.operations_in, Parts.CodePart, Parts.simple, Parts.label, Parts.reference, Parts.mark}
+use Rattle.oat_parts.specs.{Parts.check, Parts.IsCodePart, Parts.waits, Parts.begun_by}
+use Rattle.oat_parts.proofs.{Lists.not_in_none, Lists.only_in, Views.label_at, Views.rows_in, Assembling.CellsFit}
 use Rattle.oat_map.specs.declared.row.Row.TheVariants as rows
-use Rattle.oat_map.specs.Rows.{is_call}
-use Rattle.oat_asm.specs.Items.{address, code_limit}
-use Rattle.oat_asm.specs.declared.mark.Mark.TheVariants.{Jump, Branch, Call, ICall, Ret, Begin, End, UseCell, DefCell, UseAt, DefAt}
-use Rattle.oat_image.specs.Grammar.{IsRow}
-use Rattle.oat_shape.specs.MapRules.{LeadsToPlaces}
-use Rattle.oat_parts.specs.Symbols.{SymbolTable, IsFunctionLabel, IsBlockLabel, operations_in}
-use Rattle.oat_parts.specs.Parts.{CodePart, simple, label, reference, mark, check, IsCodePart, waits, begun_by}
-use Rattle.oat_parts.proofs.Lists.{not_in_none, only_in}
-use Rattle.oat_parts.proofs.Views.{label_at, rows_in}
-use Rattle.oat_parts.proofs.Assembling.{CellsFit}
 
 -- ---- a call waits for a word
 

@@ -1,32 +1,18 @@
 -- The rules of shape, of an image that is built of parts.
 use Rattle.std.proofs.Common.{◌≡◌, ℕ, zero, suc, ◌+◌, ◌*◌, ◌%◌, ◌^◌, ◌<◌, ◌≤◌, List, [], ◌∷◌, ◌++◌, refl, sym, ap, ◌∙◌, subst, true, false, Some, arith, inl, inr}
-use Rattle.std.specs.Prelude.{slice_get, Contains, IsTrue, IsSome, ◌||◌}
-use Rattle.std.specs.List.{flat_map}
-use Rattle.std.specs.Option.{is_some}
+use Rattle.std.specs.{Prelude.slice_get, Prelude.Contains, Prelude.IsTrue, Prelude.IsSome, Prelude.◌||◌, List.flat_map, Option.is_some}
 use Rattle.std.proofs.lemmas.Bool.{cases_lt, false≢true}
-use Rattle.oat_a64.specs.declared.inst.Inst.{Inst}
-use Rattle.oat_a64.specs.Kinds.{is_transfer, is_measured}
-use Rattle.oat_a64.specs.Laws.{FetchesByTheTable}
-use Rattle.oat_a64.specs.Step.{code_base, word_at}
-use Rattle.oat_map.specs.declared.row.Row.{Row}
-use Rattle.oat_map.specs.declared.row.Row.TheVariants as rows
-use Rattle.oat_map.specs.Rows.{address_of, word_count as row_words, after, entries_of, starts_of, is_call, IsOperation}
-use Rattle.oat_image.specs.declared.image.Image.{Image}
-use Rattle.oat_asm.specs.Giving.{gives_from}
-use Rattle.oat_asm.specs.StandingLaws.{IsEncoded}
-use Rattle.oat_shape.specs.Groups.{Stands}
-use Rattle.oat_asm.specs.Items.{address, code_limit}
-use Rattle.oat_shape.specs.Shape.{S1, S3, S5, S6, Everywhere, IsPlaceOrSite, Covers}
-use Rattle.oat_shape.specs.MapRules.{S2, S4, S7, IsPaired, LeadsToPlaces}
-use Rattle.oat_parts.specs.Symbols.{SymbolTable, AreDistinct, IsFunctionLabel, IsBlockLabel, function_labels, block_labels, operations_in, labels_of}
-use Rattle.oat_parts.specs.Parts.{CodePart, label, part_words, waits, IsLoose, labels_in_part, begun_by}
-use Rattle.oat_parts.proofs.Lists.{not_in_none, first_in, only_in, get_in, all_in, in_map, of_map, of_flat_map, in_flat_map, distinct_parts}
+use Rattle.oat_asm.specs.{Inst, is_transfer, is_measured, FetchesByTheTable, code_base, word_at, Row, address_of, word_count as row_words, after, entries_of, starts_of, is_call, IsOperation, Image}
+use Rattle.oat_asm.specs.{Giving.gives_from, StandingLaws.IsEncoded, Stands, Items.address, Items.code_limit, S1, S3, S5, S6, Everywhere, IsPlaceOrSite, Covers, S2, S4, S7, IsPaired, LeadsToPlaces}
 use Rattle.oat_asm.proofs.Giving.{before_next, before_grows}
-use Rattle.oat_parts.proofs.Views.{all_words, part_place, part_at, label_at, rows_in, Kind, loose, grouped, kind, loose_there}
-use Rattle.oat_parts.proofs.Spacing.{followed}
-use Rattle.oat_parts.proofs.Orders.{entries_are, starts_are, function_in_labels, block_in_labels}
-use Rattle.oat_parts.proofs.Grounds.{Ground, fetched, RowIs, row_is, row_there, part_is, part_stands, word_within}
-use Rattle.oat_parts.proofs.Rows.{calls, call_waits, row_leads, begun_by_row, begun_by_rows, rows_begin, begun_has_row, EndsOneOf, row_ends}
+use Rattle.oat_parts.specs.{Symbols.SymbolTable, Symbols.AreDistinct, Symbols.IsFunctionLabel, Symbols.IsBlockLabel, Symbols.function_labels, Symbols.block_labels, Symbols.operations_in}
+use Rattle.oat_parts.specs.{Symbols.labels_of, Parts.CodePart, Parts.label, Parts.part_words, Parts.waits, Parts.IsLoose, Parts.labels_in_part, Parts.begun_by}
+use Rattle.oat_parts.proofs.{Lists.not_in_none, Lists.first_in, Lists.only_in, Lists.get_in, Lists.all_in, Lists.in_map, Lists.of_map, Lists.of_flat_map, Lists.in_flat_map, Lists.distinct_parts}
+use Rattle.oat_parts.proofs.{Views.all_words, Views.part_place, Views.part_at, Views.label_at, Views.rows_in, Views.Kind, Views.loose, Views.grouped, Views.kind, Views.loose_there, Spacing.followed}
+use Rattle.oat_parts.proofs.{Orders.entries_are, Orders.starts_are, Orders.function_in_labels, Orders.block_in_labels, Grounds.Ground, Grounds.fetched, Grounds.RowIs, Grounds.row_is}
+use Rattle.oat_parts.proofs.{Grounds.row_there, Grounds.part_is, Grounds.part_stands, Grounds.word_within, Rows.calls, Rows.call_waits, Rows.row_leads, Rows.begun_by_row, Rows.begun_by_rows}
+use Rattle.oat_parts.proofs.{Rows.rows_begin, Rows.begun_has_row, Rows.EndsOneOf, Rows.row_ends}
+use Rattle.oat_map.specs.declared.row.Row.TheVariants as rows
 
 -- ---- groups lie one behind the other
 

@@ -1,19 +1,13 @@
 -- Labels among parts: where they stand, that they rise, and that a word follows each label and each call.
 use Rattle.std.proofs.Common.{◌≡◌, ℕ, zero, suc, ◌+◌, ◌<◌, ◌≤◌, List, [], ◌∷◌, ◌++◌, length, refl, sym, ap, ◌∙◌, subst, Bool, true, false, cond, Some, arith, inl, inr, eq-eqb}
-use Rattle.std.specs.Prelude.{slice_get, Contains, nat_eq}
-use Rattle.std.specs.List.{count_by}
-use Rattle.std.proofs.lemmas.Bool.{ne_eqb, true≢false}
-use Rattle.std.proofs.lemmas.List.Concat.{flat_map-append}
-use Rattle.oat_asm.specs.declared.mark.Mark.TheVariants.{Ret}
+use Rattle.std.specs.{Prelude.slice_get, Prelude.Contains, Prelude.nat_eq, List.count_by}
+use Rattle.std.proofs.lemmas.{Bool.ne_eqb, Bool.true≢false, List.Concat.flat_map-append}
+use Rattle.oat_asm.specs.{declared.mark.Mark.TheVariants.Ret, Items.label_place, Items.is_label, Expansion.expanded, Expansion.expansion}
+use Rattle.oat_asm.proofs.{Seen.count_cons, Seen.place_of_cons, LayoutLaws.skipped}
+use Rattle.oat_parts.specs.{Symbols.AreDistinct, Symbols.Rises, Parts.CodePart, Parts.label, Parts.mark, Parts.items_of, Parts.all_items, Parts.expanded_part, Parts.part_words, Parts.waits}
+use Rattle.oat_parts.specs.{Parts.MayFollow, Parts.ArePaced, Parts.labels_in_part, Parts.labels_in}
+use Rattle.oat_parts.proofs.{Lists.not_in_none, Lists.first_in, Lists.cons_cases, Lists.in_flat_map, Lists.distinct_parts, Views.all_words, Views.part_place}
 use Rattle.oat_asm.specs.declared.item.Item.TheVariants as item
-use Rattle.oat_asm.specs.Items.{label_place, is_label}
-use Rattle.oat_asm.specs.Expansion.{expanded, expansion}
-use Rattle.oat_asm.proofs.Seen.{count_cons, place_of_cons}
-use Rattle.oat_asm.proofs.LayoutLaws.{skipped}
-use Rattle.oat_parts.specs.Symbols.{AreDistinct, Rises}
-use Rattle.oat_parts.specs.Parts.{CodePart, label, mark, items_of, all_items, expanded_part, part_words, waits, MayFollow, ArePaced, labels_in_part, labels_in}
-use Rattle.oat_parts.proofs.Lists.{not_in_none, first_in, cons_cases, in_flat_map, distinct_parts}
-use Rattle.oat_parts.proofs.Views.{all_words, part_place}
 
 -- ---- the place of a label
 

@@ -1,29 +1,14 @@
 -- Each part at its place: its row, the group of that row, and instructions that stand in none.
 use Rattle.std.proofs.Common.{◌≡◌, ℕ, suc, ◌+◌, ◌-◌, ◌<◌, ◌≤◌, List, [], ◌∷◌, ◌++◌, map, refl, sym, ap, ◌∙◌, subst, Some, arith, inl, inr}
-use Rattle.std.specs.Prelude.{slice_get, ⊤}
-use Rattle.std.specs.List.{AllByRecursion, flat_map}
-use Rattle.std.proofs.lemmas.Bool.{cases_lt}
-use Rattle.std.proofs.lemmas.List.Concat.{flat_map-append}
-use Rattle.oat_a64.specs.declared.inst.Inst.{Inst}
-use Rattle.oat_a64.specs.Step.{code_base, instruction_at}
-use Rattle.oat_map.specs.declared.row.Row.{Row}
-use Rattle.oat_map.specs.Rows.{address_of, word_count}
-use Rattle.oat_image.specs.declared.image.Image.{Image}
-use Rattle.oat_asm.specs.declared.mark.Mark.{Mark}
-use Rattle.oat_asm.specs.declared.mark.Mark.TheVariants.{Ret, UseCell, DefCell, UseAt, DefAt}
-use Rattle.oat_asm.specs.declared.note.Note.TheVariants.{Check}
-use Rattle.oat_asm.specs.declared.item.Item.{Item}
-use Rattle.oat_asm.specs.Giving.{words_in, words_before}
-use Rattle.oat_asm.specs.Items.{address}
-use Rattle.oat_asm.specs.Layout.{notes_of_item, items_give}
-use Rattle.oat_asm.specs.Expansion.{expanded, expansion, note_of, group}
-use Rattle.oat_asm.specs.NoteRows.{row_of}
-use Rattle.oat_asm.specs.Standing.{ItemsStand, HasItsWord}
-use Rattle.oat_asm.proofs.Standing.{groups_of_rows}
-use Rattle.oat_asm.proofs.StandingItems.{stand_in_two}
-use Rattle.oat_shape.specs.Groups.{Stands, AreElements, IsGroup}
-use Rattle.oat_parts.specs.Symbols.{SymbolTable}
-use Rattle.oat_parts.specs.Parts.{is_set, is_met, CodePart, simple, label, reference, mark, check, items_of, all_items, expanded_part, part_words, IsLoose, IsMarkOf, IsCodePart}
+use Rattle.std.specs.{Prelude.slice_get, Prelude.⊤, List.AllByRecursion, List.flat_map}
+use Rattle.std.proofs.lemmas.{Bool.cases_lt, List.Concat.flat_map-append}
+use Rattle.oat_asm.specs.{Inst, code_base, instruction_at, Row, address_of, word_count, Image, declared.mark.Mark.Mark, declared.mark.Mark.TheVariants.Ret, declared.mark.Mark.TheVariants.UseCell}
+use Rattle.oat_asm.specs.{declared.mark.Mark.TheVariants.DefCell, declared.mark.Mark.TheVariants.UseAt, declared.mark.Mark.TheVariants.DefAt, declared.note.Note.TheVariants.Check}
+use Rattle.oat_asm.specs.{declared.item.Item.Item, Giving.words_in, Giving.words_before, Items.address, Layout.notes_of_item, Layout.items_give, Expansion.expanded, Expansion.expansion}
+use Rattle.oat_asm.specs.{Expansion.note_of, Expansion.group, NoteRows.row_of, Standing.ItemsStand, Standing.HasItsWord, Stands, AreElements, IsGroup}
+use Rattle.oat_asm.proofs.{Standing.groups_of_rows, StandingItems.stand_in_two}
+use Rattle.oat_parts.specs.{Symbols.SymbolTable, Parts.is_set, Parts.is_met, Parts.CodePart, Parts.simple, Parts.label, Parts.reference, Parts.mark, Parts.check, Parts.items_of, Parts.all_items}
+use Rattle.oat_parts.specs.{Parts.expanded_part, Parts.part_words, Parts.IsLoose, Parts.IsMarkOf, Parts.IsCodePart}
 
 -- ---- places of parts
 

@@ -1,28 +1,12 @@
 -- The image that is built of the items of a program and its symbol table, and that it has the shape (docs/FORMATS.md).
 use Rattle.std.specs.Prelude.{◌≡◌, ◌≤◌, ◌↔◌, ℕ, Bool, List, map, Contains}
-use Rattle.oat_a64.specs.Step.{code_base}
-use Rattle.oat_map.specs.declared.map.Map.{Map}
-use Rattle.oat_map.specs.declared.map.Function.{Function}
-use Rattle.oat_map.specs.declared.row.Row.{Row}
-use Rattle.oat_map.specs.Rows.{IsOperation}
-use Rattle.oat_image.specs.declared.image.Image.{Image}
-use Rattle.oat_image.specs.Grammar.{IsWellFormedImage}
-use Rattle.oat_asm.specs.declared.note.Note.{Note}
-use Rattle.oat_asm.specs.declared.note.Note.TheVariants.{Check}
-use Rattle.oat_asm.specs.declared.item.Item.{Item}
+use Rattle.oat_asm.specs.{code_base, Map, Function, Row, IsOperation, Image, IsWellFormedImage, declared.note.Note.Note, declared.note.Note.TheVariants.Check, declared.item.Item.Item}
+use Rattle.oat_asm.specs.{declared.assembled.NoteAt.NoteAt, Items.words_needed, Items.code_limit, Items.UsedLabelsStandOnce, Items.InstructionsAreInRange, Items.BranchesAreInRange}
+use Rattle.oat_asm.specs.{Items.AddressesHaveRegisters, Layout.layout, Laws.code_of, Expansion.expansion, ExpansionLaws.MarksAreInRange, ExpansionLaws.MarkedLabelsStandOnce, NoteRows.row_of}
+use Rattle.oat_asm.specs.{Standing.ItemsStand, StandingLaws.label_address, StandingLaws.LabelsStandOnce, IsShaped}
+use Rattle.oat_parts.specs.{Symbols.SymbolTable, Symbols.FunctionSymbol, Symbols.IsSymbolTable, Symbols.Rises, Symbols.functions_of, Symbols.blocks_of, Symbols.operations_in, Symbols.labels_of}
+use Rattle.oat_parts.specs.{Parts.AreInParts}
 use Rattle.oat_asm.specs.declared.item.Item.TheVariants as item
-use Rattle.oat_asm.specs.declared.assembled.NoteAt.{NoteAt}
-use Rattle.oat_asm.specs.Items.{words_needed, code_limit, UsedLabelsStandOnce, InstructionsAreInRange, BranchesAreInRange, AddressesHaveRegisters}
-use Rattle.oat_asm.specs.Layout.{layout}
-use Rattle.oat_asm.specs.Laws.{code_of}
-use Rattle.oat_asm.specs.Expansion.{expansion}
-use Rattle.oat_asm.specs.ExpansionLaws.{MarksAreInRange, MarkedLabelsStandOnce}
-use Rattle.oat_asm.specs.NoteRows.{row_of}
-use Rattle.oat_asm.specs.Standing.{ItemsStand}
-use Rattle.oat_asm.specs.StandingLaws.{label_address, LabelsStandOnce}
-use Rattle.oat_shape.specs.Shape.{IsShaped}
-use Rattle.oat_parts.specs.Symbols.{SymbolTable, FunctionSymbol, IsSymbolTable, Rises, functions_of, blocks_of, operations_in, labels_of}
-use Rattle.oat_parts.specs.Parts.{AreInParts}
 
 -- where a label stands among the expanded items
 abbrev pub built_address : List Item → ℕ → ℕ

@@ -1,13 +1,8 @@
 -- How the items of a program are made of parts: each function is its label, a prologue, and its blocks, each behind its label.
-use Rattle.std.specs.Prelude.{◌≡◌, ◌+◌, ◌≤◌, ℕ, List, [], ◌∷◌, ◌++◌, length, ⊤}
-use Rattle.std.specs.List.{AllByRecursion}
-use Rattle.std.specs.Option.{option_to_list}
-use Rattle.oat_asm.specs.declared.item.Item.{Item}
+use Rattle.std.specs.{Prelude.◌≡◌, Prelude.◌+◌, Prelude.◌≤◌, Prelude.ℕ, Prelude.List, Prelude.[], Prelude.◌∷◌, Prelude.◌++◌, Prelude.length, Prelude.⊤, List.AllByRecursion, Option.option_to_list}
+use Rattle.oat_asm.specs.{declared.item.Item.Item, Items.words_needed, Expansion.expansion}
+use Rattle.oat_parts.specs.{Symbols.FunctionSymbol, Symbols.SymbolTable, Parts.IsMadeOfParts, Parts.AreInParts}
 use Rattle.oat_asm.specs.declared.item.Item.TheVariants as item
-use Rattle.oat_asm.specs.Items.{words_needed}
-use Rattle.oat_asm.specs.Expansion.{expansion}
-use Rattle.oat_parts.specs.Symbols.{FunctionSymbol, SymbolTable}
-use Rattle.oat_parts.specs.Parts.{IsMadeOfParts, AreInParts}
 
 -- items made of parts, one behind the other
 abbrev pub PartsJoin : Type 0

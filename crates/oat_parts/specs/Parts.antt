@@ -1,20 +1,14 @@
 -- Parts of code: the pieces of which the unexpanded items of a program are made, each with its condition by itself (docs/FORMATS.md, rows and their groups).
-use Rattle.std.specs.Prelude.{◌≡◌, ◌≤◌, ◌<◌, ◌^◌, ℕ, pos, Bool, true, false, ◌||◌, List, [], ◌∷◌, slice_get, Some, Contains, ⊤}
-use Rattle.std.specs.List.{flat_map, AllByRecursion}
-use Rattle.oat_a64.specs.declared.inst.Inst.{Inst}
-use Rattle.oat_a64.specs.declared.inst.Inst.TheVariants as inst
-use Rattle.oat_a64.specs.Kinds.{is_transfer, is_measured}
-use Rattle.oat_a64.specs.Table.{IsInRange}
-use Rattle.oat_asm.specs.declared.mark.Mark.{Mark}
-use Rattle.oat_asm.specs.declared.mark.Mark.TheVariants.{Jump, Branch, Call, ICall, Ret, Begin, End, UseCell, DefCell, UseAt, DefAt}
-use Rattle.oat_asm.specs.declared.note.Note.TheVariants as note
-use Rattle.oat_asm.specs.declared.item.Item.{Item}
-use Rattle.oat_asm.specs.declared.item.Item.TheVariants as item
-use Rattle.oat_asm.specs.Items.{words_needed}
-use Rattle.oat_asm.specs.Expansion.{expansion}
-use Rattle.oat_image.specs.Grammar.{IsLength, IsOperationNumber}
-use Rattle.oat_shape.specs.Groups.{AreElements}
+use Rattle.std.specs.{Prelude.◌≡◌, Prelude.◌≤◌, Prelude.◌<◌, Prelude.◌^◌, Prelude.ℕ, Prelude.pos, Prelude.Bool, Prelude.true, Prelude.false, Prelude.◌||◌, Prelude.List, Prelude.[], Prelude.◌∷◌}
+use Rattle.std.specs.{Prelude.slice_get, Prelude.Some, Prelude.Contains, Prelude.⊤, List.flat_map, List.AllByRecursion}
+use Rattle.oat_asm.specs.{Inst, is_transfer, is_measured, IsInRange, declared.mark.Mark.Mark, declared.mark.Mark.TheVariants.Jump, declared.mark.Mark.TheVariants.Branch}
+use Rattle.oat_asm.specs.{declared.mark.Mark.TheVariants.Call, declared.mark.Mark.TheVariants.ICall, declared.mark.Mark.TheVariants.Ret, declared.mark.Mark.TheVariants.Begin}
+use Rattle.oat_asm.specs.{declared.mark.Mark.TheVariants.End, declared.mark.Mark.TheVariants.UseCell, declared.mark.Mark.TheVariants.DefCell, declared.mark.Mark.TheVariants.UseAt}
+use Rattle.oat_asm.specs.{declared.mark.Mark.TheVariants.DefAt, declared.item.Item.Item, Items.words_needed, Expansion.expansion, IsLength, IsOperationNumber, AreElements}
 use Rattle.oat_parts.specs.Symbols.{SymbolTable, IsFunctionLabel, IsBlockLabel, labels_of, operations_in}
+use Rattle.oat_a64.specs.declared.inst.Inst.TheVariants as inst
+use Rattle.oat_asm.specs.declared.note.Note.TheVariants as note
+use Rattle.oat_asm.specs.declared.item.Item.TheVariants as item
 
 -- what a check tests: that a register isn't 0, or a condition
 pub data CheckTest : Type 0 where

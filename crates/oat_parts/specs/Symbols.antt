@@ -1,13 +1,7 @@
 -- The symbol table of a program: its functions and blocks with their labels and names, its operations, the words of its data and its cells. It is what the program's image has besides code and rows (docs/FORMATS.md).
-use Rattle.std.specs.Prelude.{◌+◌, ◌<◌, ◌≤◌, ℕ, zero, suc, Bool, List, [], ◌∷◌, length, map, Option, Contains, ⊤}
-use Rattle.std.specs.List.{flat_map, AllByRecursion}
-use Rattle.std.specs.Option.{option_to_list}
-use Rattle.std.specs.List.Sorted.{IsStrictlyIncreasing}
-use Rattle.oat_map.specs.Name.{IsName}
-use Rattle.oat_map.specs.declared.map.Function.{Function}
-use Rattle.oat_map.specs.declared.map.Block.{Block}
-use Rattle.oat_image.specs.declared.image.InitWord.{InitWord}
-use Rattle.oat_image.specs.Grammar.{IsInitWord, IsIndex, IsSection}
+use Rattle.std.specs.{Prelude.◌+◌, Prelude.◌<◌, Prelude.◌≤◌, Prelude.ℕ, Prelude.zero, Prelude.suc, Prelude.Bool, Prelude.List, Prelude.[], Prelude.◌∷◌, Prelude.length, Prelude.map, Prelude.Option}
+use Rattle.std.specs.{Prelude.Contains, Prelude.⊤, List.flat_map, List.AllByRecursion, Option.option_to_list, List.Sorted.IsStrictlyIncreasing}
+use Rattle.oat_asm.specs.{IsName, Function, Block, InitWord, IsInitWord, IsIndex, IsSection}
 
 -- a function with its label, its operation, if it is one, and its blocks by their names, with the label of the first
 pub record FunctionSymbol : Type 0 where

@@ -1,14 +1,10 @@
 -- The bytes with which a text begins, one piece behind the other.
 use Rattle.std.proofs.Common.{◌≡◌, ℕ, ◌<◌, true, false, eqb, List, [], ◌∷◌, ◌++◌, length, take, drop, Option, Some, None, refl, sym, ap, ◌∙◌, inl, inr, arith}
-use Rattle.std.specs.Option.{option_and_then, option_copied}
-use Rattle.std.specs.Str.{bytes_eq}
-use Rattle.std.proofs.lemmas.Bool.{cases_Bool, eqb-true, eq-eqb, ne_eqb, false≢true}
-use Rattle.std.proofs.lemmas.List.{take_at, take-append-drop, append-nil}
-use Rattle.std.proofs.lemmas.Slice.Eq.{bytes_eq-Decides}
+use Rattle.std.specs.{Option.option_and_then, Option.option_copied, Str.bytes_eq}
+use Rattle.std.proofs.lemmas.{Bool.cases_Bool, Bool.eqb-true, Bool.eq-eqb, Bool.ne_eqb, Bool.false≢true, List.take_at, List.take-append-drop, List.append-nil, Slice.Eq.bytes_eq-Decides}
 use Rattle.oat_lines.proofs.Steps.{some_is}
-use Rattle.oat_policy.specs.declared.words.PathWord.{PathWord}
-use Rattle.oat_policy.specs.Behind.{rest_behind, rest_behind_sign, rest_behind_word, is_whole}
-use Rattle.oat_policy.specs.Pieces.{with_piece, place_word, path_word}
+use Rattle.oat_policy.specs.{declared.words.PathWord.PathWord, Behind.rest_behind, Behind.rest_behind_sign, Behind.rest_behind_word, Behind.is_whole, Pieces.with_piece, Pieces.place_word}
+use Rattle.oat_policy.specs.{Pieces.path_word}
 
 pub both : (front more text : List ℕ) → rest_behind (front ++ more) text ≡ option_and_then (rest_behind more) (rest_behind front text)
 unfolding rest_behind

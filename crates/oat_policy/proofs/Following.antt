@@ -1,19 +1,11 @@
 -- How a rule stands behind one more edge.
 use Rattle.std.proofs.Common.{◌≡◌, ℕ, ◌+◌, ◌≤◌, Bool, not, ◌&&◌, cond, eqb, List, [], ◌∷◌, ◌++◌, length, Option, Some, None, refl, sym, ap, ◌∙◌, inl, inr, append_assoc, arith}
-use Rattle.std.specs.Prelude.{count_by, if◌then◌else◌}
-use Rattle.std.specs.List.{fold, list_any}
-use Rattle.std.specs.Option.{option_or}
-use Rattle.std.proofs.lemmas.Bool.{cases_Bool, ne_eqb}
-use Rattle.std.proofs.lemmas.List.{append-nil}
-use Rattle.std.proofs.lemmas.List.Sums.{fold-append}
-use Rattle.oat_map.specs.declared.map.Map.{Map}
-use Rattle.oat_map.specs.declared.edge.Edge.{Edge}
-use Rattle.oat_policy.specs.declared.policy.PathRule.{PathRule}
-use Rattle.oat_policy.specs.declared.policy.PathRule.TheVariants.{Never, Before, Most, Order}
-use Rattle.oat_policy.specs.declared.rule.Standing.{Standing}
-use Rattle.oat_policy.specs.EdgeWords.{edge_words, matches}
-use Rattle.oat_policy.specs.Rules.{forbids, first_forbidden}
-use Rattle.oat_policy.specs.Standing.{counts, counted_next, counted, forbids_behind, standing}
+use Rattle.std.specs.{Prelude.count_by, Prelude.if◌then◌else◌, List.fold, List.list_any, Option.option_or}
+use Rattle.std.proofs.lemmas.{Bool.cases_Bool, Bool.ne_eqb, List.append-nil, List.Sums.fold-append}
+use Rattle.oat_report.specs.{Map, Edge}
+use Rattle.oat_policy.specs.{declared.policy.PathRule.PathRule, declared.policy.PathRule.TheVariants.Never, declared.policy.PathRule.TheVariants.Before, declared.policy.PathRule.TheVariants.Most}
+use Rattle.oat_policy.specs.{declared.policy.PathRule.TheVariants.Order, declared.rule.Standing.Standing, EdgeWords.edge_words, EdgeWords.matches, Rules.forbids, Rules.first_forbidden}
+use Rattle.oat_policy.specs.{Standing.counts, Standing.counted_next, Standing.counted, Standing.forbids_behind, Standing.standing}
 
 -- ---- what counts
 

@@ -1,18 +1,10 @@
 -- An order is kept where as many patterns are matched as it has, each by the first edge that can.
 use Rattle.std.proofs.Common.{◌≡◌, ℕ, zero, suc, ◌+◌, ◌≤◌, ◌<◌, Bool, true, false, not, ◌&&◌, ◌||◌, ltb, List, [], ◌∷◌, length, drop, get_or, Option, Some, None, refl, sym, ap, ◌∙◌, inl, inr, arith}
-use Rattle.std.specs.Prelude.{if◌then◌else◌, ◌⊎◌}
-use Rattle.std.specs.List.{fold, slice_get}
-use Rattle.std.proofs.lemmas.Bool.{cases_Bool, cases_lt, lt-ltb, le-ltb, and_parts}
-use Rattle.std.proofs.lemmas.List.{drop_more, drop_all}
-use Rattle.oat_map.specs.declared.map.Map.{Map}
-use Rattle.oat_map.specs.declared.edge.Edge.{Edge}
-use Rattle.oat_policy.specs.declared.policy.PathRule.{PathRule}
-use Rattle.oat_policy.specs.declared.policy.PathRule.TheVariants.{Order}
-use Rattle.oat_lines.specs.Lines.{TextWord}
-use Rattle.oat_policy.specs.EdgeWords.{edge_words, matches}
-use Rattle.oat_policy.specs.declared.rule.Standing.{Standing}
-use Rattle.oat_policy.specs.Rules.{is_in_turn, broken_at}
-use Rattle.oat_policy.specs.Standing.{counted_next, counted, meets_some, standing}
+use Rattle.std.specs.{Prelude.if◌then◌else◌, Prelude.◌⊎◌, List.fold, List.slice_get}
+use Rattle.std.proofs.lemmas.{Bool.cases_Bool, Bool.cases_lt, Bool.lt-ltb, Bool.le-ltb, Bool.and_parts, List.drop_more, List.drop_all}
+use Rattle.oat_report.specs.{Map, Edge, TextWord}
+use Rattle.oat_policy.specs.{declared.policy.PathRule.PathRule, declared.policy.PathRule.TheVariants.Order, EdgeWords.edge_words, EdgeWords.matches, declared.rule.Standing.Standing, Rules.is_in_turn}
+use Rattle.oat_policy.specs.{Rules.broken_at, Standing.counted_next, Standing.counted, Standing.meets_some, Standing.standing}
 
 abbrev Patterns : Type 0
 Patterns = List (List TextWord)

@@ -1,19 +1,11 @@
 -- Reading a policy word by word and line by line, as loops do.
 use Rattle.std.proofs.Common.{◌≡◌, ℕ, ◌+◌, ◌≤◌, ◌<◌, eqb, List, [], ◌∷◌, ◌++◌, length, Option, Some, None, Result, Ok, Err, refl, sym, ap, ◌∙◌, inl, inr, append_assoc, arith}
-use Rattle.std.specs.Prelude.{option_map}
-use Rattle.std.specs.List.{slice_split, onto_first}
-use Rattle.std.proofs.lemmas.Bool.{cases_Bool}
-use Rattle.std.proofs.lemmas.List.{append-nil}
-use Rattle.oat_lines.specs.Fields.{cut}
-use Rattle.oat_lines.specs.Lines.{TextWord, lines_of, words_of}
-use Rattle.oat_lines.specs.Reading.{◌>>=◌}
-use Rattle.oat_lines.specs.declared.fault.Fault.{Fault}
-use Rattle.oat_lines.specs.Faults.{Fails}
-use Rattle.oat_lines.proofs.Cutting.{map_some, cut_takes}
-use Rattle.oat_lines.proofs.Steps.{fails_as, some_is}
-use Rattle.oat_policy.specs.declared.policy.PolicyRule.{PolicyRule}
-use Rattle.oat_policy.specs.declared.fault.PolicyFaultKind.{PolicyFaultKind}
-use Rattle.oat_policy.specs.Reading.{is_colon, parts_of, pattern_at, patterns_at, line_of, policy_from, policy_of}
+use Rattle.std.specs.{Prelude.option_map, List.slice_split, List.onto_first}
+use Rattle.std.proofs.lemmas.{Bool.cases_Bool, List.append-nil}
+use Rattle.oat_lines.proofs.{Cutting.map_some, Cutting.cut_takes, Steps.fails_as, Steps.some_is}
+use Rattle.oat_report.specs.{cut, TextWord, lines_of, words_of, ◌>>=◌, Fault, Fails}
+use Rattle.oat_policy.specs.{declared.policy.PolicyRule.PolicyRule, declared.fault.PolicyFaultKind.PolicyFaultKind, Reading.is_colon, Reading.parts_of, Reading.pattern_at, Reading.patterns_at}
+use Rattle.oat_policy.specs.{Reading.line_of, Reading.policy_from, Reading.policy_of}
 
 -- ---- the parts of a word
 

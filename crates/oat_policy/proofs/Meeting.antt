@@ -1,10 +1,8 @@
 -- A pattern is met by as many words alone, each word by its own.
 use Rattle.std.proofs.Common.{◌≡◌, ◌≢◌, ℕ, ◌+◌, ◌<◌, ◌≤◌, Bool, true, false, ◌&&◌, List, [], ◌∷◌, length, map, drop, get_or, refl, sym, ap, ◌∙◌, arith}
 use Rattle.std.proofs.lemmas.List.{drop_more, drop_all}
-use Rattle.oat_lines.specs.Lines.{TextWord}
-use Rattle.oat_policy.specs.declared.words.PathWord.{PathWord}
-use Rattle.oat_policy.specs.EdgeWords.{meets, meets_each}
-use Rattle.oat_policy.specs.Pieces.{path_word}
+use Rattle.oat_report.specs.{TextWord}
+use Rattle.oat_policy.specs.{declared.words.PathWord.PathWord, EdgeWords.meets, EdgeWords.meets_each, Pieces.path_word}
 
 pub not_as_many : (pattern words : List TextWord) → length pattern ≢ length words → meets_each pattern words ≡ false
 unfolding meets_each

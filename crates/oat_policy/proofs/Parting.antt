@@ -1,11 +1,8 @@
 -- The patterns of a policy one behind the other, and which of them an edge matches.
 use Rattle.std.proofs.Common.{◌≡◌, ℕ, ◌+◌, ◌<◌, ◌≤◌, Bool, List, [], ◌∷◌, ◌++◌, length, map, take, drop, get_or, set, refl, sym, ap, ◌∙◌, append_assoc, arith}
-use Rattle.std.proofs.lemmas.List.{take_more, take_more_set, map_more, take_all, map-append, length-map, length-append}
-use Rattle.std.proofs.lemmas.List.Concat.{flat_map-append}
-use Rattle.oat_lines.specs.Lines.{TextWord}
-use Rattle.oat_policy.specs.declared.policy.PolicyRule.{PolicyRule}
-use Rattle.oat_policy.specs.EdgeWords.{meets_each}
-use Rattle.oat_policy.specs.Standing.{patterns_of, all_patterns, met_of}
+use Rattle.std.proofs.lemmas.{List.take_more, List.take_more_set, List.map_more, List.take_all, List.map-append, List.length-map, List.length-append, List.Concat.flat_map-append}
+use Rattle.oat_report.specs.{TextWord}
+use Rattle.oat_policy.specs.{declared.policy.PolicyRule.PolicyRule, EdgeWords.meets_each, Standing.patterns_of, Standing.all_patterns, Standing.met_of}
 
 -- ---- the list of patterns
 

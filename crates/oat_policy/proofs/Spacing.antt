@@ -1,11 +1,9 @@
 -- The words of an edge with one space between two are its line.
 use Rattle.std.proofs.Common.{◌≡◌, ℕ, List, [], ◌∷◌, ◌++◌, refl, sym, ◌∙◌, append_assoc}
 use Rattle.std.specs.Prelude.{codes}
-use Rattle.oat_lines.specs.Fields.{spaced}
-use Rattle.oat_map.specs.EdgeName.{EdgeName, jump, branch, call, icall, return, finish, stray, name_of}
-use Rattle.oat_report.specs.PathLine.{place_text, site_text, bit_text, address_digits, name_text}
-use Rattle.oat_policy.specs.EdgeWords.{name_words}
-use Rattle.oat_policy.specs.Laws.{WordsMakeTheLine}
+use Rattle.oat_report.specs.{spaced, EdgeName, jump, branch, call, icall, return, finish, stray, name_of, PathLine.place_text, PathLine.site_text, PathLine.bit_text, PathLine.address_digits}
+use Rattle.oat_report.specs.{PathLine.name_text}
+use Rattle.oat_policy.specs.{EdgeWords.name_words, Laws.WordsMakeTheLine}
 
 -- a keyword and two words
 two_words : (keyword first second : List ℕ) → keyword ++ (first ++ 32 ∷ second) ≡ ((keyword ++ first) ++ 32 ∷ []) ++ second

@@ -1,31 +1,17 @@
 -- The words of an edge hold bytes and no blank, so that they are its line split at blanks.
 use Rattle.std.proofs.Common.{◌≡◌, ℕ, ◌^◌, ◌<◌, Bool, true, false, List, [], ◌∷◌, ◌++◌, length, take, Option, Some, None, inl, inr, refl, sym, ap, subst, ◌∙◌, arith}
-use Rattle.std.specs.Prelude.{codes, position, unwrap_or}
-use Rattle.std.specs.Fmt.{decimal}
-use Rattle.std.specs.List.{All, AllByRecursion, list_all}
-use Rattle.std.proofs.lemmas.Bool.{and_parts, ne_eqb, ltb-true}
-use Rattle.std.proofs.lemmas.Fmt.{decimal_nonempty}
-use Rattle.std.proofs.lemmas.List.{length-append, length-drop, length-take-le}
-use Rattle.std.proofs.lemmas.List.Elements.{All-from_recursion}
-use Rattle.std.proofs.lemmas.List.Splits.{slice_split_at, slice_split_none}
-use Rattle.oat_lines.specs.Decimal.{is_decimal_digit}
-use Rattle.oat_lines.specs.Fields.{spaced, is_visible, IsField}
-use Rattle.oat_lines.specs.Hexadecimal.{hexadecimal}
-use Rattle.oat_lines.specs.Lines.{words_of, is_blank, has_bytes}
-use Rattle.oat_lines.proofs.Decimals.{decimal_digits}
-use Rattle.oat_lines.proofs.Hexadecimals.{hexadecimal_length}
-use Rattle.oat_map.specs.declared.edge.Edge.{Edge}
-use Rattle.oat_map.specs.declared.edge.Edge.TheVariants as edges
-use Rattle.oat_map.specs.EdgeName.{PlaceName, Site, place_name}
-use Rattle.oat_report.specs.PathLine.{place_text, site_text, bit_text, address_digits}
-use Rattle.oat_map.specs.declared.map.Map.{Map}
-use Rattle.oat_report.specs.SameLines.{IsEdgeOf, IsOfMapType}
-use Rattle.oat_report.proofs.Sites.{IsNamed, named_by}
-use Rattle.oat_report.proofs.Splitting.{IsSiteWord, is_place_byte, is_nonzero_digit, all_weaker, place_bytes, place_visible, digit_visible, site_visible, address_visible, place_of_nonzero, position_bound}
-use Rattle.oat_report.proofs.SameLines.{function_named, place_word, name_word}
-use Rattle.oat_policy.specs.EdgeWords.{edge_words}
-use Rattle.oat_policy.specs.Laws.{WordsSplitTheLine}
+use Rattle.std.specs.{Prelude.codes, Prelude.position, Prelude.unwrap_or, Fmt.decimal, List.All, List.AllByRecursion, List.list_all}
+use Rattle.std.proofs.lemmas.{Bool.and_parts, Bool.ne_eqb, Bool.ltb-true, Fmt.decimal_nonempty, List.length-append, List.length-drop, List.length-take-le, List.Elements.All-from_recursion}
+use Rattle.std.proofs.lemmas.{List.Splits.slice_split_at, List.Splits.slice_split_none}
+use Rattle.oat_lines.proofs.{Decimals.decimal_digits, Hexadecimals.hexadecimal_length}
+use Rattle.oat_report.specs.{is_decimal_digit, spaced, is_visible, IsField, hexadecimal, words_of, is_blank, has_bytes, Edge, PlaceName, Site, place_name, PathLine.place_text, PathLine.site_text}
+use Rattle.oat_report.specs.{PathLine.bit_text, PathLine.address_digits, Map, SameLines.IsEdgeOf, SameLines.IsOfMapType}
+use Rattle.oat_report.proofs.{Sites.IsNamed, Sites.named_by, Splitting.IsSiteWord, Splitting.is_place_byte, Splitting.is_nonzero_digit, Splitting.all_weaker, Splitting.place_bytes}
+use Rattle.oat_report.proofs.{Splitting.place_visible, Splitting.digit_visible, Splitting.site_visible, Splitting.address_visible, Splitting.place_of_nonzero, Splitting.position_bound}
+use Rattle.oat_report.proofs.{SameLines.function_named, SameLines.place_word, SameLines.name_word}
+use Rattle.oat_policy.specs.{EdgeWords.edge_words, Laws.WordsSplitTheLine}
 use Rattle.oat_policy.proofs.Spacing.{words_make_the_line}
+use Rattle.oat_report.specs.edges as edges
 
 -- ---- words with one space between two
 

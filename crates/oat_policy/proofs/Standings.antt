@@ -1,15 +1,10 @@
 -- The standings of a policy's rules, one behind the other.
 use Rattle.std.proofs.Common.{◌≡◌, ℕ, ◌+◌, ◌≤◌, ◌<◌, List, [], ◌∷◌, ◌++◌, length, take, drop, set, get_or, replicate, Option, Some, None, refl, sym, ap, ◌∙◌, arith}
 use Rattle.std.proofs.lemmas.List.{drop_more, drop_all, take_all, take_more_set, map_more, drop-set-lt, length-map, get_or-map, get_or_default}
-use Rattle.oat_map.specs.declared.map.Map.{Map}
-use Rattle.oat_map.specs.declared.edge.Edge.{Edge}
-use Rattle.oat_policy.specs.declared.policy.PolicyRule.{PolicyRule}
-use Rattle.oat_policy.specs.declared.rule.Standing.{Standing}
-use Rattle.oat_policy.specs.declared.verdict.PolicyVerdict.{PolicyVerdict}
-use Rattle.oat_policy.specs.declared.verdict.PolicyVerdict.TheVariants.{Holds, Breaks}
-use Rattle.oat_policy.specs.Rules.{first_forbidden, broken_at}
-use Rattle.oat_policy.specs.Standing.{counted, standing, standings}
-use Rattle.oat_policy.specs.Verdict.{broken_or, verdict_of}
+use Rattle.oat_report.specs.{Map, Edge}
+use Rattle.oat_policy.specs.{declared.policy.PolicyRule.PolicyRule, declared.rule.Standing.Standing, declared.verdict.PolicyVerdict.PolicyVerdict, declared.verdict.PolicyVerdict.TheVariants.Holds}
+use Rattle.oat_policy.specs.{declared.verdict.PolicyVerdict.TheVariants.Breaks, Rules.first_forbidden, Rules.broken_at, Standing.counted, Standing.standing, Standing.standings, Verdict.broken_or}
+use Rattle.oat_policy.specs.{Verdict.verdict_of}
 
 abbrev pub begun : Standing
 begun = record { count = 0; broken = None }

@@ -1,6 +1,6 @@
 -- What stands behind the bytes with which a text begins.
-use Rattle.std.specs.Prelude.{ℕ, Bool, false, ◌==◌, List, [], ◌∷◌, length, Option, Some, None, codes, if◌then◌else◌}
-use Rattle.std.specs.Option.{option_and_then, option_copied}
+use Rattle.std.specs.{Prelude.ℕ, Prelude.Bool, Prelude.false, Prelude.◌==◌, Prelude.List, Prelude.[], Prelude.◌∷◌, Prelude.length, Prelude.Option, Prelude.Some, Prelude.None, Prelude.codes}
+use Rattle.std.specs.{Prelude.if◌then◌else◌, Option.option_and_then, Option.option_copied}
 use Rattle.oat_policy.specs.declared.words.PathWord.{PathWord}
 
 unfoldable pub rest_behind : List ℕ → List ℕ → Option (List ℕ)

@@ -1,12 +1,7 @@
 -- The words of an edge's path line, and the patterns that they match (docs/FORMATS.md, "Policies").
-use Rattle.std.specs.Prelude.{Bool, true, false, ◌&&◌, ◌||◌, List, [], ◌∷◌, codes}
-use Rattle.std.specs.Fmt.{decimal}
-use Rattle.std.specs.Str.{bytes_eq}
-use Rattle.oat_lines.specs.Lines.{TextWord}
-use Rattle.oat_map.specs.declared.map.Map.{Map}
-use Rattle.oat_map.specs.declared.edge.Edge.{Edge}
-use Rattle.oat_map.specs.EdgeName.{EdgeName, jump, branch, call, icall, return, finish, stray, name_of}
-use Rattle.oat_report.specs.PathLine.{place_text, site_text, bit_text, address_digits}
+use Rattle.std.specs.{Prelude.Bool, Prelude.true, Prelude.false, Prelude.◌&&◌, Prelude.◌||◌, Prelude.List, Prelude.[], Prelude.◌∷◌, Prelude.codes, Fmt.decimal, Str.bytes_eq}
+use Rattle.oat_report.specs.{TextWord, Map, Edge, EdgeName, jump, branch, call, icall, return, finish, stray, name_of, PathLine.place_text, PathLine.site_text, PathLine.bit_text}
+use Rattle.oat_report.specs.{PathLine.address_digits}
 
 abbrev pub name_words : EdgeName → List TextWord
 name_words (jump site place) = codes "jump" ∷ site_text site ∷ place_text place ∷ []

@@ -1,11 +1,6 @@
 -- The words of an edge and its path line (docs/FORMATS.md, "Policies").
 use Rattle.std.specs.Prelude.{◌≡◌}
-use Rattle.oat_lines.specs.Fields.{spaced}
-use Rattle.oat_lines.specs.Lines.{words_of}
-use Rattle.oat_map.specs.declared.map.Map.{Map}
-use Rattle.oat_map.specs.declared.edge.Edge.{Edge}
-use Rattle.oat_report.specs.PathLine.{edge_line}
-use Rattle.oat_report.specs.SameLines.{IsEdgeOf, IsOfMapType}
+use Rattle.oat_report.specs.{spaced, words_of, Map, Edge, PathLine.edge_line, SameLines.IsEdgeOf, SameLines.IsOfMapType}
 use Rattle.oat_policy.specs.EdgeWords.{edge_words}
 
 -- the line is the words with one space between two

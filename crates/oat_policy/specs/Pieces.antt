@@ -1,10 +1,7 @@
 -- The words of an edge's path line in pieces, as a Watch compares them with patterns (docs/DEFINITIONS.md).
-use Rattle.std.specs.Prelude.{List, ◌++◌, map, take, min, Option, Some, None, codes}
-use Rattle.std.specs.Option.{option_copied}
-use Rattle.oat_lines.specs.Lines.{TextWord}
-use Rattle.oat_policy.specs.declared.words.PlaceWord.{PlaceWord}
-use Rattle.oat_policy.specs.declared.words.PathWord.{PathWord}
-use Rattle.oat_policy.specs.declared.words.EdgeWords.{EdgeWords}
+use Rattle.std.specs.{Prelude.List, Prelude.◌++◌, Prelude.map, Prelude.take, Prelude.min, Prelude.Option, Prelude.Some, Prelude.None, Prelude.codes, Option.option_copied}
+use Rattle.oat_report.specs.{TextWord}
+use Rattle.oat_policy.specs.{declared.words.PlaceWord.PlaceWord, declared.words.PathWord.PathWord, declared.words.EdgeWords.EdgeWords}
 
 -- a further piece, where there is one, stands behind a sign
 abbrev pub with_piece : TextWord → TextWord → Option TextWord → TextWord

@@ -1,20 +1,12 @@
 -- Which policy a text stands for, or else the fault of its first bad line (docs/FORMATS.md, "Policies"). The faults of a line are
 -- tested in the order TooMany, Token, Number.
-use Rattle.std.specs.Prelude.{◌+◌, ◌==◌, ◌&&◌, ◌||◌, ℕ, Bool, List, [], ◌∷◌, ◌++◌, length, nat_le, nat_lt, codes, Option, Some, None, option_map, Result, Ok, Err, if◌then◌else◌}
-use Rattle.std.specs.Char.{is_ascii_alphanumeric}
-use Rattle.std.specs.List.{list_all, slice_split}
-use Rattle.std.specs.Option.{ok_or}
-use Rattle.std.specs.Str.{bytes_eq}
-use Rattle.oat_lines.specs.declared.fault.Fault.{Fault}
-use Rattle.oat_lines.specs.declared.fault.Fault.TheVariants.{At}
-use Rattle.oat_lines.specs.Lines.{TextWord, lines_of, words_of, is_comment, sole}
-use Rattle.oat_lines.specs.Decimal.{numeral_of, capped}
-use Rattle.oat_lines.specs.Reading.{◌>>=◌, guard, between}
-use Rattle.oat_policy.specs.declared.policy.PathRule.{PathRule}
-use Rattle.oat_policy.specs.declared.policy.PathRule.TheVariants.{Never, Before, Most, Order}
-use Rattle.oat_policy.specs.declared.policy.PolicyRule.{PolicyRule}
-use Rattle.oat_policy.specs.declared.fault.PolicyFaultKind.{PolicyFaultKind}
-use Rattle.oat_policy.specs.declared.fault.PolicyFaultKind.TheVariants.{Token, Number, TooMany}
+use Rattle.std.specs.{Prelude.◌+◌, Prelude.◌==◌, Prelude.◌&&◌, Prelude.◌||◌, Prelude.ℕ, Prelude.Bool, Prelude.List, Prelude.[], Prelude.◌∷◌, Prelude.◌++◌, Prelude.length, Prelude.nat_le}
+use Rattle.std.specs.{Prelude.nat_lt, Prelude.codes, Prelude.Option, Prelude.Some, Prelude.None, Prelude.option_map, Prelude.Result, Prelude.Ok, Prelude.Err, Prelude.if◌then◌else◌}
+use Rattle.std.specs.{Char.is_ascii_alphanumeric, List.list_all, List.slice_split, Option.ok_or, Str.bytes_eq}
+use Rattle.oat_report.specs.{Fault, At, TextWord, lines_of, words_of, is_comment, sole, numeral_of, capped, ◌>>=◌, guard, between}
+use Rattle.oat_policy.specs.{declared.policy.PathRule.PathRule, declared.policy.PathRule.TheVariants.Never, declared.policy.PathRule.TheVariants.Before, declared.policy.PathRule.TheVariants.Most}
+use Rattle.oat_policy.specs.{declared.policy.PathRule.TheVariants.Order, declared.policy.PolicyRule.PolicyRule, declared.fault.PolicyFaultKind.PolicyFaultKind}
+use Rattle.oat_policy.specs.{declared.fault.PolicyFaultKind.TheVariants.Token, declared.fault.PolicyFaultKind.TheVariants.Number, declared.fault.PolicyFaultKind.TheVariants.TooMany}
 
 -- the most rules of a policy
 abbrev pub rule_limit : ℕ

@@ -1,12 +1,9 @@
 -- What a rule asks of the whole path, and the place where a path breaks it, counted from 1 (docs/FORMATS.md, "Policies").
-use Rattle.std.specs.Prelude.{ℕ, ◌+◌, ◌==◌, Bool, true, false, not, ◌&&◌, ◌||◌, List, [], ◌∷◌, ◌++◌, length, count_by, Option, Some, None, if◌then◌else◌}
-use Rattle.std.specs.List.{list_any}
-use Rattle.oat_lines.specs.Lines.{TextWord}
-use Rattle.oat_map.specs.declared.map.Map.{Map}
-use Rattle.oat_map.specs.declared.edge.Edge.{Edge}
-use Rattle.oat_policy.specs.declared.policy.PathRule.{PathRule}
-use Rattle.oat_policy.specs.declared.policy.PathRule.TheVariants.{Never, Before, Most, Order}
-use Rattle.oat_policy.specs.EdgeWords.{matches}
+use Rattle.std.specs.{Prelude.ℕ, Prelude.◌+◌, Prelude.◌==◌, Prelude.Bool, Prelude.true, Prelude.false, Prelude.not, Prelude.◌&&◌, Prelude.◌||◌, Prelude.List, Prelude.[], Prelude.◌∷◌, Prelude.◌++◌}
+use Rattle.std.specs.{Prelude.length, Prelude.count_by, Prelude.Option, Prelude.Some, Prelude.None, Prelude.if◌then◌else◌, List.list_any}
+use Rattle.oat_report.specs.{TextWord, Map, Edge}
+use Rattle.oat_policy.specs.{declared.policy.PathRule.PathRule, declared.policy.PathRule.TheVariants.Never, declared.policy.PathRule.TheVariants.Before, declared.policy.PathRule.TheVariants.Most}
+use Rattle.oat_policy.specs.{declared.policy.PathRule.TheVariants.Order, EdgeWords.matches}
 
 -- the edge behind these edges is one that the rule forbids
 abbrev pub forbids : Map → PathRule → List Edge → Edge → Bool

@@ -1,17 +1,10 @@
 -- The path for which a Watch stands while its edges come in one by one (docs/DEFINITIONS.md).
-use Rattle.std.specs.Prelude.{◌≡◌, ◌≤◌, ℕ, ◌+◌, ◌==◌, ◌&&◌, Bool, false, List, [], ◌∷◌, ◌++◌, map, length, Option, Some, None, unwrap_or, IfSome, if◌then◌else◌}
-use Rattle.std.specs.List.{All, flat_map, fold, slice_get}
-use Rattle.oat_lines.specs.Lines.{TextWord}
-use Rattle.oat_map.specs.declared.map.Map.{Map}
-use Rattle.oat_map.specs.declared.edge.Edge.{Edge}
-use Rattle.oat_policy.specs.declared.policy.PathRule.{PathRule}
-use Rattle.oat_policy.specs.declared.policy.PathRule.TheVariants.{Never, Before, Most, Order}
-use Rattle.oat_policy.specs.declared.policy.PolicyRule.{PolicyRule}
-use Rattle.oat_policy.specs.declared.rule.Standing.{Standing}
-use Rattle.oat_policy.specs.declared.recent.RecentEdge.{RecentEdge}
-use Rattle.oat_policy.specs.declared.watch.Watch.{Watch}
-use Rattle.oat_policy.specs.EdgeWords.{edge_words, meets_each}
-use Rattle.oat_policy.specs.Rules.{first_forbidden}
+use Rattle.std.specs.{Prelude.◌≡◌, Prelude.◌≤◌, Prelude.ℕ, Prelude.◌+◌, Prelude.◌==◌, Prelude.◌&&◌, Prelude.Bool, Prelude.false, Prelude.List, Prelude.[], Prelude.◌∷◌, Prelude.◌++◌, Prelude.map}
+use Rattle.std.specs.{Prelude.length, Prelude.Option, Prelude.Some, Prelude.None, Prelude.unwrap_or, Prelude.IfSome, Prelude.if◌then◌else◌, List.All, List.flat_map, List.fold, List.slice_get}
+use Rattle.oat_report.specs.{TextWord, Map, Edge}
+use Rattle.oat_policy.specs.{declared.policy.PathRule.PathRule, declared.policy.PathRule.TheVariants.Never, declared.policy.PathRule.TheVariants.Before, declared.policy.PathRule.TheVariants.Most}
+use Rattle.oat_policy.specs.{declared.policy.PathRule.TheVariants.Order, declared.policy.PolicyRule.PolicyRule, declared.rule.Standing.Standing, declared.recent.RecentEdge.RecentEdge}
+use Rattle.oat_policy.specs.{declared.watch.Watch.Watch, EdgeWords.edge_words, EdgeWords.meets_each, Rules.first_forbidden}
 
 -- the pattern at this place, if there is one, is met by these words
 abbrev pub meets_some : Option (List TextWord) → List TextWord → Bool

@@ -1,11 +1,8 @@
 -- The verdict of a policy on a path: the first rule of the text that the path breaks, by its line and the place (docs/FORMATS.md, "Policies").
 use Rattle.std.specs.Prelude.{ℕ, List, [], ◌∷◌, Option, Some, None}
-use Rattle.oat_map.specs.declared.map.Map.{Map}
-use Rattle.oat_map.specs.declared.edge.Edge.{Edge}
-use Rattle.oat_policy.specs.declared.policy.PolicyRule.{PolicyRule}
-use Rattle.oat_policy.specs.declared.verdict.PolicyVerdict.{PolicyVerdict}
-use Rattle.oat_policy.specs.declared.verdict.PolicyVerdict.TheVariants.{Holds, Breaks}
-use Rattle.oat_policy.specs.Rules.{broken_at}
+use Rattle.oat_report.specs.{Map, Edge}
+use Rattle.oat_policy.specs.{declared.policy.PolicyRule.PolicyRule, declared.verdict.PolicyVerdict.PolicyVerdict, declared.verdict.PolicyVerdict.TheVariants.Holds}
+use Rattle.oat_policy.specs.{declared.verdict.PolicyVerdict.TheVariants.Breaks, Rules.broken_at}
 
 -- the place on the line, or else this verdict
 abbrev pub broken_or : ℕ → Option ℕ → PolicyVerdict → PolicyVerdict

@@ -15,6 +15,8 @@ mod watch;
 mod words;
 
 pub use fault::{PolicyFault, PolicyFaultKind};
+pub use oat_lines::{Fault, LineFault};
+pub use oat_report::{Edge, Listed, Map};
 pub use policy::{PathRule, Pattern, Policy, PolicyRule};
 pub use reading::read_policy;
 pub use verdict::{PolicyVerdict, verdict_on};

@@ -1,13 +1,12 @@
 ghost use Rattle.std.specs.Prelude.{◌≡◌, ℕ, IfOk};
 ghost use Rattle.std.specs.List.{list_all};
-ghost use Rattle.oat_lines.specs.Faults.{Gives};
-ghost use Rattle.oat_lines.specs.Lines.{words_of};
+ghost use Rattle.oat_report.specs.{Gives, words_of};
 ghost use Rattle.oat_policy.specs.Reading.{is_pattern_byte, is_pattern_word, is_pattern, parts_of, pattern_at, patterns_at, limit_at};
 
 use crate::fault::{PolicyFault, PolicyFaultKind};
 use crate::policy::Pattern;
 use oat_lines::{cut_at, first_word, read_numeral};
-use oat_list::Listed;
+use oat_report::Listed;
 use std::alloc::{AllocError, Global};
 
 fn is_pattern_byte(c: u8) -> bool

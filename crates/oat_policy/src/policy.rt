@@ -1,4 +1,4 @@
-use oat_list::Listed;
+use oat_report::Listed;
 
 /// The words of a pattern; `*` meets each word of a path line.
 pub type Pattern = Listed<Listed<u8>>;

@@ -1,14 +1,13 @@
 ghost use Rattle.std.specs.Prelude.{◌≡◌, ◌≤◌, length, option_map};
 ghost use Rattle.std.specs.Str.{bytes_eq};
-ghost use Rattle.oat_lines.specs.Faults.{Gives};
-ghost use Rattle.oat_lines.specs.Lines.{words_of, is_comment};
+ghost use Rattle.oat_report.specs.{Gives, words_of, is_comment};
 ghost use Rattle.oat_policy.specs.Reading.{pair, never_line, before_line, most_line, order_line, rule_line, line_of, policy_of};
 
 use crate::fault::{PolicyFault, PolicyFaultKind};
 use crate::pattern::{limit_at, pattern_at, patterns_at};
 use crate::policy::{PathRule, Policy, PolicyRule};
 use oat_lines::{first_line, first_word, sole_word};
-use oat_list::Listed;
+use oat_report::Listed;
 use std::alloc::Global;
 
 /// The words of a line with just two.

@@ -8,7 +8,7 @@ ghost use Rattle.oat_policy.specs.Standing.{all_patterns, met_of, patterns_of, I
 use crate::matching::meets_each;
 use crate::policy::{PathRule, Pattern, Policy};
 use crate::words::{DigitRoom, PathWord, words_of};
-use oat_map::{Edge, Map};
+use oat_report::{Edge, Map};
 use std::alloc::{AllocError, Global};
 
 /// An edge, and whether it matches each of a policy's patterns.

@@ -2,9 +2,7 @@
 
 ghost use Rattle.std.specs.Prelude.{◌≡◌, ℕ, ◌+◌, ◌^◌, ◌<◌, ◌≤◌, nat_lt, List, length, Some, None, if◌then◌else◌};
 ghost use Rattle.std.specs.Option.{option_or};
-ghost use Rattle.oat_map.specs.declared.map.Map.{Map};
-ghost use Rattle.oat_map.specs.declared.edge.Edge.{Edge};
-ghost use Rattle.oat_lines.specs.Lines.{TextWord};
+ghost use Rattle.oat_report.specs.{Map, Edge, TextWord};
 ghost use Rattle.oat_policy.specs.Rules.{broken_at};
 ghost use Rattle.oat_policy.specs.Standing.{counts, forbids_behind, is_met, met_of, patterns_of, standing, StandsNext};
 

@@ -1,8 +1,7 @@
 //! How the rules of a policy stand while the edges of a path come in.
 
 ghost use Rattle.std.specs.Prelude.{◌≡◌, ◌≤◌, List, length};
-ghost use Rattle.oat_map.specs.declared.map.Map.{Map};
-ghost use Rattle.oat_map.specs.declared.edge.Edge.{Edge};
+ghost use Rattle.oat_report.specs.{Map, Edge};
 ghost use Rattle.oat_policy.specs.Standing.{all_patterns, patterns_of, standings, StandsNext};
 ghost use Rattle.oat_policy.specs.Verdict.{verdict_of};
 

@@ -3,7 +3,7 @@ ghost use Rattle.oat_policy.specs.Verdict.{verdict_of};
 
 use crate::policy::Policy;
 use crate::watch::Watch;
-use oat_map::{Edge, Map};
+use oat_report::{Edge, Map};
 use std::alloc::{AllocError, Global};
 
 /// What a policy says of a path.

@@ -6,7 +6,7 @@ use crate::recent::{RECENT, RecentEdge, patterns_in, slot_of};
 use crate::rule::Standing;
 use crate::rules::{first_broken, follow};
 use crate::verdict::PolicyVerdict;
-use oat_map::{Edge, Map};
+use oat_report::{Edge, Map};
 use std::alloc::{AllocError, Global};
 
 /// The edges of a path so far, as a policy sees them. Of the edges it keeps a few that came lately, with the patterns that they match.
@@ -36,8 +36,7 @@ fn no_edges(alloc: Global, patterns: usize) -> Result<Vec<RecentEdge>, AllocErro
 
 impl<'a> Watch<'a> {
     ghost use Rattle.std.specs.Prelude.{◌≡◌, ◌<◌, List, [], ◌∷◌, ◌++◌, IfOk};
-    ghost use Rattle.oat_map.specs.declared.map.Map.{Map};
-    ghost use Rattle.oat_map.specs.declared.edge.Edge.{Edge};
+    ghost use Rattle.oat_report.specs.{Map, Edge};
     ghost use Rattle.oat_policy.specs.declared.policy.PolicyRule.{PolicyRule};
     ghost use Rattle.oat_policy.specs.Standing.{HasSeen};
     ghost use Rattle.oat_policy.specs.Verdict.{verdict_of};

@@ -3,17 +3,16 @@
 ghost use Rattle.std.specs.Prelude.{◌≡◌, ◌∷◌, [], map};
 ghost use Rattle.std.specs.Option.{option_and_then};
 ghost use Rattle.std.specs.Fmt.{decimal};
-ghost use Rattle.oat_map.specs.declared.map.Map.{Map};
-ghost use Rattle.oat_map.specs.EdgeName.{place_name, block_name, function_below, site, call_site};
+ghost use Rattle.oat_report.specs.{Map, place_name, block_name, function_below, site, call_site};
 ghost use Rattle.oat_report.specs.PathLine.{place_text, site_text, bit_text, address_digits};
 ghost use Rattle.oat_policy.specs.EdgeWords.{edge_words};
 ghost use Rattle.oat_policy.specs.Pieces.{place_word, path_word, path_words};
 
 use itoa::Buffer;
 use oat_lines::hexadecimal_text;
-use oat_map::{Edge, Map};
 use oat_report::{
-    block_at, call_of, function_at, last_below, number_in_place, place_at_or_below, without_zeros,
+    Edge, Map, block_at, call_of, function_at, last_below, number_in_place, place_at_or_below,
+    without_zeros,
 };
 
 /// A name, and a label behind a point.

@@ -1,18 +1,13 @@
 -- A turn of a replay behind given steps has one answer.
 use Rattle.std.proofs.Common.{◌≡◌, ℕ, ◌+◌, Bool, List, [], ◌∷◌, ◌++◌, length, Some, refl, sym, ap, subst, ◌∙◌, append-nil, arith, length-append}
 use Rattle.std.proofs.lemmas.List.{append_cancel_left, append_cancel_right, nil_from_length}
-use Rattle.oat_map.specs.declared.edge.Edge.TheVariants as edges
-use Rattle.oat_map.specs.declared.map.Map.{Map}
-use Rattle.oat_map.specs.Walk.{Step, passed, moved, Leads, Walk}
+use Rattle.oat_map.specs.{declared.map.Map.Map, Walk.Step, Walk.passed, Walk.moved, Walk.Leads, Walk.Walk}
 use Rattle.oat_map.proofs.WalkLemmas.{Leads-continues}
-use Rattle.oat_replay.specs.declared.cause.ReplayCause.{ReplayCause}
-use Rattle.oat_replay.specs.declared.replay.Replay.{Replay}
-use Rattle.oat_replay.specs.declared.turn.Turn.{Turn}
-use Rattle.oat_replay.specs.declared.turn.Turn.TheVariants.{Moved, Passed, Done, Stuck}
-use Rattle.oat_replay.specs.Replay.{GetsStuck}
-use Rattle.oat_replay.specs.StandsBehind.{StandsBehind, Turns}
-use Rattle.oat_replay.proofs.OneStuck.{one_stuck}
-use Rattle.oat_replay.proofs.ReplayLemmas.{FollowsRecords-continues, at_end, never_both}
+use Rattle.oat_replay.specs.{declared.cause.ReplayCause.ReplayCause, declared.replay.Replay.Replay, declared.turn.Turn.Turn, declared.turn.Turn.TheVariants.Moved}
+use Rattle.oat_replay.specs.{declared.turn.Turn.TheVariants.Passed, declared.turn.Turn.TheVariants.Done, declared.turn.Turn.TheVariants.Stuck, Replay.GetsStuck, StandsBehind.StandsBehind}
+use Rattle.oat_replay.specs.{StandsBehind.Turns}
+use Rattle.oat_replay.proofs.{OneStuck.one_stuck, ReplayLemmas.FollowsRecords-continues, ReplayLemmas.at_end, ReplayLemmas.never_both}
+use Rattle.oat_map.specs.declared.edge.Edge.TheVariants as edges
 
 module _ (flow : Map) (op : ℕ) (bits : List Bool) (targets : List ℕ) (steps : List Step) where
   -- one step more is one

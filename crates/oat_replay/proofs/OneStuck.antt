@@ -1,16 +1,13 @@
 -- A replay gets stuck for one cause at one turn.
 use Rattle.std.proofs.Common.{◌≡◌, ℕ, ◌+◌, Bool, List, [], ◌∷◌, ◌++◌, length, Option, Some, None, refl, sym, ap, ◌∙◌, inl, inr, arith, length-append, append-nil}
-use Rattle.std.proofs.lemmas.Bool.{cases_lt}
-use Rattle.std.proofs.lemmas.List.{append_cancel_left}
-use Rattle.oat_map.specs.declared.row.Row.{Row}
-use Rattle.oat_map.specs.declared.row.Row.TheVariants.{Jump, Branch, Call, ICall, Ret, Begin, End, UseCell, DefCell, UseAt, DefAt, Check}
-use Rattle.oat_map.specs.declared.map.Map.{Map}
-use Rattle.oat_map.specs.Rows.{next}
-use Rattle.oat_map.specs.Walk.{Step, path_of, bits_of, targets_of, path_limit}
+use Rattle.std.proofs.lemmas.{Bool.cases_lt, List.append_cancel_left}
+use Rattle.oat_map.specs.{declared.row.Row.Row, declared.row.Row.TheVariants.Jump, declared.row.Row.TheVariants.Branch, declared.row.Row.TheVariants.Call, declared.row.Row.TheVariants.ICall}
+use Rattle.oat_map.specs.{declared.row.Row.TheVariants.Ret, declared.row.Row.TheVariants.Begin, declared.row.Row.TheVariants.End, declared.row.Row.TheVariants.UseCell}
+use Rattle.oat_map.specs.{declared.row.Row.TheVariants.DefCell, declared.row.Row.TheVariants.UseAt, declared.row.Row.TheVariants.DefAt, declared.row.Row.TheVariants.Check, declared.map.Map.Map}
+use Rattle.oat_map.specs.{Rows.next, Walk.Step, Walk.path_of, Walk.bits_of, Walk.targets_of, Walk.path_limit}
 use Rattle.oat_map.proofs.WalkLemmas.{Leads-continues}
-use Rattle.oat_replay.specs.declared.cause.ReplayCause.{ReplayCause}
-use Rattle.oat_replay.specs.declared.cause.ReplayCause.TheVariants.{BadTarget}
-use Rattle.oat_replay.specs.Replay.{GetsStuck, StuckAt, StuckAtICall, StuckAtEnd, no_target, bad_target, wrong_end, end_inside, unused_bits, unused_targets}
+use Rattle.oat_replay.specs.{declared.cause.ReplayCause.ReplayCause, declared.cause.ReplayCause.TheVariants.BadTarget, Replay.GetsStuck, Replay.StuckAt, Replay.StuckAtICall, Replay.StuckAtEnd}
+use Rattle.oat_replay.specs.{Replay.no_target, Replay.bad_target, Replay.wrong_end, Replay.end_inside, Replay.unused_bits, Replay.unused_targets}
 
 nil_or_cons : (xs : List ℕ) (y : ℕ) (ys : List ℕ) → xs ≡ [] → xs ≡ y ∷ ys → ⊥
 nil_or_cons xs y ys none some = let both : [] ≡ y ∷ ys = sym none ∙ some in cc

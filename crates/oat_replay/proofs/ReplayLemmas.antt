@@ -1,18 +1,15 @@
 -- Replays of the same records: which of two is the longer, where one ends, and why it is the only one.
 use Rattle.std.proofs.Common.{◌≡◌, ℕ, ◌+◌, ◌≤◌, Bool, List, [], ◌∷◌, ◌++◌, length, Some, refl, sym, ap, ◌∙◌, inl, inr, ◌⊎◌, ◌<◌, append_assoc, append-nil, arith, length-append}
-use Rattle.std.proofs.lemmas.Bool.{cases_lt}
-use Rattle.std.proofs.lemmas.List.{append_cancel_left}
-use Rattle.std.proofs.lemmas.List.Elements.{filter_map-append}
-use Rattle.oat_map.specs.declared.row.Row.{Row}
-use Rattle.oat_map.specs.declared.row.Row.TheVariants.{Jump, Branch, Call, ICall, Ret, Begin, End, UseCell, DefCell, UseAt, DefAt, Check}
-use Rattle.oat_map.specs.declared.edge.Edge.{Edge}
-use Rattle.oat_map.specs.declared.edge.Edge.TheVariants as edges
-use Rattle.oat_map.specs.declared.map.Map.{Map}
-use Rattle.oat_map.specs.Rows.{next}
-use Rattle.oat_map.specs.Walk.{Step, moved, edge_of, path_of, bit_of, bits_of, target_of, targets_of, depth, RowGoes, Leads}
+use Rattle.std.proofs.lemmas.{Bool.cases_lt, List.append_cancel_left, List.Elements.filter_map-append}
+use Rattle.oat_map.specs.{declared.row.Row.Row, declared.row.Row.TheVariants.Jump, declared.row.Row.TheVariants.Branch, declared.row.Row.TheVariants.Call, declared.row.Row.TheVariants.ICall}
+use Rattle.oat_map.specs.{declared.row.Row.TheVariants.Ret, declared.row.Row.TheVariants.Begin, declared.row.Row.TheVariants.End, declared.row.Row.TheVariants.UseCell}
+use Rattle.oat_map.specs.{declared.row.Row.TheVariants.DefCell, declared.row.Row.TheVariants.UseAt, declared.row.Row.TheVariants.DefAt, declared.row.Row.TheVariants.Check, declared.edge.Edge.Edge}
+use Rattle.oat_map.specs.{declared.map.Map.Map, Rows.next, Walk.Step, Walk.moved, Walk.edge_of, Walk.path_of, Walk.bit_of, Walk.bits_of, Walk.target_of, Walk.targets_of, Walk.depth, Walk.RowGoes}
+use Rattle.oat_map.specs.{Walk.Leads}
 use Rattle.oat_map.proofs.WalkLemmas.{Leads-continues, Continues, bits-left, targets-left}
-use Rattle.oat_replay.specs.declared.cause.ReplayCause.{ReplayCause}
-use Rattle.oat_replay.specs.Replay.{IsWalked, FollowsRecords, StuckAt, StuckAtEnd, no_target, bad_target, wrong_end, end_inside, unused_bits, unused_targets, OneWalk, OnePath, FollowersAreFronts, NeverBoth}
+use Rattle.oat_replay.specs.{declared.cause.ReplayCause.ReplayCause, Replay.IsWalked, Replay.FollowsRecords, Replay.StuckAt, Replay.StuckAtEnd, Replay.no_target, Replay.bad_target, Replay.wrong_end}
+use Rattle.oat_replay.specs.{Replay.end_inside, Replay.unused_bits, Replay.unused_targets, Replay.OneWalk, Replay.OnePath, Replay.FollowersAreFronts, Replay.NeverBoth}
+use Rattle.oat_map.specs.declared.edge.Edge.TheVariants as edges
 
 -- of two that follow the same records, the longer one goes on where the shorter one leads
 pub FollowsRecords-continues : (flow : Map) (op : ℕ) (bits : List Bool) (targets : List ℕ) (xs ys : List Step) (to other : ℕ)

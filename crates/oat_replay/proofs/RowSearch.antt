@@ -1,17 +1,10 @@
 -- A search of rows by their addresses that halves what is left with each look.
 use Rattle.std.proofs.Common.{◌≡◌, ℕ, suc, ◌+◌, ◌-◌, ◌*◌, ◌^◌, ◌<◌, ◌≤◌, List, length, get_or, None, Some, refl, ap, ◌∙◌, inl, inr, arith, position}
-use Rattle.std.specs.List.{position_or_len}
-use Rattle.std.specs.List.Sorted.{IsStrictlyIncreasing}
-use Rattle.std.specs.Prelude.{nat_le}
+use Rattle.std.specs.{List.position_or_len, List.Sorted.IsStrictlyIncreasing, Prelude.nat_le}
 use Rattle.std.proofs.Math.Nat.{add-mul, mul-add, two-pow-succ}
-use Rattle.std.proofs.lemmas.Bool.{cases_lt, lt-leb, le-leb, lt-ltb, le-ltb}
-use Rattle.std.proofs.lemmas.List.{get_or-map, length-map}
-use Rattle.std.proofs.lemmas.List.Kept.{AllPairs-from_increasing}
-use Rattle.std.proofs.lemmas.List.Sums.{position_or_len_is}
-use Rattle.std.proofs.lemmas.Nat.{mul-le}
-use Rattle.oat_map.specs.declared.row.Row.{Row}
-use Rattle.oat_map.specs.declared.row.Row.TheVariants.{Check}
-use Rattle.oat_map.specs.Rows.{address_of, row_addresses}
+use Rattle.std.proofs.lemmas.{Bool.cases_lt, Bool.lt-leb, Bool.le-leb, Bool.lt-ltb, Bool.le-ltb, List.get_or-map, List.length-map, List.Kept.AllPairs-from_increasing, List.Sums.position_or_len_is}
+use Rattle.std.proofs.lemmas.{Nat.mul-le}
+use Rattle.oat_map.specs.{declared.row.Row.Row, declared.row.Row.TheVariants.Check, Rows.address_of, Rows.row_addresses}
 
 -- the rows before `low` stand below the place, and those from `high` on don't
 pub record IsBetween (addresses : List ℕ) (place low high : ℕ) : Type 0 where

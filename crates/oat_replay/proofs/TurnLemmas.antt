@@ -1,25 +1,18 @@
 -- What each turn of a replay does to the walk that it stands behind.
-use Rattle.std.proofs.Common.{◌≡◌, ◌⊎◌, ℕ, zero, suc, ◌+◌, ◌-◌, ◌<◌, ◌≤◌, Bool, true, false, cond, List, [], ◌∷◌, ◌++◌, length, Option, None, Some, refl, sym, ap, subst, ◌∙◌, inl, inr, append_assoc, arith, length-append}
+use Rattle.std.proofs.Common.{◌≡◌, ◌⊎◌, ℕ, zero, suc, ◌+◌, ◌-◌, ◌<◌, ◌≤◌, Bool, true, false, cond, List, [], ◌∷◌, ◌++◌, length, Option, None, Some, refl, sym, ap, subst, ◌∙◌, inl, inr, append_assoc}
+use Rattle.std.proofs.Common.{arith, length-append}
 use Rattle.std.specs.List.{slice_get}
-use Rattle.std.proofs.lemmas.List.{nil_from_length}
-use Rattle.std.proofs.lemmas.List.Elements.{filter_map-append}
-use Rattle.oat_map.specs.declared.row.Row.{Row}
-use Rattle.oat_map.specs.declared.row.Row.TheVariants.{Branch, End, UseCell, DefCell, UseAt, DefAt, Check}
-use Rattle.oat_map.specs.declared.edge.Edge.TheVariants as edges
-use Rattle.oat_map.specs.declared.map.Map.{Map}
-use Rattle.oat_map.specs.Rows.{after, next, IsIndirectTarget}
-use Rattle.oat_map.specs.Stack.{IsStack}
-use Rattle.oat_map.specs.Walk.{Step, passed, moved, edge_of, path_of, bit_of, bits_of, target_of, targets_of, depth, RowGoes, Goes, Walk, path_limit}
-use Rattle.oat_map.proofs.StackLemmas.{depth-is}
-use Rattle.oat_map.proofs.WalkLemmas.{Leads-push}
-use Rattle.oat_replay.specs.declared.cause.ReplayCause.{ReplayCause}
-use Rattle.oat_replay.specs.declared.replay.Replay.{Replay}
-use Rattle.oat_replay.specs.declared.turn.Turn.{Turn}
-use Rattle.oat_replay.specs.declared.turn.Turn.TheVariants.{Moved, Passed, Done, Stuck}
-use Rattle.oat_replay.specs.EndTurn.{EndsTurn}
-use Rattle.oat_replay.specs.Replay.{IsWalked, FollowsRecords, GetsStuck, StuckAt, StuckAtEnd}
-use Rattle.oat_replay.specs.StandsBehind.{StandsBehind, Turns}
+use Rattle.std.proofs.lemmas.{List.nil_from_length, List.Elements.filter_map-append}
+use Rattle.oat_map.specs.{declared.row.Row.Row, declared.row.Row.TheVariants.Branch, declared.row.Row.TheVariants.End, declared.row.Row.TheVariants.UseCell, declared.row.Row.TheVariants.DefCell}
+use Rattle.oat_map.specs.{declared.row.Row.TheVariants.UseAt, declared.row.Row.TheVariants.DefAt, declared.row.Row.TheVariants.Check, declared.map.Map.Map, Rows.after, Rows.next}
+use Rattle.oat_map.specs.{Rows.IsIndirectTarget, Stack.IsStack, Walk.Step, Walk.passed, Walk.moved, Walk.edge_of, Walk.path_of, Walk.bit_of, Walk.bits_of, Walk.target_of, Walk.targets_of, Walk.depth}
+use Rattle.oat_map.specs.{Walk.RowGoes, Walk.Goes, Walk.Walk, Walk.path_limit}
+use Rattle.oat_map.proofs.{StackLemmas.depth-is, WalkLemmas.Leads-push}
+use Rattle.oat_replay.specs.{declared.cause.ReplayCause.ReplayCause, declared.replay.Replay.Replay, declared.turn.Turn.Turn, declared.turn.Turn.TheVariants.Moved}
+use Rattle.oat_replay.specs.{declared.turn.Turn.TheVariants.Passed, declared.turn.Turn.TheVariants.Done, declared.turn.Turn.TheVariants.Stuck, EndTurn.EndsTurn, Replay.IsWalked, Replay.FollowsRecords}
+use Rattle.oat_replay.specs.{Replay.GetsStuck, Replay.StuckAt, Replay.StuckAtEnd, StandsBehind.StandsBehind, StandsBehind.Turns}
 use Rattle.oat_replay.proofs.ReplayLemmas.{stops_longest}
+use Rattle.oat_map.specs.declared.edge.Edge.TheVariants as edges
 
 pub is_none : (row : Option Row) → ((x : Row) → row ≡ Some x → ⊥) → row ≡ None
 is_none None never = refl

@@ -1,11 +1,8 @@
 -- What the loop over turns has found before a turn.
 use Rattle.std.proofs.Common.{◌≡◌, ℕ, ◌+◌, Bool, List, [], ◌∷◌, ◌++◌, length, ◌∙◌, append-nil}
 use Rattle.std.proofs.lemmas.List.Elements.{filter_map-append}
-use Rattle.oat_map.specs.declared.edge.Edge.{Edge}
-use Rattle.oat_map.specs.declared.map.Map.{Map}
-use Rattle.oat_map.specs.Walk.{Step, passed, moved, edge_of, path_of}
-use Rattle.oat_replay.specs.declared.replay.Replay.{Replay}
-use Rattle.oat_replay.specs.StandsBehind.{StandsBehind}
+use Rattle.oat_map.specs.{declared.edge.Edge.Edge, declared.map.Map.Map, Walk.Step, Walk.passed, Walk.moved, Walk.edge_of, Walk.path_of}
+use Rattle.oat_replay.specs.{declared.replay.Replay.Replay, StandsBehind.StandsBehind}
 
 -- the steps before a turn, and their path
 pub record WalksSoFar (flow : Map) (op : ℕ) (bits : List Bool) (targets : List ℕ) (replay : Replay) (path : List Edge) (turn : ℕ) : Type 0 where

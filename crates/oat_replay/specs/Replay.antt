@@ -1,14 +1,14 @@
 -- What a replay of given records is to find: the path of the one walk that has just these records,
 -- or else how far they lead and why no further. docs/DEFINITIONS.md says the same in words.
 use Rattle.std.specs.Prelude.{ℕ, ◌≡◌, ◌≢◌, ◌+◌, ◌≤◌, ◌<◌, Bool, List, [], ◌∷◌, ◌++◌, length, Option, None, Some}
-use Rattle.oat_map.specs.declared.row.Row.{Row}
-use Rattle.oat_map.specs.declared.row.Row.TheVariants.{Jump, Branch, Call, ICall, Ret, Begin, End, UseCell, DefCell, UseAt, DefAt, Check}
-use Rattle.oat_map.specs.declared.edge.Edge.{Edge}
-use Rattle.oat_map.specs.declared.map.Map.{Map}
-use Rattle.oat_map.specs.Rows.{next, IsIndirectTarget}
-use Rattle.oat_map.specs.Walk.{Step, PartialWalk, Walk, path_of, bits_of, targets_of, depth, path_limit}
-use Rattle.oat_replay.specs.declared.cause.ReplayCause.{ReplayCause}
-use Rattle.oat_replay.specs.declared.cause.ReplayCause.TheVariants.{BitsEnd, TargetsEnd, BadTarget, Underflow, EndInside, Nested, WrongEnd, OffCode, BitsLeft, TargetsLeft, PathLimit}
+use Rattle.oat_map.specs.{declared.row.Row.Row, declared.row.Row.TheVariants.Jump, declared.row.Row.TheVariants.Branch, declared.row.Row.TheVariants.Call, declared.row.Row.TheVariants.ICall}
+use Rattle.oat_map.specs.{declared.row.Row.TheVariants.Ret, declared.row.Row.TheVariants.Begin, declared.row.Row.TheVariants.End, declared.row.Row.TheVariants.UseCell}
+use Rattle.oat_map.specs.{declared.row.Row.TheVariants.DefCell, declared.row.Row.TheVariants.UseAt, declared.row.Row.TheVariants.DefAt, declared.row.Row.TheVariants.Check, declared.edge.Edge.Edge}
+use Rattle.oat_map.specs.{declared.map.Map.Map, Rows.next, Rows.IsIndirectTarget, Walk.Step, Walk.PartialWalk, Walk.Walk, Walk.path_of, Walk.bits_of, Walk.targets_of, Walk.depth, Walk.path_limit}
+use Rattle.oat_replay.specs.{declared.cause.ReplayCause.ReplayCause, declared.cause.ReplayCause.TheVariants.BitsEnd, declared.cause.ReplayCause.TheVariants.TargetsEnd}
+use Rattle.oat_replay.specs.{declared.cause.ReplayCause.TheVariants.BadTarget, declared.cause.ReplayCause.TheVariants.Underflow, declared.cause.ReplayCause.TheVariants.EndInside}
+use Rattle.oat_replay.specs.{declared.cause.ReplayCause.TheVariants.Nested, declared.cause.ReplayCause.TheVariants.WrongEnd, declared.cause.ReplayCause.TheVariants.OffCode}
+use Rattle.oat_replay.specs.{declared.cause.ReplayCause.TheVariants.BitsLeft, declared.cause.ReplayCause.TheVariants.TargetsLeft, declared.cause.ReplayCause.TheVariants.PathLimit}
 
 -- the path is that of a walk within the limit, whose bits and targets are these
 pub record IsWalked (flow : Map) (op : ℕ) (bits : List Bool) (targets : List ℕ) (path : List Edge) : Type 0 where

@@ -1,17 +1,10 @@
 -- Which partial walk a replay has made so far, and what each of its turns leads to (docs/DEFINITIONS.md).
 use Rattle.std.specs.Prelude.{ℕ, ◌≡◌, ◌+◌, Bool, List, [], ◌∷◌, ◌++◌, length, Some}
+use Rattle.oat_map.specs.{declared.map.Map.Map, declared.row.Row.Row, Rows.next, Stack.IsStack, Walk.Step, Walk.passed, Walk.moved, Walk.path_of, Walk.bits_of, Walk.targets_of, Walk.Walk}
+use Rattle.oat_replay.specs.{declared.cause.WalkFault.WalkFault, declared.replay.Replay.Replay, declared.turn.Turn.Turn, declared.turn.Turn.TheVariants.Moved, declared.turn.Turn.TheVariants.Passed}
+use Rattle.oat_replay.specs.{declared.turn.Turn.TheVariants.Done, declared.turn.Turn.TheVariants.Stuck, Replay.FollowsRecords, Replay.IsWalked, Replay.GetsStuck}
 use Rattle.oat_map.specs.declared.edge.Edge.TheVariants as edges
-use Rattle.oat_map.specs.declared.map.Map.{Map}
-use Rattle.oat_map.specs.declared.row.Row.{Row}
-use Rattle.oat_map.specs.Rows.{next}
-use Rattle.oat_map.specs.Stack.{IsStack}
-use Rattle.oat_map.specs.Walk.{Step, passed, moved, path_of, bits_of, targets_of, Walk}
-use Rattle.oat_replay.specs.declared.cause.WalkFault.{WalkFault}
 use Rattle.oat_replay.specs.declared.cause.WalkFault.TheVariants as faults
-use Rattle.oat_replay.specs.declared.replay.Replay.{Replay}
-use Rattle.oat_replay.specs.declared.turn.Turn.{Turn}
-use Rattle.oat_replay.specs.declared.turn.Turn.TheVariants.{Moved, Passed, Done, Stuck}
-use Rattle.oat_replay.specs.Replay.{FollowsRecords, IsWalked, GetsStuck}
 
 -- the replay has made these steps, which follow the records, and stands where they lead
 pub record StandsBehind (flow : Map) (op : ℕ) (bits : List Bool) (targets : List ℕ) (replay : Replay) (steps : List Step) : Type 0 where

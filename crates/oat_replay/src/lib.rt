@@ -9,6 +9,7 @@ mod search;
 mod turn;
 
 pub use cause::{ReplayCause, WalkFault};
+pub use oat_map::{Edge, Path};
 pub use path::walk;
 pub use replay::Replay;
 pub use search::find_row;

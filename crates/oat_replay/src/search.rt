@@ -3,8 +3,7 @@ ghost use Rattle.std.specs.Option.{option_and_then};
 ghost use Rattle.oat_map.specs.declared.row.Row.{Row};
 ghost use Rattle.oat_map.specs.Rows.{address_of, row_addresses, next};
 
-use oat_map::{Row, RowIndex};
-use oat_steps::Steps;
+use oat_map::{Row, RowIndex, Steps};
 use std::sync::ledger::{Blank, Ledger};
 
 /// The index of the row that stands next at or above an address, as the map's `next_row` answers it.

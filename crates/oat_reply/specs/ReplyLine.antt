@@ -1,17 +1,11 @@
 -- The line of an owner's reply; behind an acceptance stand the lines of its path (docs/FORMATS.md, "Owner scripts").
-use Rattle.std.specs.Prelude.{ℕ, List, ◌++◌, codes, Ok, Err}
-use Rattle.std.specs.Fmt.{decimal}
+use Rattle.std.specs.{Prelude.ℕ, Prelude.List, Prelude.◌++◌, Prelude.codes, Prelude.Ok, Prelude.Err, Fmt.decimal}
 use Rattle.hex.specs.Hex.{encode_lower}
-use Rattle.oat_report.specs.PathLine.{space}
-use Rattle.oat_report.specs.VerdictLine.{cause_text}
-use Rattle.oat_owner.specs.declared.owner.Issued.{Issued}
-use Rattle.oat_owner.specs.declared.owner.IssueFault.{IssueFault}
+use Rattle.oat_report.specs.{PathLine.space, VerdictLine.cause_text}
+use Rattle.oat_owner.specs.{declared.owner.Issued.Issued, declared.owner.IssueFault.IssueFault, declared.owner.Answer.Answer, declared.owner.Answer.TheVariants.Accepted}
+use Rattle.oat_owner.specs.{declared.owner.Answer.TheVariants.Refused, declared.owner.AnswerCause.AnswerCause, declared.call.OwnerReply.OwnerReply}
 use Rattle.oat_owner.specs.declared.owner.IssueFault.TheVariants as faults
-use Rattle.oat_owner.specs.declared.owner.Answer.{Answer}
-use Rattle.oat_owner.specs.declared.owner.Answer.TheVariants.{Accepted, Refused}
-use Rattle.oat_owner.specs.declared.owner.AnswerCause.{AnswerCause}
 use Rattle.oat_owner.specs.declared.owner.AnswerCause.TheVariants as causes
-use Rattle.oat_owner.specs.declared.call.OwnerReply.{OwnerReply}
 use Rattle.oat_owner.specs.declared.call.OwnerReply.TheVariants as replies
 
 abbrev pub issued_text : Issued → List ℕ

@@ -7,8 +7,7 @@ ghost use Rattle.oat_report.specs.VerdictLine.{cause_text};
 ghost use Rattle.oat_reply.specs.ReplyLine.{issued_text, issue_fault_text, answer_cause_text, answer_text, reply_text};
 
 use oat_owner::{Answer, AnswerCause, IssueFault, Issued, OwnerReply};
-use oat_report::verdict_line;
-use oat_verify::{Cause, Verdict};
+use oat_report::{Cause, Verdict, verdict_line};
 use std::alloc::{AllocError, Global};
 
 /// A text and a number behind it.

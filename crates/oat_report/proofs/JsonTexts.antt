@@ -1,19 +1,15 @@
 -- The text of the value that is made of a report is the report's line.
-use Rattle.std.proofs.Common.{◌≡◌, ◌∙◌, ◌<◌, ◌≤◌, ◌+◌, ℕ, zero, suc, ℤ, pos, negsuc, Bool, true, false, List, [], ◌∷◌, ◌++◌, map, take, length, get_or, Option, Some, None, is_some, refl, sym, ap, arith, append_assoc, codes}
+use Rattle.std.proofs.Common.{◌≡◌, ◌∙◌, ◌<◌, ◌≤◌, ◌+◌, ℕ, zero, suc, ℤ, pos, negsuc, Bool, true, false, List, [], ◌∷◌, ◌++◌, map, take, length, get_or, Option, Some, None, is_some, refl, sym, ap}
+use Rattle.std.proofs.Common.{arith, append_assoc, codes}
+use Rattle.std.specs.{List.AllByRecursion, Fmt.signed_decimal}
 use Rattle.std.proofs.lemmas.List.{map_push, take_more, take_all}
-use Rattle.std.specs.List.{AllByRecursion}
-use Rattle.std.specs.Fmt.{signed_decimal}
 use Rattle.json.specs.Print.{quoted}
-use Rattle.serde_json.specs.Data.{Data, boolean, string, array, object, Members, member}
-use Rattle.serde_json.specs.View.{view, items_of, items_view}
-use Rattle.serde_json.specs.Written.{has_float, items_have_float, members_have_float, compact_text, items_text, members_text}
-use Rattle.serde_json.specs.declared.value.Value.{Value}
-use Rattle.oat_verify.specs.declared.verdict.Verdict.{Verdict}
-use Rattle.oat_verify.specs.declared.verdict.Verdict.TheVariants.{Accept, Refuse}
-use Rattle.oat_report.specs.declared.json_report.Report.{Report}
-use Rattle.oat_report.specs.VerdictLine.{cause_text}
-use Rattle.oat_report.specs.JsonLine.{json_string, json_bool, behind_commas, json_array, json_member, json_object, is_accepted, cause_member, serial_member, json_text, IsPlainText, IsPlainReport}
-use Rattle.oat_report.specs.JsonData.{number_data, with_cause, serial_members, report_members}
+use Rattle.serde_json.specs.{Data.Data, Data.boolean, Data.string, Data.array, Data.object, Data.Members, Data.member, View.view, View.items_of, View.items_view, Written.has_float}
+use Rattle.serde_json.specs.{Written.items_have_float, Written.members_have_float, Written.compact_text, Written.items_text, Written.members_text, declared.value.Value.Value}
+use Rattle.oat_verify.specs.{declared.verdict.Verdict.Verdict, declared.verdict.Verdict.TheVariants.Accept, declared.verdict.Verdict.TheVariants.Refuse}
+use Rattle.oat_report.specs.{declared.json_report.Report.Report, VerdictLine.cause_text, JsonLine.json_string, JsonLine.json_bool, JsonLine.behind_commas, JsonLine.json_array, JsonLine.json_member}
+use Rattle.oat_report.specs.{JsonLine.json_object, JsonLine.is_accepted, JsonLine.cause_member, JsonLine.serial_member, JsonLine.json_text, JsonLine.IsPlainText, JsonLine.IsPlainReport}
+use Rattle.oat_report.specs.{JsonData.number_data, JsonData.with_cause, JsonData.serial_members, JsonData.report_members}
 use Rattle.oat_report.proofs.PlainTexts.{is_plain, plain_text, cause_is_plain, quoted_plain}
 
 -- ---- loops that make the values of a list

@@ -1,12 +1,9 @@
 -- Facts of lists: what is found in them, what is counted, and items that are told apart by their order.
 use Rattle.std.proofs.Common.{◌≡◌, ℕ, ◌+◌, ◌-◌, ◌<◌, ◌≤◌, Bool, true, false, cond, List, length, map, take, drop, get_or, count_by, Some, None, refl, sym, ap, ◌∙◌, inl, inr, arith}
-use Rattle.std.specs.Prelude.{Contains, find, reverse}
-use Rattle.std.specs.List.{slice_get, position_or_len}
-use Rattle.std.proofs.lemmas.Bool.{cases_Bool, cases_lt, false≢true}
-use Rattle.std.proofs.lemmas.List.{get_or_default, get_or-map, get_or-reverse, length-map, length-reverse}
-use Rattle.std.proofs.lemmas.List.Folds.{find_at}
-use Rattle.std.proofs.lemmas.List.Sums.{fails_before_first, passes_at_first, sum_by-take-drop, sum_by-drop_more, sum_by-le-sum_by}
-use Rattle.std.proofs.lemmas.Option.{slice_get_within, slice_get_read, slice_get_cases, get_or_from_slice_get}
+use Rattle.std.specs.{Prelude.Contains, Prelude.find, Prelude.reverse, List.slice_get, List.position_or_len}
+use Rattle.std.proofs.lemmas.{Bool.cases_Bool, Bool.cases_lt, Bool.false≢true, List.get_or_default, List.get_or-map, List.get_or-reverse, List.length-map, List.length-reverse, List.Folds.find_at}
+use Rattle.std.proofs.lemmas.{List.Sums.fails_before_first, List.Sums.passes_at_first, List.Sums.sum_by-take-drop, List.Sums.sum_by-drop_more, List.Sums.sum_by-le-sum_by, Option.slice_get_within}
+use Rattle.std.proofs.lemmas.{Option.slice_get_read, Option.slice_get_cases, Option.get_or_from_slice_get}
 use Rattle.oat_lines.proofs.Steps.{some_is}
 
 -- a weaker test that one more item passes counts more

@@ -1,12 +1,9 @@
 -- The rows of a place with a lower address are those between the place and there.
 use Rattle.std.proofs.Common.{◌≡◌, ℕ, ◌<◌, Bool, true, false, ◌&&◌, List, [], ◌∷◌, Option, Some, None, nat_le, nat_lt, filter, fold, count_by, if◌then◌else◌, refl, ap, sym, ◌∙◌, arith}
-use Rattle.std.proofs.lemmas.List.Elements.{filter-append}
-use Rattle.std.proofs.lemmas.List.Sums.{fold-append}
-use mathlib.Core.Path.{fun_ext}
-use Rattle.oat_map.specs.declared.map.Map.{Map}
-use Rattle.oat_map.specs.Rows.{address_of, entries_of, starts_of}
-use Rattle.oat_map.specs.EdgeName.{place_of, places, later_of, is_same_place, is_numbered_before, is_numbered}
+use Rattle.std.proofs.lemmas.{List.Elements.filter-append, List.Sums.fold-append}
+use Rattle.oat_verify.specs.{Map, address_of, entries_of, starts_of, place_of, places, later_of, is_same_place, is_numbered_before, is_numbered}
 use Rattle.oat_report.specs.Counting.{is_not_above, is_counted}
+use mathlib.Core.Path.{fun_ext}
 
 abbrev pub greatest : Option ℕ → List ℕ → ℕ → Option ℕ
 greatest best xs a = fold later_of best (filter (λ place. nat_le place a) xs)

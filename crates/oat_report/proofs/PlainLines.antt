@@ -1,16 +1,11 @@
 -- The lines of a path stand in JSON as they are.
 use Rattle.std.proofs.Common.{◌≡◌, ℕ, Bool, true, false, ◌++◌, Option, refl, codes, decimal, arith}
 use Rattle.std.proofs.lemmas.Bool.Decides.{nat_tests}
-use Rattle.oat_image.specs.declared.image.Image.{Image}
-use Rattle.oat_image.specs.Grammar.{IsWellFormedImage}
-use Rattle.oat_map.specs.declared.edge.Edge.{Edge}
+use Rattle.oat_verify.specs.{Image, IsWellFormedImage, Edge, PlaceName, Site, place_name, site, call_site}
+use Rattle.oat_report.specs.{PathLine.space, PathLine.place_text, PathLine.site_text, PathLine.bit_text, PathLine.address_digits, PathLine.edge_line, JsonLine.IsPlainText}
+use Rattle.oat_report.proofs.{PlainTexts.is_plain, PlainTexts.plain_text, PlainTexts.plain_append, PlainTexts.plain_decimal, PlainTexts.plain_address, PlainTexts.spaced, Splitting.IsPlaceWord}
+use Rattle.oat_report.proofs.{Splitting.is_place_byte, Splitting.place_bytes, Splitting.all_weaker, SameLines.place_word, SameLines.site_word, SameLines.typed_of}
 use Rattle.oat_map.specs.declared.edge.Edge.TheVariants as edges
-use Rattle.oat_map.specs.EdgeName.{PlaceName, Site, place_name, site, call_site}
-use Rattle.oat_report.specs.PathLine.{space, place_text, site_text, bit_text, address_digits, edge_line}
-use Rattle.oat_report.specs.JsonLine.{IsPlainText}
-use Rattle.oat_report.proofs.PlainTexts.{is_plain, plain_text, plain_append, plain_decimal, plain_address, spaced}
-use Rattle.oat_report.proofs.Splitting.{IsPlaceWord, is_place_byte, place_bytes, all_weaker}
-use Rattle.oat_report.proofs.SameLines.{place_word, site_word, typed_of}
 
 plain_place_byte : (byte : ℕ) → is_place_byte byte ≡ true → is_plain byte ≡ true
 unfolding is_plain

@@ -1,21 +1,14 @@
 -- Texts that stand in JSON as they are: digits, and what is said of a cause.
-use Rattle.std.proofs.Common.{◌≡◌, ◌≤◌, ◌<◌, ◌/◌, ◌%◌, ◌==◌, ℕ, zero, suc, ℤ, pos, negsuc, Bool, true, false, cond, ◌&&◌, not, nat_le, List, [], ◌∷◌, ◌++◌, drop, decimal, refl, ap, arith, codes, Some, None}
-use Rattle.std.proofs.lemmas.Bool.Decides.{nat_tests}
-use Rattle.std.proofs.lemmas.Bool.{and_parts}
-use Rattle.std.proofs.lemmas.Str.{IsUtf8-from_ascii}
-use Rattle.std.specs.List.{list_all}
-use Rattle.std.specs.Fmt.{digits, digits_onto, digit_glyph, signed_decimal}
-use Rattle.std.specs.Prelude.{IsUtf8}
-use Rattle.std.specs.Str.{IsAscii}
+use Rattle.std.proofs.Common.{◌≡◌, ◌≤◌, ◌<◌, ◌/◌, ◌%◌, ◌==◌, ℕ, zero, suc, ℤ, pos, negsuc, Bool, true, false, cond, ◌&&◌, not, nat_le, List, [], ◌∷◌, ◌++◌, drop, decimal, refl, ap, arith, codes, Some}
+use Rattle.std.proofs.Common.{None}
+use Rattle.std.specs.{List.list_all, Fmt.digits, Fmt.digits_onto, Fmt.digit_glyph, Fmt.signed_decimal, Prelude.IsUtf8, Str.IsAscii}
+use Rattle.std.proofs.lemmas.{Bool.Decides.nat_tests, Bool.and_parts, Str.IsUtf8-from_ascii}
 use Rattle.json.specs.Print.{escape_byte, escape, quoted}
-use Rattle.oat_lines.specs.Hexadecimal.{hexadecimal, hexadecimal_digit}
-use Rattle.oat_replay.specs.declared.cause.ReplayCause.{ReplayCause}
-use Rattle.oat_replay.specs.declared.cause.ReplayCause.TheVariants.{BitsEnd, TargetsEnd, BadTarget, Underflow, EndInside, Nested, WrongEnd, OffCode, BitsLeft, TargetsLeft, PathLimit}
-use Rattle.oat_verify.specs.declared.verdict.Cause.{Cause}
+use Rattle.oat_verify.specs.{hexadecimal, hexadecimal_digit, ReplayCause, BitsEnd, TargetsEnd, BadTarget, Underflow, EndInside, Nested, WrongEnd, OffCode, BitsLeft, TargetsLeft, PathLimit}
+use Rattle.oat_verify.specs.{declared.verdict.Cause.Cause}
+use Rattle.oat_report.specs.{PathLine.space, PathLine.address_digits, VerdictLine.value_text, VerdictLine.replay_text, VerdictLine.cause_text, JsonLine.IsPlainByte, JsonLine.IsPlainText}
+use Rattle.oat_report.specs.{JsonLine.json_string}
 use Rattle.oat_verify.specs.declared.verdict.Cause.TheVariants as causes
-use Rattle.oat_report.specs.PathLine.{space, address_digits}
-use Rattle.oat_report.specs.VerdictLine.{value_text, replay_text, cause_text}
-use Rattle.oat_report.specs.JsonLine.{IsPlainByte, IsPlainText, json_string}
 
 unfoldable pub is_plain : ℕ → Bool
 is_plain byte = nat_le 32 byte && nat_le byte 126 && not (byte == 34) && not (byte == 92)

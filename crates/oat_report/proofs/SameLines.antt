@@ -1,35 +1,22 @@
 -- Edges of a map with one line are the same edge, and the edges of walks are edges of their map.
-use Rattle.std.proofs.Common.{◌≡◌, ℕ, ◌<◌, ◌^◌, true, not, ◌&&◌, ltb, List, [], ◌∷◌, ◌++◌, length, map, get_or, Option, Some, None, refl, sym, ap, subst, ◌∙◌, inl, inr, append_assoc, append-nil, arith}
-use Rattle.std.specs.Prelude.{All, Contains, find, nat_lt, reverse, unwrap_or}
-use Rattle.std.specs.List.{slice_get, list_all}
-use Rattle.std.specs.Char.{is_ascii_digit}
-use Rattle.std.specs.Option.{option_map, option_and_then}
-use Rattle.std.proofs.lemmas.Bool.{and_parts, eqb-true, false≢true}
-use Rattle.std.proofs.lemmas.List.Elements.{All-contains, All-from_recursion, All-nil, All-cons, All-head, All-tail, All-push}
-use Rattle.std.proofs.lemmas.List.Sums.{count_by-le-length}
-use Rattle.std.proofs.lemmas.Option.{slice_get_within, get_or_from_slice_get}
+use Rattle.std.proofs.Common.{◌≡◌, ℕ, ◌<◌, ◌^◌, true, not, ◌&&◌, ltb, List, [], ◌∷◌, ◌++◌, length, map, get_or, Option, Some, None, refl, sym, ap, subst, ◌∙◌, inl, inr, append_assoc, append-nil}
+use Rattle.std.proofs.Common.{arith}
+use Rattle.std.specs.{Prelude.All, Prelude.Contains, Prelude.find, Prelude.nat_lt, Prelude.reverse, Prelude.unwrap_or, List.slice_get, List.list_all, Char.is_ascii_digit, Option.option_map}
+use Rattle.std.specs.{Option.option_and_then}
+use Rattle.std.proofs.lemmas.{Bool.and_parts, Bool.eqb-true, Bool.false≢true, List.Elements.All-contains, List.Elements.All-from_recursion, List.Elements.All-nil, List.Elements.All-cons}
+use Rattle.std.proofs.lemmas.{List.Elements.All-head, List.Elements.All-tail, List.Elements.All-push, List.Sums.count_by-le-length, Option.slice_get_within, Option.get_or_from_slice_get}
 use Rattle.oat_lines.proofs.Steps.{some_is}
-use Rattle.oat_map.specs.Name.{IsName, is_name_byte}
-use Rattle.oat_map.specs.declared.row.Row.{Row}
-use Rattle.oat_map.specs.declared.row.Row.TheVariants.{Jump, Branch, Call, ICall, Ret, Begin, End, UseCell, DefCell, UseAt, DefAt, Check}
-use Rattle.oat_map.specs.declared.edge.Edge.{Edge}
-use Rattle.oat_map.specs.declared.edge.Edge.TheVariants as edges
-use Rattle.oat_map.specs.declared.map.Function.{Function}
-use Rattle.oat_map.specs.declared.map.Block.{Block}
-use Rattle.oat_map.specs.declared.map.Map.{Map}
-use Rattle.oat_map.specs.Rows.{address_of, after, begins, start, IsOperation}
-use Rattle.oat_map.specs.EdgeName.{PlaceName, places, place_of, function_below, place_name, is_numbered, is_numbered_before, site, call_site, name_of}
-use Rattle.oat_map.specs.Walk.{Step, passed, moved, path_of, return_site_of, Returns, RowGoes, Leads}
 use Rattle.oat_map.proofs.NameTests.{test_from_name}
-use Rattle.oat_image.specs.declared.image.Image.{Image}
-use Rattle.oat_image.specs.Grammar.{IsWellFormedImage, IsFunction, IsBlock, IsRow}
-use Rattle.oat_shape.specs.Shape.{IsReturnSite}
 use Rattle.oat_shape.proofs.Laid.{laid}
-use Rattle.oat_report.specs.PathLine.{edge_line}
-use Rattle.oat_report.specs.SameLines.{BeginsShort, IsEdgeOf, WalksTakeEdges, IsOfMapType, IsToldByLines, ShapedMapsAreTold, OneEdgeALine, OnePathOfLines}
-use Rattle.oat_report.proofs.Splitting.{IsWord, IsPlaceWord, IsSiteWord, IsNameWord, one_name}
-use Rattle.oat_report.proofs.Listing.{found, last_found}
-use Rattle.oat_report.proofs.Sites.{IsNamed, named_by, entry_is_place, one_named, row_of_site, one_return_site}
+use Rattle.oat_ir.specs.{End}
+use Rattle.oat_verify.specs.{IsName, is_name_byte, Row, Jump, Branch, Call, ICall, Ret, Begin, UseCell, DefCell, UseAt, DefAt, Check, Edge, Function, Block, Map, address_of, after, begins, start}
+use Rattle.oat_verify.specs.{IsOperation, PlaceName, places, place_of, function_below, place_name, is_numbered, is_numbered_before, site, call_site, name_of, Step, passed, moved, path_of}
+use Rattle.oat_verify.specs.{return_site_of, Returns, RowGoes, Leads, Image, IsWellFormedImage, IsFunction, IsBlock, IsRow, IsReturnSite}
+use Rattle.oat_report.specs.{PathLine.edge_line, SameLines.BeginsShort, SameLines.IsEdgeOf, SameLines.WalksTakeEdges, SameLines.IsOfMapType, SameLines.IsToldByLines, SameLines.ShapedMapsAreTold}
+use Rattle.oat_report.specs.{SameLines.OneEdgeALine, SameLines.OnePathOfLines}
+use Rattle.oat_report.proofs.{Splitting.IsWord, Splitting.IsPlaceWord, Splitting.IsSiteWord, Splitting.IsNameWord, Splitting.one_name, Listing.found, Listing.last_found, Sites.IsNamed, Sites.named_by}
+use Rattle.oat_report.proofs.{Sites.entry_is_place, Sites.one_named, Sites.row_of_site, Sites.one_return_site}
+use Rattle.oat_map.specs.declared.edge.Edge.TheVariants as edges
 
 -- ---- names have the bytes of names
 

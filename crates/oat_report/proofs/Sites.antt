@@ -1,24 +1,14 @@
 -- In a map with the shape's names, the name of a place is that of one address, and a site is that of one row.
-use Rattle.std.proofs.Common.{◌≡◌, ℕ, suc, ◌<◌, ◌⊎◌, true, false, ◌&&◌, eqb, ltb, List, [], ◌∷◌, length, map, get_or, filter, fold, count_by, Option, Some, None, refl, sym, ap, subst, ◌∙◌, inl, inr, arith}
-use Rattle.std.specs.Prelude.{Contains, find, nat_le, nat_lt, reverse, unwrap_or}
-use Rattle.std.specs.List.{slice_get}
-use Rattle.std.specs.List.Sorted.{IsStrictlyIncreasing}
-use Rattle.std.specs.Option.{option_map, option_or, option_and_then}
-use Rattle.std.proofs.lemmas.Bool.{cases_lt, and_parts, false≢true, eqb-true, eq-eqb, ltb-true, lt-ltb, le-ltb}
-use Rattle.std.proofs.lemmas.List.{get_or_default, get_or-map, length-map}
-use Rattle.std.proofs.lemmas.List.Elements.{All-contains, All-contains_itself, All-filter, Contains-append_left, Contains-append_cases}
-use Rattle.std.proofs.lemmas.List.Kept.{AllPairs-from_increasing}
-use Rattle.std.proofs.lemmas.Option.{slice_get_within, slice_get_read, get_or_from_slice_get}
+use Rattle.std.proofs.Common.{◌≡◌, ℕ, suc, ◌<◌, ◌⊎◌, true, false, ◌&&◌, eqb, ltb, List, [], ◌∷◌, length, map, get_or, filter, fold, count_by, Option, Some, None, refl, sym, ap, subst, ◌∙◌, inl, inr}
+use Rattle.std.proofs.Common.{arith}
+use Rattle.std.specs.{Prelude.Contains, Prelude.find, Prelude.nat_le, Prelude.nat_lt, Prelude.reverse, Prelude.unwrap_or, List.slice_get, List.Sorted.IsStrictlyIncreasing, Option.option_map}
+use Rattle.std.specs.{Option.option_or, Option.option_and_then}
+use Rattle.std.proofs.lemmas.{Bool.cases_lt, Bool.and_parts, Bool.false≢true, Bool.eqb-true, Bool.eq-eqb, Bool.ltb-true, Bool.lt-ltb, Bool.le-ltb, List.get_or_default, List.get_or-map}
+use Rattle.std.proofs.lemmas.{List.length-map, List.Elements.All-contains, List.Elements.All-contains_itself, List.Elements.All-filter, List.Elements.Contains-append_left}
+use Rattle.std.proofs.lemmas.{List.Elements.Contains-append_cases, List.Kept.AllPairs-from_increasing, Option.slice_get_within, Option.slice_get_read, Option.get_or_from_slice_get}
 use Rattle.oat_lines.proofs.Steps.{some_is}
-use Rattle.oat_map.specs.declared.row.Row.{Row}
-use Rattle.oat_map.specs.declared.row.Row.TheVariants.{Call, ICall}
-use Rattle.oat_map.specs.declared.map.Function.{Function}
-use Rattle.oat_map.specs.declared.map.Block.{Block}
-use Rattle.oat_map.specs.declared.map.Map.{Map}
-use Rattle.oat_map.specs.Rows.{address_of, after, is_call, is_returned_to, entries_of, starts_of, IsOrdered}
-use Rattle.oat_map.specs.EdgeName.{PlaceName, Site, places, later_of, place_of, function_below, place_name, is_numbered, is_same_place, is_numbered_before, site, call_site}
-use Rattle.oat_shape.specs.MapRules.{S8, IsFunctionOf, IsPlaced}
-use Rattle.oat_shape.specs.Shape.{Everywhere, IsReturnSite}
+use Rattle.oat_verify.specs.{Row, Call, ICall, Function, Block, Map, address_of, after, is_call, is_returned_to, entries_of, starts_of, IsOrdered, PlaceName, Site, places, later_of, place_of}
+use Rattle.oat_verify.specs.{function_below, place_name, is_numbered, is_same_place, is_numbered_before, site, call_site, S8, IsFunctionOf, IsPlaced, Everywhere, IsReturnSite}
 use Rattle.oat_report.proofs.Listing.{count_more, found, not_found, contained_by, contains_image, one_item, last_found, none_last}
 
 -- ---- the greatest place

@@ -1,22 +1,11 @@
 -- Names of edges with one text are the same: keywords, spaces and marks part a line in one way.
-use Rattle.std.proofs.Common.{◌≡◌, ℕ, zero, suc, ◌+◌, ◌^◌, ◌<◌, ◌≤◌, Bool, true, false, not, ◌||◌, eqb, List, [], ◌∷◌, ◌++◌, length, take, drop, Option, Some, None, refl, sym, ap, ◌∙◌, inl, inr, append_assoc, arith}
-use Rattle.std.specs.Prelude.{codes, position, unwrap_or}
-use Rattle.std.specs.Fmt.{decimal}
-use Rattle.std.specs.List.{list_all, position_or_len}
-use Rattle.std.specs.Str.Parse.{digits_value}
-use Rattle.std.proofs.lemmas.Bool.{cases_Bool, cases_lt, and_parts, false≢true, eqb-true, lt-ltb, le-ltb}
-use Rattle.std.proofs.lemmas.Bool.Decides.{nat_tests}
-use Rattle.std.proofs.lemmas.Fmt.{decimal_injective}
-use Rattle.std.proofs.lemmas.List.{append_cancel_left, length-take-le}
-use Rattle.std.proofs.lemmas.List.Folds.{list_all-append}
-use Rattle.oat_lines.specs.Decimal.{is_decimal_digit}
-use Rattle.oat_lines.specs.Fields.{is_visible}
-use Rattle.oat_lines.specs.Hexadecimal.{hexadecimal, is_hexadecimal_digit}
-use Rattle.oat_lines.proofs.Decimals.{decimal_digits}
-use Rattle.oat_lines.proofs.Hexadecimals.{hexadecimal_length, hexadecimal_digits, hexadecimal_again}
-use Rattle.oat_lines.proofs.Steps.{chosen}
-use Rattle.oat_map.specs.Name.{is_name_byte}
-use Rattle.oat_map.specs.EdgeName.{PlaceName, Site, EdgeName, jump, branch, call, icall, return, finish, stray}
+use Rattle.std.proofs.Common.{◌≡◌, ℕ, zero, suc, ◌+◌, ◌^◌, ◌<◌, ◌≤◌, Bool, true, false, not, ◌||◌, eqb, List, [], ◌∷◌, ◌++◌, length, take, drop, Option, Some, None, refl, sym, ap, ◌∙◌, inl, inr}
+use Rattle.std.proofs.Common.{append_assoc, arith}
+use Rattle.std.specs.{Prelude.codes, Prelude.position, Prelude.unwrap_or, Fmt.decimal, List.list_all, List.position_or_len, Str.Parse.digits_value}
+use Rattle.std.proofs.lemmas.{Bool.cases_Bool, Bool.cases_lt, Bool.and_parts, Bool.false≢true, Bool.eqb-true, Bool.lt-ltb, Bool.le-ltb, Bool.Decides.nat_tests, Fmt.decimal_injective}
+use Rattle.std.proofs.lemmas.{List.append_cancel_left, List.length-take-le, List.Folds.list_all-append}
+use Rattle.oat_lines.proofs.{Decimals.decimal_digits, Hexadecimals.hexadecimal_length, Hexadecimals.hexadecimal_digits, Hexadecimals.hexadecimal_again, Steps.chosen}
+use Rattle.oat_verify.specs.{is_decimal_digit, is_visible, hexadecimal, is_hexadecimal_digit, is_name_byte, PlaceName, Site, EdgeName, jump, branch, call, icall, return, finish, stray}
 use Rattle.oat_report.specs.PathLine.{name_in, place_text, site_text, bit_text, address_digits, name_text}
 
 -- ---- lists of bytes that pass a test

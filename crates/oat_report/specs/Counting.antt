@@ -1,8 +1,6 @@
 -- The rows that are numbered before an address, by the place that is the greatest at or below it: a row has that place where it stands at or above it (docs/FORMATS.md).
 use Rattle.std.specs.Prelude.{ℕ, Bool, true, ◌&&◌, Option, None, Some, nat_le, nat_lt}
-use Rattle.oat_map.specs.declared.row.Row.{Row}
-use Rattle.oat_map.specs.Rows.{address_of}
-use Rattle.oat_map.specs.EdgeName.{is_numbered}
+use Rattle.oat_verify.specs.{Row, address_of, is_numbered}
 
 -- the place isn't above the address
 abbrev pub is_not_above : Option ℕ → ℕ → Bool

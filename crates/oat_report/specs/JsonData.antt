@@ -1,13 +1,8 @@
 -- The value whose text is the line of a window, for private clauses.
 use Rattle.std.specs.Prelude.{ℕ, ℤ, map, Option, Some, None, is_some, codes}
-use Rattle.serde_json.specs.Data.{Data, boolean, number, unsigned, string, array, Members, no_members, member}
-use Rattle.serde_json.specs.Find.{of_integer}
-use Rattle.serde_json.specs.View.{items_of}
-use Rattle.oat_verify.specs.declared.verdict.Verdict.{Verdict}
-use Rattle.oat_verify.specs.declared.verdict.Verdict.TheVariants.{Accept, Refuse}
-use Rattle.oat_report.specs.VerdictLine.{cause_text}
-use Rattle.oat_report.specs.JsonLine.{is_accepted}
-use Rattle.oat_report.specs.declared.json_report.Report.{Report}
+use Rattle.serde_json.specs.{Data.Data, Data.boolean, Data.number, Data.unsigned, Data.string, Data.array, Data.Members, Data.no_members, Data.member, Find.of_integer, View.items_of}
+use Rattle.oat_verify.specs.{declared.verdict.Verdict.Verdict, declared.verdict.Verdict.TheVariants.Accept, declared.verdict.Verdict.TheVariants.Refuse}
+use Rattle.oat_report.specs.{VerdictLine.cause_text, JsonLine.is_accepted, declared.json_report.Report.Report}
 
 abbrev pub number_data : ℤ → Data
 number_data value = number (of_integer value)

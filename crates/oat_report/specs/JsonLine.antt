@@ -1,11 +1,8 @@
 -- The line of an attested window as a JSON object (RFC 8259), without its line end (docs/FORMATS.md, "Commands, texts and statuses").
-use Rattle.std.specs.Prelude.{◌≢◌, ◌≤◌, ℕ, Bool, true, false, if◌then◌else◌, List, [], ◌∷◌, ◌++◌, map, Option, Some, None, is_some, codes}
-use Rattle.std.specs.List.{AllByRecursion}
-use Rattle.std.specs.Fmt.{decimal, signed_decimal}
-use Rattle.oat_verify.specs.declared.verdict.Verdict.{Verdict}
-use Rattle.oat_verify.specs.declared.verdict.Verdict.TheVariants.{Accept, Refuse}
-use Rattle.oat_report.specs.VerdictLine.{cause_text}
-use Rattle.oat_report.specs.declared.json_report.Report.{Report}
+use Rattle.std.specs.{Prelude.◌≢◌, Prelude.◌≤◌, Prelude.ℕ, Prelude.Bool, Prelude.true, Prelude.false, Prelude.if◌then◌else◌, Prelude.List, Prelude.[], Prelude.◌∷◌, Prelude.◌++◌, Prelude.map}
+use Rattle.std.specs.{Prelude.Option, Prelude.Some, Prelude.None, Prelude.is_some, Prelude.codes, List.AllByRecursion, Fmt.decimal, Fmt.signed_decimal}
+use Rattle.oat_verify.specs.{declared.verdict.Verdict.Verdict, declared.verdict.Verdict.TheVariants.Accept, declared.verdict.Verdict.TheVariants.Refuse}
+use Rattle.oat_report.specs.{VerdictLine.cause_text, declared.json_report.Report.Report}
 
 -- ---- JSON without blanks
 

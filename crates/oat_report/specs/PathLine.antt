@@ -1,11 +1,7 @@
 -- The lines of a path: the text of each edge's name (docs/FORMATS.md, "Path lines").
-use Rattle.std.specs.Prelude.{ℕ, Bool, true, false, not, ◌==◌, List, ◌++◌, take, drop, Option, None, Some, unwrap_or, codes}
-use Rattle.std.specs.List.{position}
-use Rattle.std.specs.Fmt.{decimal}
-use Rattle.oat_lines.specs.Hexadecimal.{hexadecimal}
-use Rattle.oat_map.specs.declared.map.Map.{Map}
-use Rattle.oat_map.specs.declared.edge.Edge.{Edge}
-use Rattle.oat_map.specs.EdgeName.{PlaceName, Site, EdgeName, jump, branch, call, icall, return, finish, stray, name_of}
+use Rattle.std.specs.{Prelude.ℕ, Prelude.Bool, Prelude.true, Prelude.false, Prelude.not, Prelude.◌==◌, Prelude.List, Prelude.◌++◌, Prelude.take, Prelude.drop, Prelude.Option, Prelude.None}
+use Rattle.std.specs.{Prelude.Some, Prelude.unwrap_or, Prelude.codes, List.position, Fmt.decimal}
+use Rattle.oat_verify.specs.{hexadecimal, Map, Edge, PlaceName, Site, EdgeName, jump, branch, call, icall, return, finish, stray, name_of}
 
 abbrev pub space : List ℕ
 space = codes " "

@@ -1,19 +1,10 @@
 -- A line tells its edge (docs/FORMATS.md, "Path lines").
-use Rattle.std.specs.Prelude.{◌≡◌, ◌^◌, ◌<◌, ℕ, List, length, map, All, Contains, if◌then◌else◌}
-use Rattle.std.specs.List.Sorted.{IsStrictlyIncreasing}
-use Rattle.oat_map.specs.Name.{IsName}
-use Rattle.oat_map.specs.declared.row.Row.{Row}
-use Rattle.oat_map.specs.declared.row.Row.TheVariants.{Jump, Branch, Call, ICall, Ret, Begin}
-use Rattle.oat_map.specs.declared.edge.Edge.{Edge}
-use Rattle.oat_map.specs.declared.edge.Edge.TheVariants as edges
-use Rattle.oat_map.specs.declared.map.Map.{Map}
-use Rattle.oat_map.specs.Rows.{IsIndirectTarget, IsOperation, IsOrdered, entries_of}
-use Rattle.oat_map.specs.Walk.{Step, path_of, Walk}
-use Rattle.oat_image.specs.declared.image.Image.{Image}
-use Rattle.oat_image.specs.Grammar.{IsWellFormedImage}
-use Rattle.oat_shape.specs.MapRules.{S8}
-use Rattle.oat_shape.specs.Shape.{Everywhere, IsReturnSite, IsShaped}
+use Rattle.std.specs.{Prelude.◌≡◌, Prelude.◌^◌, Prelude.◌<◌, Prelude.ℕ, Prelude.List, Prelude.length, Prelude.map, Prelude.All, Prelude.Contains, Prelude.if◌then◌else◌}
+use Rattle.std.specs.{List.Sorted.IsStrictlyIncreasing}
+use Rattle.oat_verify.specs.{IsName, Row, Jump, Branch, Call, ICall, Ret, Begin, Edge, Map, IsIndirectTarget, IsOperation, IsOrdered, entries_of, Step, path_of, Walk, Image, IsWellFormedImage, S8}
+use Rattle.oat_verify.specs.{Everywhere, IsReturnSite, IsShaped}
 use Rattle.oat_report.specs.PathLine.{edge_line}
+use Rattle.oat_map.specs.declared.edge.Edge.TheVariants as edges
 
 -- ---- edges
 

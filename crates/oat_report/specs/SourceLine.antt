@@ -1,8 +1,6 @@
 -- The lines of a path of a program: the text of each edge's name (docs/FORMATS.md, "Path lines").
 use Rattle.std.specs.Prelude.{ℕ, List}
-use Rattle.oat_ir.specs.declared.program.Program.{Program}
-use Rattle.oat_ir.specs.declared.source.SourceEdge.{SourceEdge}
-use Rattle.oat_check.specs.Naming.{source_edge_name}
+use Rattle.oat_check.specs.{Program, SourceEdge, Naming.source_edge_name}
 use Rattle.oat_report.specs.PathLine.{name_text}
 
 -- the line of an edge, without its line end

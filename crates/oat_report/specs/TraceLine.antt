@@ -1,9 +1,7 @@
 -- The lines that stand beside a verdict: a checked use, and where a run parts from the accepted path (docs/FORMATS.md, "Trace lines").
-use Rattle.std.specs.Prelude.{ℕ, List, ◌++◌, codes}
-use Rattle.std.specs.Fmt.{decimal}
+use Rattle.std.specs.{Prelude.ℕ, Prelude.List, Prelude.◌++◌, Prelude.codes, Fmt.decimal}
 use Rattle.hex.specs.Hex.{encode_lower}
-use Rattle.oat_report.specs.PathLine.{space}
-use Rattle.oat_report.specs.VerdictLine.{value_text}
+use Rattle.oat_report.specs.{PathLine.space, VerdictLine.value_text}
 
 -- the cell that is used, what the use found, and what the cell was last defined as
 abbrev pub use_text : ℕ → ℕ → ℕ → List ℕ

@@ -1,15 +1,9 @@
 -- The line of a verdict (docs/FORMATS.md, "Commands, texts and statuses").
-use Rattle.std.specs.Prelude.{ℕ, List, ◌++◌, Option, Some, None, codes}
-use Rattle.std.specs.Fmt.{decimal, signed_decimal}
-use Rattle.std.specs.Int.{w64, cast_signed}
-use Rattle.oat_blob.specs.declared.body.Violation.{Violation}
-use Rattle.oat_replay.specs.declared.cause.ReplayCause.{ReplayCause}
-use Rattle.oat_replay.specs.declared.cause.ReplayCause.TheVariants.{BitsEnd, TargetsEnd, BadTarget, Underflow, EndInside, Nested, WrongEnd, OffCode, BitsLeft, TargetsLeft, PathLimit}
-use Rattle.oat_verify.specs.declared.verdict.Cause.{Cause}
-use Rattle.oat_verify.specs.declared.verdict.Cause.TheVariants as causes
-use Rattle.oat_verify.specs.declared.verdict.Verdict.{Verdict}
-use Rattle.oat_verify.specs.declared.verdict.Verdict.TheVariants.{Accept, Refuse}
+use Rattle.std.specs.{Prelude.ℕ, Prelude.List, Prelude.◌++◌, Prelude.Option, Prelude.Some, Prelude.None, Prelude.codes, Fmt.decimal, Fmt.signed_decimal, Int.w64, Int.cast_signed}
+use Rattle.oat_verify.specs.{Violation, ReplayCause, BitsEnd, TargetsEnd, BadTarget, Underflow, EndInside, Nested, WrongEnd, OffCode, BitsLeft, TargetsLeft, PathLimit, declared.verdict.Cause.Cause}
+use Rattle.oat_verify.specs.{declared.verdict.Verdict.Verdict, declared.verdict.Verdict.TheVariants.Accept, declared.verdict.Verdict.TheVariants.Refuse}
 use Rattle.oat_report.specs.PathLine.{space, address_digits}
+use Rattle.oat_verify.specs.declared.verdict.Cause.TheVariants as causes
 
 -- a value of the device as a signed number
 abbrev pub value_text : ℕ → List ℕ

@@ -1,6 +1,6 @@
 -- The lines of a worked path: an operation that calls a helper twice, then another function by its reference, and branches (docs/FORMATS.md).
 use Rattle.std.specs.Prelude.{◌≡◌, [], ◌∷◌, map, codes}
-use Rattle.oat_map.specs.Worked.{calls_map, calls_path}
+use Rattle.oat_verify.specs.{calls_map, calls_path}
 use Rattle.oat_report.specs.PathLine.{edge_line}
 
 abbrev pub WorkedLines : Type 0

@@ -9,7 +9,7 @@ ghost use Rattle.oat_report.specs.JsonLine.{IsPlainText, IsPlainReport, is_accep
 ghost use Rattle.oat_report.specs.JsonData.{number_data, report_members};
 
 use crate::verdict::put_cause;
-use oat_list::Listed;
+use oat_ir::Listed;
 use oat_verify::{Cause, Verdict};
 use serde_json::{Map, Value, put};
 use std::alloc::{AllocError, Global};

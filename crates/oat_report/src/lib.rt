@@ -13,6 +13,9 @@ mod verdict;
 
 pub use json_report::{Report, json_line};
 pub use line::{call_of, path_line};
+pub use oat_ir::Listed;
+pub use oat_map::{Edge, Map};
+pub use oat_verify::{Cause, Verdict};
 pub use place::{block_at, function_at, last_below, number_in_place, place_at_or_below};
 pub use source::source_line;
 pub use text::without_zeros;

@@ -2,8 +2,7 @@
 
 ghost use Rattle.std.specs.Prelude.{◌≡◌, ◌++◌, ◌↔◌, IsTrue, OnOk, IfOk, find, option_map, unwrap_or, codes};
 ghost use Rattle.std.specs.Fmt.{decimal};
-ghost use Rattle.oat_map.specs.Rows.{address_of, is_returned_to};
-ghost use Rattle.oat_map.specs.EdgeName.{place_name, block_name, function_below, site, call_site};
+ghost use Rattle.oat_verify.specs.{address_of, is_returned_to, place_name, block_name, function_below, site, call_site};
 ghost use Rattle.oat_report.specs.PathLine.{place_text, site_text, space, address_digits, edge_line};
 
 use crate::place::{block_at, function_at, last_below, number_in_place, place_at_or_below};

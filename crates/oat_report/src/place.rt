@@ -2,8 +2,19 @@
 
 ghost use Rattle.std.specs.Prelude.{◌≡◌, ◌↔◌, ◌++◌, ◌<◌, ◌≤◌, IsTrue, Option, Some, OnOk, MatchOption, count_by, filter, fold, nat_le, None, if◌then◌else◌, ◌==◌, find, reverse, nat_lt};
 ghost use Rattle.std.specs.Option.{option_copied};
-ghost use Rattle.oat_map.specs.Rows.{entries_of, starts_of};
-ghost use Rattle.oat_map.specs.EdgeName.{place_of, places, later_of, place_name, function_below, is_numbered_before, is_numbered, call_site, site};
+ghost use Rattle.oat_verify.specs.{
+  entries_of,
+  starts_of,
+  place_of,
+  places,
+  later_of,
+  place_name,
+  function_below,
+  is_numbered_before,
+  is_numbered,
+  call_site,
+  site,
+};
 ghost use Rattle.oat_report.specs.Counting.{is_counted, is_not_above};
 
 use oat_map::{Block, Function, Map, Name, Row};

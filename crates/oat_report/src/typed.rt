@@ -1,7 +1,7 @@
 //! A map as its types have it, for laws that speak of all maps.
 ghost use Rattle.std.specs.Prelude.{◌<◌, ◌^◌, length};
 ghost use Rattle.std.specs.List.{All};
-ghost use Rattle.oat_map.specs.Name.{IsName};
+ghost use Rattle.oat_verify.specs.{IsName};
 ghost use Rattle.oat_report.specs.SameLines.{BeginsShort, IsOfMapType};
 
 use oat_map::{Block, Function, Map, Row};

@@ -6,9 +6,7 @@ ghost use Rattle.oat_report.specs.PathLine.{address_digits};
 ghost use Rattle.oat_report.specs.VerdictLine.{value_text, replay_text, violation_text, serial_text, cause_text, acceptance_text, verdict_text};
 
 use crate::text::{put_address, put_number};
-use oat_blob::Violation;
-use oat_replay::ReplayCause;
-use oat_verify::{Cause, Verdict};
+use oat_verify::{Cause, ReplayCause, Verdict, Violation};
 use std::alloc::{AllocError, Global};
 
 pub fn put_value(out: &mut Vec<u8>, value: u64) -> Result<(), AllocError>

@@ -1,25 +1,14 @@
 -- No two devices of a script have one id.
 use Rattle.std.proofs.Common.{◌≡◌, ℕ, ◌+◌, Bool, true, false, not, ◌||◌, List, [], ◌∷◌, ◌++◌, length, map, None, Some, Ok, Err, refl, sym, ap, subst, ◌∙◌, inl, inr, append_assoc}
-use Rattle.std.specs.Prelude.{◌==◌, nat_lt, if◌then◌else◌, codes}
-use Rattle.std.specs.List.{list_any}
-use Rattle.std.specs.Option.{ok_or}
-use Rattle.std.specs.Str.{bytes_eq}
-use Rattle.std.proofs.lemmas.Bool.{cases_Bool, eq-eqb, eqb-true, ne_eqb}
-use Rattle.std.proofs.lemmas.List.{append-nil, map-append}
-use Rattle.oat_lines.specs.declared.fault.Fault.{Fault}
-use Rattle.oat_lines.specs.declared.fault.Fault.TheVariants.{At}
-use Rattle.oat_lines.specs.Lines.{TextWord, lines_of, words_of, is_comment, sole, triple}
-use Rattle.oat_lines.specs.Reading.{◌>>=◌, guard}
+use Rattle.std.specs.{Prelude.◌==◌, Prelude.nat_lt, Prelude.if◌then◌else◌, Prelude.codes, List.list_any, Option.ok_or, Str.bytes_eq}
+use Rattle.std.proofs.lemmas.{Bool.cases_Bool, Bool.eq-eqb, Bool.eqb-true, Bool.ne_eqb, List.append-nil, List.map-append}
 use Rattle.oat_lines.proofs.Steps.{ok_is, bind_ok, guarded_ok}
-use Rattle.oat_owner.specs.declared.call.OwnerCall.{OwnerCall}
+use Rattle.oat_owner.specs.{Fault, At, TextWord, lines_of, words_of, is_comment, sole, triple, ◌>>=◌, guard, declared.call.OwnerCall.OwnerCall, Ledger.repeated_behind}
+use Rattle.oat_script.specs.{declared.script.ScriptDevice.ScriptDevice, declared.script.Script.Script, declared.fault.ScriptFaultKind.ScriptFaultKind, declared.fault.ScriptFaultKind.TheVariants.Token}
+use Rattle.oat_script.specs.{declared.fault.ScriptFaultKind.TheVariants.Twice, declared.fault.ScriptFaultKind.TheVariants.Order, Laws.HasDistinctIds, Laws.IdsDiffer, Reading.is_new}
+use Rattle.oat_script.specs.{Reading.may_be_device, Reading.device_words, Reading.device_line, Reading.challenge_words, Reading.add_call, Reading.challenge_line, Reading.bytes_word}
+use Rattle.oat_script.specs.{Reading.answer_line, Reading.statement_line, Reading.line_of, Reading.whole, Reading.script_from, Reading.script_of}
 use Rattle.oat_owner.specs.declared.call.OwnerCall.TheVariants as calls
-use Rattle.oat_owner.specs.Ledger.{repeated_behind}
-use Rattle.oat_script.specs.declared.script.ScriptDevice.{ScriptDevice}
-use Rattle.oat_script.specs.declared.script.Script.{Script}
-use Rattle.oat_script.specs.declared.fault.ScriptFaultKind.{ScriptFaultKind}
-use Rattle.oat_script.specs.declared.fault.ScriptFaultKind.TheVariants.{Token, Twice, Order}
-use Rattle.oat_script.specs.Laws.{HasDistinctIds, IdsDiffer}
-use Rattle.oat_script.specs.Reading.{is_new, may_be_device, device_words, device_line, challenge_words, add_call, challenge_line, bytes_word, answer_line, statement_line, line_of, whole, script_from, script_of}
 
 -- ---- one id more
 

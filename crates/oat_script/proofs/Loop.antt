@@ -1,12 +1,8 @@
 -- Reading a script line by line, as a loop does.
 use Rattle.std.proofs.Common.{◌≡◌, ℕ, ◌+◌, ◌≤◌, List, [], ◌∷◌, length, Result, Ok, Err, refl, sym, ◌∙◌, arith}
-use Rattle.oat_lines.specs.Lines.{lines_of, words_of}
-use Rattle.oat_lines.specs.declared.fault.Fault.{Fault}
-use Rattle.oat_lines.specs.Faults.{Fails, Gives}
 use Rattle.oat_lines.proofs.Steps.{fails_as, gives_same}
-use Rattle.oat_script.specs.Reading.{line_of, whole, script_from, script_of}
-use Rattle.oat_script.specs.declared.script.Script.{Script}
-use Rattle.oat_script.specs.declared.fault.ScriptFaultKind.{ScriptFaultKind}
+use Rattle.oat_owner.specs.{lines_of, words_of, Fault, Fails, Gives}
+use Rattle.oat_script.specs.{Reading.line_of, Reading.whole, Reading.script_from, Reading.script_of, declared.script.Script.Script, declared.fault.ScriptFaultKind.ScriptFaultKind}
 
 abbrev Read : Type 0
 Read = Result Script (Fault ScriptFaultKind)

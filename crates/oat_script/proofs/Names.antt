@@ -1,16 +1,10 @@
 -- Names of files are text, and ids of devices are looked at one by one.
 use Rattle.std.proofs.Common.{◌≡◌, ℕ, ◌+◌, ◌<◌, ◌≤◌, Bool, true, false, not, ◌||◌, List, [], ◌∷◌, length, drop, get_or, Result, Ok, Err, refl, sym, ap, ◌∙◌, arith}
-use Rattle.std.specs.Prelude.{IsOk, MatchResult, ◌==◌}
-use Rattle.std.specs.List.{All, list_any}
-use Rattle.std.specs.Str.{IsUtf8}
-use Rattle.std.proofs.lemmas.Bool.{and_parts, ltb-true, eq-eqb, ne_eqb}
-use Rattle.std.proofs.lemmas.List.{drop_more, drop_all}
-use Rattle.std.proofs.lemmas.List.Elements.{All-nil, All-cons}
-use Rattle.std.proofs.lemmas.Str.{IsUtf8-from_ascii}
-use Rattle.std.proofs.lemmas.Str.Ascii.{IsAscii-from_all}
-use Rattle.oat_lines.specs.Fields.{is_visible}
-use Rattle.oat_script.specs.Reading.{is_file_byte, is_file_word, is_new}
-use Rattle.oat_script.specs.declared.script.ScriptDevice.{ScriptDevice}
+use Rattle.std.specs.{Prelude.IsOk, Prelude.MatchResult, Prelude.◌==◌, List.All, List.list_any, Str.IsUtf8}
+use Rattle.std.proofs.lemmas.{Bool.and_parts, Bool.ltb-true, Bool.eq-eqb, Bool.ne_eqb, List.drop_more, List.drop_all, List.Elements.All-nil, List.Elements.All-cons, Str.IsUtf8-from_ascii}
+use Rattle.std.proofs.lemmas.{Str.Ascii.IsAscii-from_all}
+use Rattle.oat_owner.specs.{is_visible}
+use Rattle.oat_script.specs.{Reading.is_file_byte, Reading.is_file_word, Reading.is_new, declared.script.ScriptDevice.ScriptDevice}
 
 -- ---- names
 

@@ -1,7 +1,7 @@
 -- The words of the faults of an owner's script (docs/FORMATS.md, "Texts").
 use Rattle.std.specs.Prelude.{ℕ, List, codes}
-use Rattle.oat_script.specs.declared.fault.ScriptFaultKind.{ScriptFaultKind}
-use Rattle.oat_script.specs.declared.fault.ScriptFaultKind.TheVariants.{Token, Number, Twice, Order}
+use Rattle.oat_script.specs.{declared.fault.ScriptFaultKind.ScriptFaultKind, declared.fault.ScriptFaultKind.TheVariants.Token, declared.fault.ScriptFaultKind.TheVariants.Number}
+use Rattle.oat_script.specs.{declared.fault.ScriptFaultKind.TheVariants.Twice, declared.fault.ScriptFaultKind.TheVariants.Order}
 
 abbrev pub script_fault_word : ScriptFaultKind → List ℕ
 script_fault_word Token = codes "Token"

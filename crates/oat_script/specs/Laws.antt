@@ -1,8 +1,7 @@
 -- What holds of each script that is read.
 use Rattle.std.specs.Prelude.{◌≡◌, ℕ, List, [], None, Ok, map}
 use Rattle.oat_owner.specs.Ledger.{repeated_behind}
-use Rattle.oat_script.specs.declared.script.Script.{Script}
-use Rattle.oat_script.specs.Reading.{script_of}
+use Rattle.oat_script.specs.{declared.script.Script.Script, Reading.script_of}
 
 -- No two devices have one id.
 abbrev pub HasDistinctIds : Script → Type 0

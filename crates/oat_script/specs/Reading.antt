@@ -1,24 +1,13 @@
 -- Which script a text stands for, or else the fault of its first bad line (docs/FORMATS.md, "Owner scripts"). A line is read with what the
 -- lines above it have read_so_far; its faults are tested in the order Token, Number, Twice, Order.
-use Rattle.std.specs.Prelude.{ℕ, ◌+◌, ◌^◌, ◌==◌, ◌&&◌, Bool, not, List, [], ◌∷◌, ◌++◌, length, nat_lt, codes, option_map, Result, Ok, Err, if◌then◌else◌}
-use Rattle.std.specs.List.{list_all, list_any}
-use Rattle.std.specs.Option.{ok_or}
-use Rattle.std.specs.Str.{bytes_eq}
-use Rattle.hex.specs.Hex.{decode_of}
-use Rattle.hex.specs.declared.error.FromHexError.{FromHexError}
-use Rattle.oat_lines.specs.declared.fault.Fault.{Fault}
-use Rattle.oat_lines.specs.declared.fault.Fault.TheVariants.{At}
-use Rattle.oat_lines.specs.Lines.{TextWord, lines_of, words_of, is_comment, sole, triple}
-use Rattle.oat_lines.specs.Decimal.{numeral_of, capped}
-use Rattle.oat_lines.specs.Fields.{is_visible}
-use Rattle.oat_lines.specs.Reading.{◌>>=◌, guard}
-use Rattle.oat_case.specs.Limits.{key_fits, operation_fits}
-use Rattle.oat_owner.specs.declared.call.OwnerCall.{OwnerCall}
+use Rattle.std.specs.{Prelude.ℕ, Prelude.◌+◌, Prelude.◌^◌, Prelude.◌==◌, Prelude.◌&&◌, Prelude.Bool, Prelude.not, Prelude.List, Prelude.[], Prelude.◌∷◌, Prelude.◌++◌, Prelude.length, Prelude.nat_lt}
+use Rattle.std.specs.{Prelude.codes, Prelude.option_map, Prelude.Result, Prelude.Ok, Prelude.Err, Prelude.if◌then◌else◌, List.list_all, List.list_any, Option.ok_or, Str.bytes_eq}
+use Rattle.hex.specs.{Hex.decode_of, declared.error.FromHexError.FromHexError}
+use Rattle.oat_owner.specs.{Fault, At, TextWord, lines_of, words_of, is_comment, sole, triple, numeral_of, capped, is_visible, ◌>>=◌, guard, key_fits, operation_fits}
+use Rattle.oat_owner.specs.{declared.call.OwnerCall.OwnerCall}
+use Rattle.oat_script.specs.{declared.script.ScriptDevice.ScriptDevice, declared.script.Script.Script, declared.fault.ScriptFaultKind.ScriptFaultKind, declared.fault.ScriptFaultKind.TheVariants.Token}
+use Rattle.oat_script.specs.{declared.fault.ScriptFaultKind.TheVariants.Number, declared.fault.ScriptFaultKind.TheVariants.Twice, declared.fault.ScriptFaultKind.TheVariants.Order}
 use Rattle.oat_owner.specs.declared.call.OwnerCall.TheVariants as calls
-use Rattle.oat_script.specs.declared.script.ScriptDevice.{ScriptDevice}
-use Rattle.oat_script.specs.declared.script.Script.{Script}
-use Rattle.oat_script.specs.declared.fault.ScriptFaultKind.{ScriptFaultKind}
-use Rattle.oat_script.specs.declared.fault.ScriptFaultKind.TheVariants.{Token, Number, Twice, Order}
 
 -- the most devices of a script
 abbrev pub device_limit : ℕ

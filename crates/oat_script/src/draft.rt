@@ -1,6 +1,5 @@
 ghost use Rattle.std.specs.Prelude.{◌≡◌, []};
-ghost use Rattle.oat_lines.specs.Faults.{Gives};
-ghost use Rattle.oat_lines.specs.Lines.{words_of};
+ghost use Rattle.oat_owner.specs.{Gives, words_of};
 ghost use Rattle.oat_script.specs.Reading.{is_new, may_be_device, device_line, add_call, challenge_line, answer_line, statement_line, line_of, whole};
 
 use crate::fault::{ScriptFault, ScriptFaultKind};

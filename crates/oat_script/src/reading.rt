@@ -1,5 +1,5 @@
 ghost use Rattle.std.specs.Prelude.{◌≡◌, ◌≤◌, length};
-ghost use Rattle.oat_lines.specs.Faults.{Gives};
+ghost use Rattle.oat_owner.specs.{Gives};
 ghost use Rattle.oat_script.specs.Reading.{script_of};
 
 use crate::draft::Draft;

@@ -2,9 +2,7 @@
 
 ghost use Rattle.std.specs.Prelude.{◌≡◌, ◌==◌, length, Some, None, if◌then◌else◌};
 ghost use Rattle.std.specs.Str.{bytes_eq};
-ghost use Rattle.oat_lines.specs.Faults.{Gives};
-ghost use Rattle.oat_lines.specs.Lines.{is_comment};
-ghost use Rattle.oat_case.specs.Limits.{key_fits, operation_fits};
+ghost use Rattle.oat_owner.specs.{Gives, is_comment, key_fits, operation_fits};
 ghost use Rattle.oat_script.specs.Reading.{id_fits, number_word, bytes_word, device_words, challenge_words};
 
 use crate::fault::{ScriptFault, ScriptFaultKind};

@@ -3,10 +3,8 @@ use Rattle.std.proofs.Common.{ℕ, Option, Some, None, Result, Ok, Err, refl}
 use Rattle.std.specs.Prelude.{IfOk, MatchOption}
 use Rattle.oat_first.specs.First.{fails, passes}
 use Rattle.oat_image.specs.declared.image.Image.{Image}
-use Rattle.oat_shape.specs.declared.fault.Broken.{Broken}
-use Rattle.oat_shape.specs.MapRules.{S2, S4}
-use Rattle.oat_shape.specs.Parts.{KeepsLaterRules}
-use Rattle.oat_shape.specs.Shape.{Everywhere, FailsLowest, TestsRule, BreaksRule, BreaksLaterRule, IsShaped, S1, S3}
+use Rattle.oat_shape.specs.{declared.fault.Broken.Broken, MapRules.S2, MapRules.S4, Parts.KeepsLaterRules, Shape.Everywhere, Shape.FailsLowest, Shape.TestsRule, Shape.BreaksRule}
+use Rattle.oat_shape.specs.{Shape.BreaksLaterRule, Shape.IsShaped, Shape.S1, Shape.S3}
 
 -- it is this one
 pub here : (rule : ℕ → Type 0) (number at : ℕ) (Rest : Broken → Type 0) → FailsLowest rule at → TestsRule rule number Rest (record { number = number; at = at })

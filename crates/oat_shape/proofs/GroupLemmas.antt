@@ -1,16 +1,10 @@
 -- Instructions at an address, and the groups of cells.
 use Rattle.std.proofs.Common.{◌≡◌, ℕ, ◌≤◌, Bool, false, List, Some, None, sym, ◌∙◌, ap, subst, eqb, eqb-true, eq-eqb}
-use Rattle.std.specs.Prelude.{IsTrue, ◌↔◌}
-use Rattle.std.specs.List.{slice_get}
-use Rattle.std.specs.Option.{option_and_then}
+use Rattle.std.specs.{Prelude.IsTrue, Prelude.◌↔◌, List.slice_get, Option.option_and_then}
 use Rattle.std.proofs.lemmas.Bool.{false≢true}
-use Rattle.oat_a64.specs.declared.inst.Inst.{Inst}
-use Rattle.oat_a64.specs.Table.{Word}
-use Rattle.oat_a64.specs.Fetch.{inst_of}
-use Rattle.oat_a64.specs.Step.{word_at, instruction_at}
+use Rattle.oat_a64.specs.{declared.inst.Inst.Inst, Table.Word, Fetch.inst_of, Step.word_at, Step.instruction_at}
 use Rattle.oat_a64.proofs.FetchLemmas.{word_from_inst, inst_from_word}
-use Rattle.oat_shape.specs.Groups.{Stands}
-use Rattle.oat_shape.specs.Parts.{AreIndices}
+use Rattle.oat_shape.specs.{Groups.Stands, Parts.AreIndices}
 use Rattle.oat_shape.proofs.Scans.{contains_at}
 
 -- an instruction stands where its word stands

@@ -1,28 +1,15 @@
 -- What a well-formed image with the shape gives.
 use Rattle.std.proofs.Common.{◌≡◌, ℕ, ◌+◌, ◌%◌, ◌^◌, ◌<◌, ◌≤◌, ◌⊎◌, Bool, true, List, length, get_or, Contains, Option, Some, None, refl, sym, ap, subst, ◌∙◌, inl, inr, arith}
-use Rattle.std.specs.Prelude.{find, IsSome}
-use Rattle.std.specs.List.{slice_get}
-use Rattle.std.specs.Option.{option_map}
-use Rattle.std.proofs.lemmas.Bool.{cases_lt, le-leb, lt-ltb, leb-true, ltb-true, eq-eqb, and_from, and_parts}
-use Rattle.std.proofs.lemmas.List.{get_or-map, length-map}
-use Rattle.std.proofs.lemmas.Option.{slice_get_within, slice_get-get_or}
-use Rattle.oat_a64.specs.declared.inst.Inst.{Inst}
-use Rattle.oat_a64.specs.Step.{word_at}
-use Rattle.oat_map.specs.declared.row.Row.{Row}
-use Rattle.oat_map.specs.declared.row.Row.TheVariants.{Jump, Begin}
-use Rattle.oat_map.specs.Rows.{address_of, after, start, begins, is_over, row_over, IsOrdered}
+use Rattle.std.specs.{Prelude.find, Prelude.IsSome, List.slice_get, Option.option_map}
+use Rattle.std.proofs.lemmas.{Bool.cases_lt, Bool.le-leb, Bool.lt-ltb, Bool.leb-true, Bool.ltb-true, Bool.eq-eqb, Bool.and_from, Bool.and_parts, List.get_or-map, List.length-map}
+use Rattle.std.proofs.lemmas.{Option.slice_get_within, Option.slice_get-get_or}
+use Rattle.oat_a64.specs.{declared.inst.Inst.Inst, Step.word_at}
 use Rattle.oat_map.proofs.RowLemmas.{next_lowest}
-use Rattle.oat_image.specs.Grammar.{IsRow, IsIndex}
-use Rattle.oat_shape.specs.Groups.{Stands}
-use Rattle.oat_shape.specs.Shape.{Covers, CutsNoGroup, group_end}
-use Rattle.oat_shape.specs.Parts.{AreApart, AreWithin}
-use Rattle.oat_shape.specs.Laid.{ShapedImagesAreLaid, OperationsOpenOnce, OperationsStart, ElementsHaveTheirCells}
-use Rattle.oat_shape.proofs.Loops.{same_item}
-use Rattle.oat_shape.proofs.Scans.{at_contains, contains_at}
-use Rattle.oat_shape.proofs.LastGroups.{few_words, after_is, between}
-use Rattle.oat_shape.proofs.RowRules.{begins-true}
-use Rattle.oat_shape.proofs.PlaceRules.{fetched, decoded, of_each, are_within, are_apart}
-use Rattle.oat_shape.proofs.Operations.{found_item, none_passes, opens_nowhere}
+use Rattle.oat_image.specs.{Row, Jump, Begin, address_of, after, start, begins, is_over, row_over, IsOrdered, Grammar.IsRow, Grammar.IsIndex}
+use Rattle.oat_shape.specs.{Groups.Stands, Shape.Covers, Shape.CutsNoGroup, Shape.group_end, Parts.AreApart, Parts.AreWithin, Laid.ShapedImagesAreLaid, Laid.OperationsOpenOnce, Laid.OperationsStart}
+use Rattle.oat_shape.specs.{Laid.ElementsHaveTheirCells}
+use Rattle.oat_shape.proofs.{Loops.same_item, Scans.at_contains, Scans.contains_at, LastGroups.few_words, LastGroups.after_is, LastGroups.between, RowRules.begins-true, PlaceRules.fetched}
+use Rattle.oat_shape.proofs.{PlaceRules.decoded, PlaceRules.of_each, PlaceRules.are_within, PlaceRules.are_apart, Operations.found_item, Operations.none_passes, Operations.opens_nowhere}
 
 -- the one item that passes a test is the one that is found
 found_by : {X : Type 0} (test : X → Bool) (xs : List X) (x : X) (o : Option X) → find test xs ≡ o → Contains xs x → test x ≡ true

@@ -1,18 +1,11 @@
 -- Groups that lie one behind the other, and the last of them that begins below a place.
 use Rattle.std.proofs.Common.{◌≡◌, ℕ, zero, suc, ◌+◌, ◌-◌, ◌*◌, ◌%◌, ◌^◌, ◌<◌, ◌≤◌, true, false, leb, ltb, List, length, get_or, Some, refl, sym, ap, subst, inl, inr, arith}
-use Rattle.std.specs.Prelude.{IsTrue, ◌↔◌}
-use Rattle.std.specs.List.{slice_get}
-use Rattle.std.specs.List.Sorted.{IsNonDecreasingBy, IsPartitionPoint}
+use Rattle.std.specs.{Prelude.IsTrue, Prelude.◌↔◌, List.slice_get, List.Sorted.IsNonDecreasingBy, List.Sorted.IsPartitionPoint}
 use Rattle.std.proofs.Math.Nat.{mod-eq_of_lt}
-use Rattle.std.proofs.lemmas.Bool.{cases_lt, leb-true, le-leb, ltb-true, lt-ltb, ltb-false}
-use Rattle.std.proofs.lemmas.Option.{slice_get_within, slice_get-get_or, get_or_from_slice_get}
-use Rattle.oat_map.specs.declared.row.Row.{Row}
-use Rattle.oat_map.specs.declared.row.Row.TheVariants.{Jump}
-use Rattle.oat_map.specs.Rows.{address_of, word_count, after}
-use Rattle.oat_shape.specs.Parts.{AreApart, AreWithin, EndsBelow, IsCovered}
-use Rattle.oat_shape.specs.Shape.{CutsNoGroup}
-use Rattle.oat_shape.proofs.Loops.{same_item}
-use Rattle.oat_shape.proofs.Scans.{at_contains, contains_at}
+use Rattle.std.proofs.lemmas.{Bool.cases_lt, Bool.leb-true, Bool.le-leb, Bool.ltb-true, Bool.lt-ltb, Bool.ltb-false, Option.slice_get_within, Option.slice_get-get_or, Option.get_or_from_slice_get}
+use Rattle.oat_image.specs.{Row, Jump, address_of, word_count, after}
+use Rattle.oat_shape.specs.{Parts.AreApart, Parts.AreWithin, Parts.EndsBelow, Parts.IsCovered, Shape.CutsNoGroup}
+use Rattle.oat_shape.proofs.{Loops.same_item, Scans.at_contains, Scans.contains_at}
 
 -- ---- one group
 

@@ -1,13 +1,8 @@
 -- What a loop over a list has seen: a set has the keys of the items so far.
 use Rattle.std.proofs.Common.{◌≡◌, ℕ, ◌+◌, ◌<◌, ◌≤◌, Bool, true, false, List, [], length, get_or, take, Some, refl, sym, ◌∙◌, ap, inl, inr, arith, cond, Ordering}
-use Rattle.std.specs.Prelude.{◌||◌, IsTrue, ◌↔◌, not}
-use Rattle.std.specs.List.{slice_get, list_any}
-use Rattle.std.specs.BTreeMap.{is_at}
-use Rattle.std.specs.BTreeSet.{BTreeSet, contains, Updates}
-use Rattle.std.proofs.lemmas.Bool.{cases_Bool, both_ways, not-true}
-use Rattle.std.proofs.lemmas.List.{length-take-le, get_or-take}
-use Rattle.std.proofs.lemmas.List.Folds.{Any-from_list_any, list_any_at, list_any_more}
-use Rattle.std.proofs.lemmas.Option.{slice_get_within, slice_get_read, get_or_from_slice_get}
+use Rattle.std.specs.{Prelude.◌||◌, Prelude.IsTrue, Prelude.◌↔◌, Prelude.not, List.slice_get, List.list_any, BTreeMap.is_at, BTreeSet.BTreeSet, BTreeSet.contains, BTreeSet.Updates}
+use Rattle.std.proofs.lemmas.{Bool.cases_Bool, Bool.both_ways, Bool.not-true, List.length-take-le, List.get_or-take, List.Folds.Any-from_list_any, List.Folds.list_any_at, List.Folds.list_any_more}
+use Rattle.std.proofs.lemmas.{Option.slice_get_within, Option.slice_get_read, Option.get_or_from_slice_get}
 
 pub same_item : {X : Type 0} (xs : List X) (i k : ℕ) (x y : X) → i ≡ k → slice_get xs i ≡ Some x → slice_get xs k ≡ Some y → x ≡ y
 same_item xs i k x y here one other =

@@ -1,26 +1,13 @@
 -- Shape rule S8: keys of names and labels, the function of a place, and the rule from its three parts.
 use Rattle.std.proofs.Common.{◌≡◌, ℕ, ◌+◌, ◌-◌, ◌<◌, ◌≤◌, Bool, true, List, length, get_or, Option, Some, refl, sym, ◌∙◌, ap, subst, inl, inr, arith, Bor, Ordering}
-use Rattle.std.specs.Prelude.{Contains, nat_le}
-use Rattle.std.specs.List.{slice_get}
-use Rattle.std.specs.List.Sorted.{IsStrictlyIncreasing}
-use Rattle.std.specs.Ordering.{nat_cmp, is_eq, ordering_then}
-use Rattle.std.specs.declared.cmp.Ordering.TheVariants.{Less, Equal, Greater}
-use Rattle.std.specs.Cmp.Lexicographic.{slice_cmp}
-use Rattle.std.proofs.lemmas.Bool.{cases_lt, false≢true, lt-leb, le-leb}
-use Rattle.std.proofs.lemmas.Cmp.{tied_itself, nat_cmp_total, nat_list_cmp_total}
-use Rattle.std.proofs.lemmas.List.{get_or-map, length-map}
-use Rattle.std.proofs.lemmas.List.Sums.{position_or_len_is}
-use Rattle.std.proofs.lemmas.Map.Lookups.{exact_unsigned, exact_bytes}
-use Rattle.std.proofs.lemmas.Option.{slice_get_within, slice_get_cases, get_or_from_slice_get}
-use Rattle.oat_map.specs.declared.map.Map.{Map}
-use Rattle.oat_map.specs.declared.map.Function.{Function}
-use Rattle.oat_map.specs.declared.map.Block.{Block}
-use Rattle.oat_map.specs.Rows.{entries_of}
-use Rattle.oat_shape.specs.MapRules.{S8, IsFunctionOf, IsPlaced}
-use Rattle.oat_shape.specs.Parts.{HaveOneName, HaveOneLabel, IsFirst, LiesInFunction, count_below}
-use Rattle.oat_shape.specs.Lowest.{Lowest, EachAt, lower}
-use Rattle.oat_shape.proofs.Scans.{lowest_same, lowest_both}
-use Rattle.oat_shape.proofs.Searches.{rises_zero, before_count, is_counted, some_counted, count_within}
+use Rattle.std.specs.{Prelude.Contains, Prelude.nat_le, List.slice_get, List.Sorted.IsStrictlyIncreasing, Ordering.nat_cmp, Ordering.is_eq, Ordering.ordering_then}
+use Rattle.std.specs.{declared.cmp.Ordering.TheVariants.Less, declared.cmp.Ordering.TheVariants.Equal, declared.cmp.Ordering.TheVariants.Greater, Cmp.Lexicographic.slice_cmp}
+use Rattle.std.proofs.lemmas.{Bool.cases_lt, Bool.false≢true, Bool.lt-leb, Bool.le-leb, Cmp.tied_itself, Cmp.nat_cmp_total, Cmp.nat_list_cmp_total, List.get_or-map, List.length-map}
+use Rattle.std.proofs.lemmas.{List.Sums.position_or_len_is, Map.Lookups.exact_unsigned, Map.Lookups.exact_bytes, Option.slice_get_within, Option.slice_get_cases, Option.get_or_from_slice_get}
+use Rattle.oat_image.specs.{Map, Function, Block, entries_of}
+use Rattle.oat_shape.specs.{MapRules.S8, MapRules.IsFunctionOf, MapRules.IsPlaced, Parts.HaveOneName, Parts.HaveOneLabel, Parts.IsFirst, Parts.LiesInFunction, Parts.count_below, Lowest.Lowest}
+use Rattle.oat_shape.specs.{Lowest.EachAt, Lowest.lower}
+use Rattle.oat_shape.proofs.{Scans.lowest_same, Scans.lowest_both, Searches.rises_zero, Searches.before_count, Searches.is_counted, Searches.some_counted, Searches.count_within}
 
 -- ---- keys
 

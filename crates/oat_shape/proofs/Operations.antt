@@ -1,17 +1,11 @@
 -- Where the window of an operation opens, by the row that begins it.
 use Rattle.std.proofs.Common.{◌≡◌, ℕ, zero, suc, ◌+◌, ◌-◌, ◌^◌, ◌<◌, ◌≤◌, Bool, true, List, [], ◌∷◌, Option, Some, None, refl, sym, ◌∙◌, ap, subst, inl, inr, arith}
-use Rattle.std.specs.Prelude.{find, Contains}
-use Rattle.std.specs.List.{slice_get}
-use Rattle.std.specs.Option.{option_map}
+use Rattle.std.specs.{Prelude.find, Prelude.Contains, List.slice_get, Option.option_map}
 use Rattle.std.proofs.Math.Nat.{mod-eq_of_lt}
 use Rattle.std.proofs.lemmas.Bool.{cases_Bool}
-use Rattle.oat_map.specs.declared.map.Map.{Map}
-use Rattle.oat_map.specs.declared.row.Row.{Row}
-use Rattle.oat_map.specs.declared.row.Row.TheVariants.{Begin}
-use Rattle.oat_map.specs.Rows.{after, begins, start, BeginsAt, IsOperation}
+use Rattle.oat_image.specs.{Map, Row, Begin, after, begins, start, BeginsAt, IsOperation}
 use Rattle.oat_shape.specs.Parts.{AreWithin}
-use Rattle.oat_shape.proofs.Scans.{at_contains, contains_at}
-use Rattle.oat_shape.proofs.RowRules.{begins-true, begins-itself}
+use Rattle.oat_shape.proofs.{Scans.at_contains, Scans.contains_at, RowRules.begins-true, RowRules.begins-itself}
 
 pub found_item : {X : Type 0} (test : X → Bool) (xs : List X) (x : X) → find test xs ≡ Some x → (k : ℕ) × (slice_get xs k ≡ Some x) × (test x ≡ true)
 found_item test [] x found = absurd (cc)

@@ -1,24 +1,12 @@
 -- Shape rules S3, S5 and S6, from what the loops over words, rows and places saw; and what well-formed images keep.
-use Rattle.std.proofs.Common.{◌≡◌, ℕ, zero, suc, ◌+◌, ◌-◌, ◌*◌, ◌/◌, ◌%◌, ◌^◌, ◌<◌, ◌≤◌, Bool, true, false, cond, ◌&&◌, eqb, leb, List, [], ◌∷◌, map, Option, Some, None, refl, sym, ◌∙◌, ap, subst, inl, inr, arith, eqb-true, eq-eqb}
-use Rattle.std.specs.Prelude.{◌⊎◌, Contains}
-use Rattle.std.specs.List.{slice_get, filter, AllByRecursion}
-use Rattle.std.specs.Option.{option_and_then}
-use Rattle.std.proofs.lemmas.Bool.{cases_Bool, leb-true, le-leb}
-use Rattle.std.proofs.lemmas.List.Elements.{All-contains, All-from_recursion}
-use Rattle.oat_a64.specs.declared.inst.Inst.{Inst}
-use Rattle.oat_a64.specs.Fetch.{inst_of}
-use Rattle.oat_a64.specs.Step.{code_base, word_at, instruction_at}
-use Rattle.oat_map.specs.declared.map.Map.{Map}
-use Rattle.oat_map.specs.declared.row.Row.{Row}
-use Rattle.oat_map.specs.declared.row.Row.TheVariants.{Ret, Check}
-use Rattle.oat_map.specs.Rows.{address_of, after, entries_of, starts_of, is_call}
-use Rattle.oat_image.specs.declared.image.Image.{Image}
-use Rattle.oat_image.specs.Grammar.{IsWellFormedImage, IsRow}
-use Rattle.oat_shape.specs.Groups.{IsGroup}
-use Rattle.oat_shape.specs.MapRules.{S2}
-use Rattle.oat_shape.specs.Shape.{Everywhere, IsReturnSite, IsPlaceOrSite, S3}
-use Rattle.oat_shape.specs.Lowest.{Lowest, EachAt, lower}
-use Rattle.oat_shape.specs.Parts.{AreApart, AreIndices, AreWithin, IsCovered, StandsInGroup}
+use Rattle.std.proofs.Common.{◌≡◌, ℕ, zero, suc, ◌+◌, ◌-◌, ◌*◌, ◌/◌, ◌%◌, ◌^◌, ◌<◌, ◌≤◌, Bool, true, false, cond, ◌&&◌, eqb, leb, List, [], ◌∷◌, map, Option, Some, None, refl, sym, ◌∙◌, ap, subst}
+use Rattle.std.proofs.Common.{inl, inr, arith, eqb-true, eq-eqb}
+use Rattle.std.specs.{Prelude.◌⊎◌, Prelude.Contains, List.slice_get, List.filter, List.AllByRecursion, Option.option_and_then}
+use Rattle.std.proofs.lemmas.{Bool.cases_Bool, Bool.leb-true, Bool.le-leb, List.Elements.All-contains, List.Elements.All-from_recursion}
+use Rattle.oat_a64.specs.{declared.inst.Inst.Inst, Fetch.inst_of, Step.code_base, Step.word_at, Step.instruction_at}
+use Rattle.oat_image.specs.{Map, Row, Ret, Check, address_of, after, entries_of, starts_of, is_call, declared.image.Image.Image, Grammar.IsWellFormedImage, Grammar.IsRow}
+use Rattle.oat_shape.specs.{Groups.IsGroup, MapRules.S2, Shape.Everywhere, Shape.IsReturnSite, Shape.IsPlaceOrSite, Shape.S3, Lowest.Lowest, Lowest.EachAt, Lowest.lower, Parts.AreApart}
+use Rattle.oat_shape.specs.{Parts.AreIndices, Parts.AreWithin, Parts.IsCovered, Parts.StandsInGroup}
 use Rattle.oat_shape.proofs.Scans.{lowest_same, lowest_both, at_contains, contains_at}
 
 pub of_each : {X : Type 0} (P : X → Type 0) (xs : List X) → AllByRecursion P xs → (x : X) → Contains xs x → P x

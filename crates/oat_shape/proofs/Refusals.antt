@@ -3,10 +3,8 @@ use Rattle.std.proofs.Common.{◌≡◌, ℕ, sym, ◌∙◌, ap, inl, inr, arit
 use Rattle.std.proofs.lemmas.Bool.{cases_lt}
 use Rattle.oat_first.specs.First.{IsOne, IsDecisive}
 use Rattle.oat_first.proofs.FirstLaws.{First-one, First-through, Tests-decisive}
-use Rattle.oat_shape.specs.declared.fault.Broken.{Broken}
-use Rattle.oat_shape.specs.MapRules.{S2, S4, S7, S8}
-use Rattle.oat_shape.specs.Shape.{Everywhere, FailsLowest, IsBrokenRule, TestsRule, BreaksRule, S1, S3, S5, S6}
-use Rattle.oat_shape.specs.Refusal.{ShapeIsDecided}
+use Rattle.oat_shape.specs.{declared.fault.Broken.Broken, MapRules.S2, MapRules.S4, MapRules.S7, MapRules.S8, Shape.Everywhere, Shape.FailsLowest, Shape.IsBrokenRule, Shape.TestsRule}
+use Rattle.oat_shape.specs.{Shape.BreaksRule, Shape.S1, Shape.S3, Shape.S5, Shape.S6, Refusal.ShapeIsDecided}
 
 one_lowest : (rule : ℕ → Type 0) (at there : ℕ) → FailsLowest rule at → FailsLowest rule there → there ≡ at
 one_lowest rule at there here later =

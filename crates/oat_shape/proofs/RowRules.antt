@@ -1,21 +1,12 @@
 -- Shape rules S2, S4 and S7, from what the loops over the rows saw.
 use Rattle.std.proofs.Common.{◌≡◌, ℕ, ◌+◌, ◌-◌, ◌<◌, ◌≤◌, Bool, true, false, leb, List, length, get_or, Option, Some, refl, sym, ◌∙◌, ap, subst, inl, inr, arith}
-use Rattle.std.specs.Prelude.{IsTrue, ◌↔◌}
-use Rattle.std.specs.List.{slice_get, list_any}
-use Rattle.std.specs.BTreeSet.{BTreeSet, contains}
-use Rattle.std.specs.Ordering.{nat_cmp}
-use Rattle.std.proofs.lemmas.Bool.{cases_lt, cases_Bool, false≢true, eqb-true, eq-eqb, leb-true, le-leb}
-use Rattle.std.proofs.lemmas.List.Folds.{Any-from_list_any, list_any_at}
-use Rattle.std.proofs.lemmas.Option.{slice_get-get_or, slice_get_read}
-use Rattle.oat_map.specs.declared.map.Map.{Map}
-use Rattle.oat_map.specs.declared.row.Row.{Row}
-use Rattle.oat_map.specs.declared.row.Row.TheVariants.{Jump, Begin, End}
-use Rattle.oat_map.specs.Rows.{address_of, after, begins, entries_of, starts_of}
-use Rattle.oat_shape.specs.Lowest.{Lowest, EachAt}
-use Rattle.oat_shape.specs.MapRules.{S2, S4, S7, LeadsToPlaces, IsPaired}
-use Rattle.oat_shape.specs.Parts.{IsBehind, BeginsFirst, EndIsBegun, EndIsIn, IsFresh}
-use Rattle.oat_shape.proofs.Loops.{Seen, Seen-found, Seen-fresh, same_item}
-use Rattle.oat_shape.proofs.Scans.{lowest_same, at_contains, contains_at}
+use Rattle.std.specs.{Prelude.IsTrue, Prelude.◌↔◌, List.slice_get, List.list_any, BTreeSet.BTreeSet, BTreeSet.contains, Ordering.nat_cmp}
+use Rattle.std.proofs.lemmas.{Bool.cases_lt, Bool.cases_Bool, Bool.false≢true, Bool.eqb-true, Bool.eq-eqb, Bool.leb-true, Bool.le-leb, List.Folds.Any-from_list_any, List.Folds.list_any_at}
+use Rattle.std.proofs.lemmas.{Option.slice_get-get_or, Option.slice_get_read}
+use Rattle.oat_image.specs.{Map, Row, Jump, Begin, End, address_of, after, begins, entries_of, starts_of}
+use Rattle.oat_shape.specs.{Lowest.Lowest, Lowest.EachAt, MapRules.S2, MapRules.S4, MapRules.S7, MapRules.LeadsToPlaces, MapRules.IsPaired, Parts.IsBehind, Parts.BeginsFirst, Parts.EndIsBegun}
+use Rattle.oat_shape.specs.{Parts.EndIsIn, Parts.IsFresh}
+use Rattle.oat_shape.proofs.{Loops.Seen, Loops.Seen-found, Loops.Seen-fresh, Loops.same_item, Scans.lowest_same, Scans.at_contains, Scans.contains_at}
 
 -- ---- S2
 

@@ -1,11 +1,8 @@
 -- The lowest address of two rules, and of the items of a list.
 use Rattle.std.proofs.Common.{◌≡◌, ℕ, ◌+◌, ◌<◌, ◌≤◌, Bool, true, false, cond, leb, List, length, Option, Some, None, refl, sym, ◌∙◌, ap, subst, inl, inr, arith}
-use Rattle.std.specs.Prelude.{IsTrue, ◌↔◌, Contains}
-use Rattle.std.specs.List.{slice_get}
-use Rattle.std.proofs.lemmas.Bool.{cases_lt, false≢true, leb-true, leb-false}
-use Rattle.std.proofs.lemmas.Option.{slice_get_within, slice_get_read, get_or_from_slice_get}
-use Rattle.oat_shape.specs.Shape.{FailsLowest}
-use Rattle.oat_shape.specs.Lowest.{Lowest, EachAt, EachBelow, lower, noted}
+use Rattle.std.specs.{Prelude.IsTrue, Prelude.◌↔◌, Prelude.Contains, List.slice_get}
+use Rattle.std.proofs.lemmas.{Bool.cases_lt, Bool.false≢true, Bool.leb-true, Bool.leb-false, Option.slice_get_within, Option.slice_get_read, Option.get_or_from_slice_get}
+use Rattle.oat_shape.specs.{Shape.FailsLowest, Lowest.Lowest, Lowest.EachAt, Lowest.EachBelow, Lowest.lower, Lowest.noted}
 use Rattle.oat_shape.proofs.Loops.{same_item}
 
 -- ---- rules

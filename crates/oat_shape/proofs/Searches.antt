@@ -1,13 +1,11 @@
 -- Binary search in numbers that rise strictly.
 use Rattle.std.proofs.Common.{◌≡◌, ℕ, ◌<◌, ◌≤◌, Bool, true, false, List, [], ◌∷◌, length, get_or, sym, ◌∙◌, subst, inl, inr, arith}
-use Rattle.std.specs.Prelude.{not, IsTrue, ◌↔◌, nat_le, Contains, Result, Ok, Err, is_ok, MatchResult}
-use Rattle.std.specs.List.Sorted.{IsStrictlyIncreasing, IsNonDecreasing, IsPartitionPoint}
+use Rattle.std.specs.{Prelude.not, Prelude.IsTrue, Prelude.◌↔◌, Prelude.nat_le, Prelude.Contains, Prelude.Result, Prelude.Ok, Prelude.Err, Prelude.is_ok, Prelude.MatchResult}
+use Rattle.std.specs.{List.Sorted.IsStrictlyIncreasing, List.Sorted.IsNonDecreasing, List.Sorted.IsPartitionPoint}
 use Rattle.std.proofs.Math.Dec.{ltb}
-use Rattle.std.proofs.lemmas.Bool.{cases_lt, false≢true, lt-leb, le-leb, leb-true, leb-false, ltb-true, ltb-false, both_ways, not-true, not_from_false, false_from_ne_true}
-use Rattle.std.proofs.lemmas.List.{get_or_default}
-use Rattle.std.proofs.lemmas.List.Elements.{Contains-get_or}
-use Rattle.std.proofs.lemmas.List.Sums.{position_or_len_is, fails_before_first, passes_at_first, prefix_len-le-length}
-use Rattle.std.proofs.lemmas.Map.Keys.{non_decreasing_from_sorted, sorted_from_strictly_increasing}
+use Rattle.std.proofs.lemmas.{Bool.cases_lt, Bool.false≢true, Bool.lt-leb, Bool.le-leb, Bool.leb-true, Bool.leb-false, Bool.ltb-true, Bool.ltb-false, Bool.both_ways, Bool.not-true}
+use Rattle.std.proofs.lemmas.{Bool.not_from_false, Bool.false_from_ne_true, List.get_or_default, List.Elements.Contains-get_or, List.Sums.position_or_len_is, List.Sums.fails_before_first}
+use Rattle.std.proofs.lemmas.{List.Sums.passes_at_first, List.Sums.prefix_len-le-length, Map.Keys.non_decreasing_from_sorted, Map.Keys.sorted_from_strictly_increasing}
 use Rattle.oat_shape.specs.Parts.{count_below, LiesInFunction}
 
 pub rises_far : (xs : List ℕ) → IsStrictlyIncreasing xs → IsNonDecreasing xs

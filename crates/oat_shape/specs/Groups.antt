@@ -1,10 +1,11 @@
 -- Groups: which instructions stand at a row's address (docs/FORMATS.md, "Rows and their groups").
 use Rattle.std.specs.Prelude.{◌≡◌, ◌+◌, ◌/◌, ◌%◌, ◌^◌, ◌<◌, ◌≤◌, ◌⊎◌, ℕ, ℤ, pos, List, length, slice_get, Some}
-use Rattle.oat_mem.specs.DataMemory.{global_address}
-use Rattle.oat_a64.specs.declared.inst.Inst.{Inst}
-use Rattle.oat_a64.specs.declared.inst.Inst.TheVariants.{AddReg, SubsReg, Movz, Movk, Ldr, Str, LdrReg, StrReg, B, Bl, BCond, Cbnz, Blr, Ret, Svc, Brk}
-use Rattle.oat_a64.specs.Step.{instruction_at, branch_target}
-use Rattle.oat_map.specs.declared.row.Row.{Row}
+use Rattle.oat_a64.specs.{global_address, declared.inst.Inst.Inst, declared.inst.Inst.TheVariants.AddReg, declared.inst.Inst.TheVariants.SubsReg, declared.inst.Inst.TheVariants.Movz}
+use Rattle.oat_a64.specs.{declared.inst.Inst.TheVariants.Movk, declared.inst.Inst.TheVariants.Ldr, declared.inst.Inst.TheVariants.Str, declared.inst.Inst.TheVariants.LdrReg}
+use Rattle.oat_a64.specs.{declared.inst.Inst.TheVariants.StrReg, declared.inst.Inst.TheVariants.B, declared.inst.Inst.TheVariants.Bl, declared.inst.Inst.TheVariants.BCond}
+use Rattle.oat_a64.specs.{declared.inst.Inst.TheVariants.Cbnz, declared.inst.Inst.TheVariants.Blr, declared.inst.Inst.TheVariants.Ret, declared.inst.Inst.TheVariants.Svc}
+use Rattle.oat_a64.specs.{declared.inst.Inst.TheVariants.Brk, Step.instruction_at, Step.branch_target}
+use Rattle.oat_image.specs.{Row}
 use Rattle.oat_map.specs.declared.row.Row.TheVariants as rows
 
 -- this instruction stands at the address

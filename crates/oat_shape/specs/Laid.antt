@@ -1,17 +1,10 @@
 -- What a well-formed image with the shape gives (docs/PROMISES.md): how its groups lie in code, of which all that runs or replays it makes use.
 use Rattle.std.specs.Prelude.{◌≡◌, ◌+◌, ◌*◌, ◌%◌, ◌^◌, ◌<◌, ◌≤◌, ◌||◌, ℕ, true, List, slice_get, Contains, Some, IsSome}
-use Rattle.oat_mem.specs.DataMemory.{global_address}
-use Rattle.oat_a64.specs.declared.inst.Inst.{Inst}
-use Rattle.oat_a64.specs.Kinds.{is_measured, is_transfer}
-use Rattle.oat_map.specs.declared.map.Map.{Map}
-use Rattle.oat_map.specs.declared.row.Row.{Row}
-use Rattle.oat_map.specs.declared.row.Row.TheVariants.{Begin}
-use Rattle.oat_map.specs.Rows.{address_of, after, next, start, row_over, IsOrdered, IsOperation, BeginsAt, entries_of, starts_of}
-use Rattle.oat_image.specs.declared.image.Image.{Image}
-use Rattle.oat_image.specs.Grammar.{IsWellFormedImage, IsRow}
-use Rattle.oat_shape.specs.Groups.{Stands, AreElements, IsGroup}
-use Rattle.oat_shape.specs.MapRules.{LeadsToPlaces, S7}
-use Rattle.oat_shape.specs.Shape.{Everywhere, IsShaped, Covers, CutsNoGroup, IsPlaceOrSite, group_end}
+use Rattle.oat_a64.specs.{global_address, declared.inst.Inst.Inst, Kinds.is_measured, Kinds.is_transfer}
+use Rattle.oat_image.specs.{Map, Row, Begin, address_of, after, next, start, row_over, IsOrdered, IsOperation, BeginsAt, entries_of, starts_of, declared.image.Image.Image, Grammar.IsWellFormedImage}
+use Rattle.oat_image.specs.{Grammar.IsRow}
+use Rattle.oat_shape.specs.{Groups.Stands, Groups.AreElements, Groups.IsGroup, MapRules.LeadsToPlaces, MapRules.S7, Shape.Everywhere, Shape.IsShaped, Shape.Covers, Shape.CutsNoGroup}
+use Rattle.oat_shape.specs.{Shape.IsPlaceOrSite, Shape.group_end}
 
 -- the row is the lowest one at or above an address
 pub record IsNext (rows : List Row) (t : ℕ) (row : Row) : Type 0 where

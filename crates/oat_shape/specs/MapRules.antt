@@ -2,12 +2,7 @@
 --
 -- A rule holds where it holds at every address; the address where it fails is the one that a refusal names.
 use Rattle.std.specs.Prelude.{◌≡◌, ◌+◌, ◌<◌, ◌≤◌, ℕ, List, slice_get, Some, Contains}
-use Rattle.oat_map.specs.declared.map.Map.{Map}
-use Rattle.oat_map.specs.declared.map.Function.{Function}
-use Rattle.oat_map.specs.declared.map.Block.{Block}
-use Rattle.oat_map.specs.declared.row.Row.{Row}
-use Rattle.oat_map.specs.declared.row.Row.TheVariants.{Jump, Branch, Call, Begin, End}
-use Rattle.oat_map.specs.Rows.{address_of, after, entries_of, starts_of}
+use Rattle.oat_image.specs.{Map, Function, Block, Row, Jump, Branch, Call, Begin, End, address_of, after, entries_of, starts_of}
 
 -- S2: a row stands at or behind the end of the group of the row before it.
 abbrev pub S2 : Map → ℕ → Type 0

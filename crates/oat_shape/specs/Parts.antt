@@ -1,20 +1,10 @@
 -- What each test of the shape rules looks at (docs/FORMATS.md, "Shape"): groups that lie one behind the other, operations
 -- that begin and end, and blocks that lie in functions. Together they say what the rules say.
-use Rattle.std.specs.Prelude.{◌≡◌, ◌+◌, ◌^◌, ◌<◌, ◌≤◌, ◌⊎◌, ◌||◌, ℕ, true, false, List, slice_get, Some, IsTrue, Contains, nat_le}
-use Rattle.std.specs.List.{position_or_len}
-use Rattle.std.specs.BTreeSet.{BTreeSet, contains}
-use Rattle.std.specs.Ordering.{nat_cmp}
-use Rattle.oat_a64.specs.declared.inst.Inst.{Inst}
-use Rattle.oat_a64.specs.Fetch.{inst_of}
-use Rattle.oat_map.specs.declared.map.Function.{Function}
-use Rattle.oat_map.specs.declared.map.Block.{Block}
-use Rattle.oat_map.specs.declared.row.Row.{Row}
-use Rattle.oat_map.specs.declared.row.Row.TheVariants.{Begin, End}
-use Rattle.oat_map.specs.Rows.{address_of, after}
-use Rattle.oat_image.specs.declared.image.Image.{Image}
-use Rattle.oat_shape.specs.MapRules.{S7, S8}
-use Rattle.oat_shape.specs.Shape.{Covers, Everywhere, S5, S6}
-use Rattle.oat_a64.specs.Kinds.{is_measured, is_transfer}
+use Rattle.std.specs.{Prelude.◌≡◌, Prelude.◌+◌, Prelude.◌^◌, Prelude.◌<◌, Prelude.◌≤◌, Prelude.◌⊎◌, Prelude.◌||◌, Prelude.ℕ, Prelude.true, Prelude.false, Prelude.List, Prelude.slice_get, Prelude.Some}
+use Rattle.std.specs.{Prelude.IsTrue, Prelude.Contains, Prelude.nat_le, List.position_or_len, BTreeSet.BTreeSet, BTreeSet.contains, Ordering.nat_cmp}
+use Rattle.oat_a64.specs.{declared.inst.Inst.Inst, Fetch.inst_of, Kinds.is_measured, Kinds.is_transfer}
+use Rattle.oat_image.specs.{Function, Block, Row, Begin, End, address_of, after, declared.image.Image.Image}
+use Rattle.oat_shape.specs.{MapRules.S7, MapRules.S8, Shape.Covers, Shape.Everywhere, Shape.S5, Shape.S6}
 
 -- ---- rows and their groups
 

@@ -1,9 +1,7 @@
 -- What a refusal says of an image, and that images are decided by it (docs/FORMATS.md, "Shape").
 use Rattle.std.specs.Prelude.{◌≡◌, ℕ}
 use Rattle.oat_image.specs.declared.image.Image.{Image}
-use Rattle.oat_shape.specs.declared.fault.ShapeFault.{ShapeFault}
-use Rattle.oat_shape.specs.declared.fault.ShapeFault.TheVariants.{Rule, Memory}
-use Rattle.oat_shape.specs.Shape.{IsShaped, IsBroken}
+use Rattle.oat_shape.specs.{declared.fault.ShapeFault.ShapeFault, declared.fault.ShapeFault.TheVariants.Rule, declared.fault.ShapeFault.TheVariants.Memory, Shape.IsShaped, Shape.IsBroken}
 
 -- The rule of a fault is the first that the image breaks. Want of memory says nothing of the image.
 abbrev pub IsFault : Image → ShapeFault → Type 0

@@ -1,17 +1,9 @@
 -- The shape of an image: eight rules, tested in their order (docs/FORMATS.md, "Shape"). Each says what has to hold at one address; the lowest address where one fails is the one that a refusal names.
 use Rattle.std.specs.Prelude.{◌≡◌, ◌+◌, ◌*◌, ◌<◌, ◌≤◌, ◌⊎◌, ℕ, ◌||◌, IsTrue, List, Some, IsSome, slice_get, Contains}
-use Rattle.oat_a64.specs.declared.inst.Inst.{Inst}
-use Rattle.oat_a64.specs.Fetch.{inst_of}
-use Rattle.oat_a64.specs.Kinds.{is_measured, is_transfer}
-use Rattle.oat_a64.specs.Step.{code_base, word_at, instruction_at}
-use Rattle.oat_map.specs.declared.map.Map.{Map}
-use Rattle.oat_map.specs.declared.row.Row.{Row}
-use Rattle.oat_map.specs.Rows.{address_of, word_count, after, entries_of, is_call, starts_of}
-use Rattle.oat_image.specs.declared.image.Image.{Image}
 use Rattle.oat_first.specs.First.{Tests}
-use Rattle.oat_shape.specs.declared.fault.Broken.{Broken}
-use Rattle.oat_shape.specs.Groups.{IsGroup}
-use Rattle.oat_shape.specs.MapRules.{S2, S4, S7, S8}
+use Rattle.oat_a64.specs.{declared.inst.Inst.Inst, Fetch.inst_of, Kinds.is_measured, Kinds.is_transfer, Step.code_base, Step.word_at, Step.instruction_at}
+use Rattle.oat_image.specs.{Map, Row, address_of, word_count, after, entries_of, is_call, starts_of, declared.image.Image.Image}
+use Rattle.oat_shape.specs.{declared.fault.Broken.Broken, Groups.IsGroup, MapRules.S2, MapRules.S4, MapRules.S7, MapRules.S8}
 
 -- the address behind the words of a row's group
 abbrev pub group_end : Row → ℕ

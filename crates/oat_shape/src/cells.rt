@@ -1,7 +1,7 @@
 ghost use Rattle.std.specs.Prelude.{◌≡◌, ◌↔◌, ◌+◌, ◌<◌, ◌≤◌, ◌^◌, IsTrue, slice_get};
-ghost use Rattle.oat_map.specs.declared.row.Row.TheVariants.{DefCell, UseCell};
+ghost use Rattle.oat_image.specs.{DefCell, UseCell};
+ghost use Rattle.oat_a64.specs.{global_address};
 ghost use Rattle.oat_shape.specs.Groups.{IsDefineGroup, IsGroup, IsUseGroup, MovesAddress};
-ghost use Rattle.oat_mem.specs.DataMemory.{global_address};
 ghost use Rattle.oat_shape.specs.Parts.{AreIndices};
 
 use crate::code::stands;

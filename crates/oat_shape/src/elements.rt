@@ -1,7 +1,7 @@
 // Groups of elements of critical arrays.
 ghost use Rattle.std.specs.Prelude.{◌≡◌, ◌↔◌, ◌+◌, ◌<◌, ◌≤◌, ◌^◌, ℕ, IsTrue, MatchOption, Some, slice_get};
+ghost use Rattle.oat_image.specs.{DefAt, UseAt};
 ghost use Rattle.oat_a64.specs.declared.inst.Inst.TheVariants.{AddReg, Movz};
-ghost use Rattle.oat_map.specs.declared.row.Row.TheVariants.{DefAt, UseAt};
 ghost use Rattle.oat_shape.specs.Groups.{AreElements, IsDefineAtGroup, IsGroup, IsUseAtGroup, Stands, TestsElement};
 ghost use Rattle.oat_shape.specs.Parts.{AreIndices};
 

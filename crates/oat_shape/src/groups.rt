@@ -1,7 +1,7 @@
 ghost use Rattle.std.specs.Prelude.{◌≡◌, ◌↔◌, ◌<◌, ◌^◌, ◌+◌, IsTrue};
+ghost use Rattle.oat_image.specs.{address_of};
 ghost use Rattle.oat_a64.specs.Table.{IsInRange};
 ghost use Rattle.oat_a64.specs.declared.inst.Inst.TheVariants.{Movz};
-ghost use Rattle.oat_map.specs.Rows.{address_of};
 ghost use Rattle.oat_shape.specs.Groups.{IsGroup, Stands};
 ghost use Rattle.oat_shape.specs.Lowest.{Lowest, EachAt};
 ghost use Rattle.oat_shape.specs.Parts.{AreIndices, AreWithin};

@@ -1,6 +1,6 @@
 ghost use Rattle.std.specs.Prelude.{◌↔◌, IsTrue};
 ghost use Rattle.std.specs.List.Sorted.{IsStrictlyIncreasing};
-ghost use Rattle.oat_map.specs.Rows.{address_of};
+ghost use Rattle.oat_image.specs.{address_of};
 ghost use Rattle.oat_shape.specs.Lowest.{Lowest, EachAt};
 ghost use Rattle.oat_shape.specs.MapRules.{LeadsToPlaces};
 

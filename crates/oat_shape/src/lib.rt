@@ -22,4 +22,6 @@ mod shaped;
 mod transfers;
 
 pub use fault::{ShapeFault, ShapeRefusal};
+pub use oat_a64::CODE_BASE;
+pub use oat_image::Image;
 pub use shaped::{Shaped, check_shape};

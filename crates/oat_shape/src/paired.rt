@@ -3,7 +3,7 @@ ghost use Rattle.std.specs.List.{list_any};
 ghost use Rattle.std.specs.Result.{OnOk};
 ghost use Rattle.std.specs.BTreeSet.{contains};
 ghost use Rattle.std.specs.Ordering.{nat_cmp};
-ghost use Rattle.oat_map.specs.Rows.{address_of, begins};
+ghost use Rattle.oat_image.specs.{address_of, begins};
 ghost use Rattle.oat_shape.specs.Lowest.{Lowest, EachAt};
 ghost use Rattle.oat_shape.specs.Parts.{BeginsFirst, EndIsBegun, EndIsIn, IsFresh};
 

@@ -1,7 +1,7 @@
 ghost use Rattle.std.specs.Prelude.{◌≡◌, ◌↔◌, IsTrue, IfOk, Contains, map};
 ghost use Rattle.std.specs.List.{filter};
 ghost use Rattle.std.specs.List.Sorted.{IsStrictlyIncreasing};
-ghost use Rattle.oat_map.specs.Rows.{after, entries_of, starts_of, is_call};
+ghost use Rattle.oat_image.specs.{after, entries_of, starts_of, is_call};
 ghost use Rattle.oat_shape.specs.Parts.{count_below};
 ghost use Rattle.oat_shape.specs.Shape.{IsReturnSite};
 

@@ -1,4 +1,4 @@
-ghost use Rattle.oat_map.specs.Rows.{address_of};
+ghost use Rattle.oat_image.specs.{address_of};
 ghost use Rattle.oat_shape.specs.Lowest.{Lowest, EachAt};
 ghost use Rattle.oat_shape.specs.Parts.{IsBehind};
 

@@ -1,9 +1,9 @@
 ghost use Rattle.std.specs.Prelude.{◌≡◌, IfOk, IfErr, MatchOption};
+ghost use Rattle.oat_image.specs.{BeginsAt, IsOperation};
 ghost use Rattle.sha2.specs.Sha256.{sha256};
 ghost use Rattle.oat_image.specs.Grammar.{IsWellFormedImage, image_text};
 ghost use Rattle.oat_shape.specs.Refusal.{IsFault};
 ghost use Rattle.oat_shape.specs.Shape.{IsShaped};
-ghost use Rattle.oat_map.specs.Rows.{BeginsAt, IsOperation};
 
 use crate::fault::{ShapeFault, ShapeRefusal};
 use crate::rules::first_broken;

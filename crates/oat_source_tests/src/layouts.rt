@@ -1,6 +1,6 @@
 use oat_a64::Inst;
 use oat_asm::{BranchForm, Item, Note, assemble};
-use oat_list::Listed;
+use oat_build::Listed;
 use std::test::Fail;
 
 /// MOVZ X9,#5; then at 10004 a loop that ends where X9 is 0; behind it a label's

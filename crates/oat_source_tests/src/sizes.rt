@@ -1,8 +1,5 @@
-use oat_build::{BuildFault, build};
-use oat_check::{Checked, check};
-use oat_ir::{BlockIr, Func, Instr, Local, Program, Role, Term, Ty};
-use oat_list::Listed;
-use oat_map::Name;
+use oat_build::{BlockIr, BuildFault, Func, Instr, Listed, Name, Program, Role, build};
+use oat_check::{Checked, Local, Term, Ty, check};
 use std::alloc::Global;
 use std::test::Fail;
 

@@ -1,13 +1,9 @@
 -- In an image with the shape a return site is named by its call.
 use Rattle.std.proofs.Common.{◌≡◌, ◌+◌, ◌-◌, ◌*◌, ◌≤◌, List, [], ◌∷◌, refl, sym, ap, ◌∙◌, Bool, true, false, Option, Some, arith, inl, inr, eqb, eqb-true, eq-eqb}
-use Rattle.std.specs.Prelude.{Contains, find}
-use Rattle.std.specs.Option.{option_map, unwrap_or}
+use Rattle.std.specs.{Prelude.Contains, Prelude.find, Option.option_map, Option.unwrap_or}
 use Rattle.std.proofs.lemmas.Bool.{and_from, and_parts, true≢false}
-use Rattle.oat_map.specs.declared.row.Row.{Row}
-use Rattle.oat_map.specs.Rows.{address_of, word_count, after, is_call, is_returned_to, row_over}
-use Rattle.oat_map.specs.EdgeName.{site}
-use Rattle.oat_shape.specs.Laid.{IsLaid}
 use Rattle.oat_shape.proofs.Laid.{laid}
+use Rattle.oat_parts.specs.{Row, address_of, word_count, after, is_call, is_returned_to, row_over, site, IsLaid}
 use Rattle.oat_parts.proofs.Lists.{not_in_none, first_in, later_in, cons_cases}
 use Rattle.oat_symbols.specs.Names.{CallSitesAreFound}
 use Rattle.oat_symbols.proofs.Finding.{find_step}

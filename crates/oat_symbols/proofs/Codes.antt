@@ -1,30 +1,15 @@
 -- From a program and the code of its functions to the image.
 use Rattle.std.proofs.Common.{◌≡◌, ℕ, zero, suc, ◌+◌, ◌<◌, List, [], ◌∷◌, ◌++◌, length, take, drop, refl, sym, ap, ◌∙◌, subst, Some, arith}
-use Rattle.std.specs.Prelude.{slice_get}
-use Rattle.std.specs.List.{position_or_len}
-use Rattle.oat_a64.specs.Laws.{FetchesByTheTable}
-use Rattle.oat_a64.specs.Step.{code_base}
-use Rattle.oat_image.specs.declared.image.Image.{Image}
-use Rattle.oat_asm.specs.Items.{item_words, is_label}
-use Rattle.oat_asm.specs.Expansion.{expansion}
-use Rattle.oat_asm.specs.Standing.{ItemsStand}
+use Rattle.std.specs.{Prelude.slice_get, List.position_or_len}
 use Rattle.oat_asm.proofs.Giving.{before_within}
-use Rattle.oat_ir.specs.declared.program.Program.{Program}
-use Rattle.oat_ir.specs.declared.func.Func.{Func}
-use Rattle.oat_ir.specs.declared.func.BlockIr.{BlockIr}
-use Rattle.oat_check.specs.Rules.{IsChecked}
-use Rattle.oat_parts.specs.Symbols.{FunctionSymbol, SymbolTable, IsSymbolTable}
-use Rattle.oat_parts.specs.Parts.{AreInParts}
-use Rattle.oat_parts.specs.Built.{built_address, built_image}
-use Rattle.oat_parts.specs.Making.{FunctionCode, code_from, AreCodes}
-use Rattle.oat_parts.proofs.Lists.{map_length}
-use Rattle.oat_parts.proofs.Assembling.{parts_can_be_expanded as expand}
-use Rattle.oat_parts.proofs.Building.{built_images_are_shaped as shaped, built_items_stand as stand}
-use Rattle.oat_parts.proofs.Making.{codes_are_in_parts as in_parts}
-use Rattle.oat_symbols.specs.Programs.{block_names, symbol_for, symbols_from, all_symbols, main_at, symbols_of}
-use Rattle.oat_symbols.specs.Codes.{codes_from, IsCodeOf, CodesAreOfTheProgram, items_for, ProgramsAreBuilt}
-use Rattle.oat_symbols.proofs.Programs.{programs_have_symbols, main_within, symbols_many}
-use Rattle.oat_symbols.proofs.Places.{first_code}
+use Rattle.oat_parts.specs.{FetchesByTheTable, code_base, Image, item_words, is_label, expansion, ItemsStand, Symbols.FunctionSymbol, Symbols.SymbolTable, Symbols.IsSymbolTable, Parts.AreInParts}
+use Rattle.oat_parts.specs.{Built.built_address, Built.built_image, Making.FunctionCode, Making.code_from, Making.AreCodes}
+use Rattle.oat_parts.proofs.{Lists.map_length, Assembling.parts_can_be_expanded as expand, Building.built_images_are_shaped as shaped, Building.built_items_stand as stand}
+use Rattle.oat_parts.proofs.{Making.codes_are_in_parts as in_parts}
+use Rattle.oat_check.specs.{Program, Func, BlockIr, Rules.IsChecked}
+use Rattle.oat_symbols.specs.{Programs.block_names, Programs.symbol_for, Programs.symbols_from, Programs.all_symbols, Programs.main_at, Programs.symbols_of, Codes.codes_from, Codes.IsCodeOf}
+use Rattle.oat_symbols.specs.{Codes.CodesAreOfTheProgram, Codes.items_for, Codes.ProgramsAreBuilt}
+use Rattle.oat_symbols.proofs.{Programs.programs_have_symbols, Programs.main_within, Programs.symbols_many, Places.first_code}
 
 -- ---- codes
 

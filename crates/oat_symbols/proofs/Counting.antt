@@ -1,11 +1,8 @@
 -- Counts of what passes a test, and the place of an address.
 use Rattle.std.proofs.Common.{◌≡◌, ℕ, ◌+◌, ◌<◌, ◌≤◌, List, [], ◌∷◌, ◌++◌, refl, sym, ap, subst, Bool, true, false, cond, ◌&&◌, Option, Some, None, arith, inl, inr, max}
-use Rattle.std.specs.Prelude.{Contains, nat_le, count_by, ◌⊎◌}
-use Rattle.std.specs.List.{filter, fold}
-use Rattle.std.proofs.lemmas.Bool.{ne_eqb, leb-true, cases_lt, true≢false}
-use Rattle.std.proofs.lemmas.List.Sums.{sum_by-cons, sum_by-append}
-use Rattle.oat_map.specs.declared.map.Map.{Map}
-use Rattle.oat_map.specs.EdgeName.{places, later_of, place_of, is_same_place}
+use Rattle.std.specs.{Prelude.Contains, Prelude.nat_le, Prelude.count_by, Prelude.◌⊎◌, List.filter, List.fold}
+use Rattle.std.proofs.lemmas.{Bool.ne_eqb, Bool.leb-true, Bool.cases_lt, Bool.true≢false, List.Sums.sum_by-cons, List.Sums.sum_by-append}
+use Rattle.oat_parts.specs.{Map, places, later_of, place_of, is_same_place}
 use Rattle.oat_parts.proofs.Lists.{first_in, later_in}
 use Rattle.oat_symbols.proofs.Finding.{of_filter}
 

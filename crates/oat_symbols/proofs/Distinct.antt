@@ -1,18 +1,10 @@
 -- Names and operations that differ by their tests are distinct.
 use Rattle.std.proofs.Common.{◌≡◌, ℕ, List, [], ◌∷◌, ◌++◌, map, sym, ◌∙◌, Bool, false}
-use Rattle.std.specs.Prelude.{Contains}
-use Rattle.std.specs.List.{AllByRecursion, flat_map, IsDistinct}
-use Rattle.std.specs.Option.{option_to_list}
-use Rattle.std.specs.Str.{bytes_eq}
-use Rattle.std.specs.Cmp.Lexicographic.{other_text}
+use Rattle.std.specs.{Prelude.Contains, List.AllByRecursion, List.flat_map, List.IsDistinct, Option.option_to_list, Str.bytes_eq, Cmp.Lexicographic.other_text}
 use Rattle.std.proofs.lemmas.Bool.{eqb-false as different}
-use Rattle.oat_ir.specs.declared.func.Func.{Func}
-use Rattle.oat_ir.specs.declared.func.Role.{Role}
-use Rattle.oat_ir.specs.declared.func.Role.TheVariants.{Plain, Operation, Main}
-use Rattle.oat_ir.specs.Distinct.{have_one_operation, are_one_operation}
-use Rattle.oat_check.specs.Steps.{operation_number}
 use Rattle.oat_parts.specs.Symbols.{AreDistinct}
 use Rattle.oat_parts.proofs.Lists.{not_in_none, first_in, only_in, of_map, of_flat_map, all_get, all_in}
+use Rattle.oat_check.specs.{Func, Role, Plain, Operation, Main, have_one_operation, are_one_operation, Steps.operation_number}
 
 differ : {A : Type 0} (test : A → A → Bool) (key : A → List ℕ) (x : A) (xs : List A) → ((y : A) → test x y ≡ bytes_eq (key x) (key y)) → AllByRecursion (λ y. test x y ≡ false) xs
     → Contains (map key xs) (key x) → ⊥

@@ -1,20 +1,11 @@
 -- The cells of a program are cells of its table, and those of a critical array are consecutive.
 use Rattle.std.proofs.Common.{◌≡◌, ℕ, ◌+◌, ◌-◌, ◌<◌, Bool, cond, List, take, sym, ap, ◌∙◌, Option, Some, None, arith, ltb}
-use Rattle.std.specs.Prelude.{slice_get}
-use Rattle.std.specs.List.{sum_by}
-use Rattle.std.proofs.lemmas.Bool.{lt-ltb}
-use Rattle.std.proofs.lemmas.Option.{slice_get_within}
-use Rattle.std.proofs.lemmas.List.Elements.{All-contains}
-use Rattle.oat_image.specs.Grammar.{IsLength}
-use Rattle.oat_shape.specs.Groups.{AreElements}
-use Rattle.oat_ir.specs.declared.program.Program.{Program}
-use Rattle.oat_ir.specs.declared.program.GlobalItem.{GlobalItem}
-use Rattle.oat_ir.specs.declared.program.GlobalItem.TheVariants.{CriticalArray}
-use Rattle.oat_ir.specs.WellFormed.{IsGlobal, IsProgram}
-use Rattle.oat_check.specs.Globals.{size_in_words, size_in_cells, of_global, element_number, cell_words, cell_number, word_number}
-use Rattle.oat_check.specs.Rules.{IsChecked}
-use Rattle.oat_check.specs.RunLaws.{CellsHaveWords}
+use Rattle.std.specs.{Prelude.slice_get, List.sum_by}
+use Rattle.std.proofs.lemmas.{Bool.lt-ltb, Option.slice_get_within, List.Elements.All-contains}
+use Rattle.oat_parts.specs.{IsLength, AreElements}
 use Rattle.oat_parts.proofs.Lists.{get_in}
+use Rattle.oat_check.specs.{Program, GlobalItem, CriticalArray, IsGlobal, IsProgram, Globals.size_in_words, Globals.size_in_cells, Globals.of_global, Globals.element_number, Globals.cell_words}
+use Rattle.oat_check.specs.{Globals.cell_number, Globals.word_number, Rules.IsChecked, RunLaws.CellsHaveWords}
 use Rattle.oat_symbols.specs.Programs.{HasItsCells, ProgramsHaveTheirCells}
 
 pub numbered : (size : GlobalItem → ℕ) (items : List GlobalItem) (g i : ℕ) (item : GlobalItem) → slice_get items g ≡ Some item → i < size item

@@ -1,14 +1,9 @@
 -- What is found in a list first or last, and what passes a test in it; and the greatest of some places.
 use Rattle.std.proofs.Common.{◌≡◌, ℕ, zero, suc, ◌<◌, ◌≤◌, List, [], ◌∷◌, refl, sym, ap, ◌∙◌, subst, Bool, true, false, cond, Option, Some, None, arith, inl, inr, max}
-use Rattle.std.specs.Prelude.{slice_get, Contains, nat_lt, find, reverse, ◌==◌, ◌⊎◌}
-use Rattle.std.specs.List.{filter, fold}
-use Rattle.std.specs.Option.{option_or}
-use Rattle.std.proofs.lemmas.Bool.{eq-eqb, ne_eqb, lt-ltb, le-ltb, true≢false}
-use Rattle.std.proofs.lemmas.List.{reverse-append}
-use Rattle.std.proofs.lemmas.List.Folds.{find-append}
-use Rattle.oat_map.specs.EdgeName.{later_of}
+use Rattle.std.specs.{Prelude.slice_get, Prelude.Contains, Prelude.nat_lt, Prelude.find, Prelude.reverse, Prelude.◌==◌, Prelude.◌⊎◌, List.filter, List.fold, Option.option_or}
+use Rattle.std.proofs.lemmas.{Bool.eq-eqb, Bool.ne_eqb, Bool.lt-ltb, Bool.le-ltb, Bool.true≢false, List.reverse-append, List.Folds.find-append}
+use Rattle.oat_parts.specs.{later_of, Symbols.Rises}
 use Rattle.oat_parts.proofs.Lists.{not_in_none, first_in, later_in, cons_cases, get_in, in_get}
-use Rattle.oat_parts.specs.Symbols.{Rises}
 
 pub find_step : {A : Type 0} (test : A → Bool) (x : A) (xs : List A) (b : Bool) → test x ≡ b → find test (x ∷ xs) ≡ cond b (Some x) (find test xs)
 find_step test x xs b e = ap (λ (t : Bool). cond t (Some x) (find test xs)) e

@@ -1,18 +1,10 @@
 -- The words of a program's data and its cells lie in order, and are few.
 use Rattle.std.proofs.Common.{◌≡◌, ℕ, zero, suc, ◌+◌, ◌^◌, ◌<◌, ◌≤◌, List, [], ◌∷◌, ◌++◌, length, map, refl, sym, ap, subst, Bool, true, false, cond, arith, inl, inr, length-append}
-use Rattle.std.specs.Prelude.{Contains, nat_eq, ◌⊎◌}
-use Rattle.std.specs.List.{AllByRecursion, sum_by, range_with_len}
-use Rattle.std.specs.List.Sorted.{IsStrictlyIncreasing}
-use Rattle.std.proofs.lemmas.Bool.{eqb-false as different}
-use Rattle.std.proofs.lemmas.List.Elements.{Contains-append_cases}
-use Rattle.std.proofs.lemmas.List.Sums.{sum_by-cons}
-use Rattle.oat_image.specs.declared.image.InitWord.{InitWord}
-use Rattle.oat_ir.specs.declared.program.GlobalItem.{GlobalItem}
-use Rattle.oat_ir.specs.declared.program.GlobalItem.TheVariants.{Scalar, CriticalArray}
-use Rattle.oat_check.specs.Globals.{size_in_words, size_in_cells, start_of, cell_words}
-use Rattle.oat_parts.specs.Symbols.{Rises}
-use Rattle.oat_parts.proofs.Lists.{not_in_none, first_in, later_in, only_in, of_map, rises_join, map_length}
-use Rattle.oat_parts.proofs.Orders.{increasing}
+use Rattle.std.specs.{Prelude.Contains, Prelude.nat_eq, Prelude.◌⊎◌, List.AllByRecursion, List.sum_by, List.range_with_len, List.Sorted.IsStrictlyIncreasing}
+use Rattle.std.proofs.lemmas.{Bool.eqb-false as different, List.Elements.Contains-append_cases, List.Sums.sum_by-cons}
+use Rattle.oat_parts.specs.{InitWord, Symbols.Rises}
+use Rattle.oat_parts.proofs.{Lists.not_in_none, Lists.first_in, Lists.later_in, Lists.only_in, Lists.of_map, Lists.rises_join, Lists.map_length, Orders.increasing}
+use Rattle.oat_check.specs.{GlobalItem, Scalar, CriticalArray, Globals.size_in_words, Globals.size_in_cells, Globals.start_of, Globals.cell_words}
 use Rattle.oat_symbols.specs.Programs.{word_at_start, words_from}
 
 -- these lie between two bounds by their numbers, rise, and are few

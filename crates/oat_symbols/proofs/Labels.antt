@@ -1,14 +1,10 @@
 -- The labels of a program's functions and blocks are numbers, and distinct.
 use Rattle.std.proofs.Common.{◌≡◌, ℕ, zero, suc, ◌+◌, ◌<◌, ◌≤◌, List, [], ◌∷◌, ◌++◌, length, take, ap, subst, Some, arith, inl, inr, length-append}
-use Rattle.std.specs.Prelude.{Contains, slice_get, ◌⊎◌}
-use Rattle.std.specs.List.{flat_map}
-use Rattle.std.proofs.lemmas.Bool.{cases_lt}
-use Rattle.std.proofs.lemmas.List.Elements.{Contains-append_left, Contains-append_right, Contains-append_cases}
-use Rattle.oat_ir.specs.declared.program.Program.{Program}
-use Rattle.oat_ir.specs.declared.func.Func.{Func}
-use Rattle.oat_ir.specs.declared.func.BlockIr.{BlockIr}
+use Rattle.std.specs.{Prelude.Contains, Prelude.slice_get, Prelude.◌⊎◌, List.flat_map}
+use Rattle.std.proofs.lemmas.{Bool.cases_lt, List.Elements.Contains-append_left, List.Elements.Contains-append_right, List.Elements.Contains-append_cases}
 use Rattle.oat_parts.specs.Symbols.{AreDistinct, up_from, function_labels, block_labels, labels_from}
 use Rattle.oat_parts.proofs.Lists.{not_in_none, first_in, later_in, cons_cases, distinct_join, map_length, up_from_in, in_up_from, up_from_distinct}
+use Rattle.oat_check.specs.{Program, Func, BlockIr}
 use Rattle.oat_symbols.specs.Programs.{block_names, symbols_from}
 
 module _ (program : Program) where

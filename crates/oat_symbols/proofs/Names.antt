@@ -1,22 +1,13 @@
 -- Names of places in a built image.
 use Rattle.std.proofs.Common.{◌≡◌, ℕ, zero, suc, ◌+◌, ◌<◌, ◌≤◌, List, [], ◌∷◌, ◌++◌, length, map, refl, sym, ap, ◌∙◌, subst, Option, Some, None, arith, inl, inr}
-use Rattle.std.specs.Prelude.{slice_get, Contains, nat_le, find, ◌==◌, ◌⊎◌}
-use Rattle.std.specs.List.{filter}
-use Rattle.std.specs.Option.{option_map, option_or, unwrap_or}
-use Rattle.std.proofs.lemmas.Bool.{le-leb, leb-true}
-use Rattle.std.proofs.lemmas.Option.{slice_get_within}
-use Rattle.std.proofs.lemmas.List.Elements.{Contains-append_left, Contains-append_right, Contains-append_cases}
-use Rattle.oat_map.specs.declared.map.Map.{Map}
-use Rattle.oat_map.specs.declared.map.Function.{Function}
-use Rattle.oat_map.specs.declared.map.Block.{Block}
-use Rattle.oat_map.specs.declared.row.Row.{Row}
-use Rattle.oat_map.specs.Rows.{entries_of, starts_of}
-use Rattle.oat_map.specs.EdgeName.{PlaceName, places, place_of, function_below, block_name, place_name}
-use Rattle.oat_parts.specs.Symbols.{FunctionSymbol, SymbolTable, Rises, own_labels, function_labels, block_labels, labels_from, labels_of, IsFunctionLabel, IsBlockLabel, function_at, functions_of, blocks_from, blocks_of}
-use Rattle.oat_parts.specs.Built.{built_address, built_map}
-use Rattle.oat_parts.proofs.Lists.{not_in_none, first_in, later_in, cons_cases, get_in, in_get, in_map, of_map, map_get, get_map, in_up_from, in_flat_map, rises_parts}
-use Rattle.oat_parts.proofs.Orders.{entries_are, starts_are, function_in_labels, block_in_labels, functions_rise, blocks_rise, kinds_apart}
-use Rattle.oat_parts.proofs.Building.{built_labels_rise}
+use Rattle.std.specs.{Prelude.slice_get, Prelude.Contains, Prelude.nat_le, Prelude.find, Prelude.◌==◌, Prelude.◌⊎◌, List.filter, Option.option_map, Option.option_or, Option.unwrap_or}
+use Rattle.std.proofs.lemmas.{Bool.le-leb, Bool.leb-true, Option.slice_get_within, List.Elements.Contains-append_left, List.Elements.Contains-append_right, List.Elements.Contains-append_cases}
+use Rattle.oat_parts.specs.{Map, Function, Block, Row, entries_of, starts_of, PlaceName, places, place_of, function_below, block_name, place_name, Symbols.FunctionSymbol, Symbols.SymbolTable}
+use Rattle.oat_parts.specs.{Symbols.Rises, Symbols.own_labels, Symbols.function_labels, Symbols.block_labels, Symbols.labels_from, Symbols.labels_of, Symbols.IsFunctionLabel, Symbols.IsBlockLabel}
+use Rattle.oat_parts.specs.{Symbols.function_at, Symbols.functions_of, Symbols.blocks_from, Symbols.blocks_of, Built.built_address, Built.built_map}
+use Rattle.oat_parts.proofs.{Lists.not_in_none, Lists.first_in, Lists.later_in, Lists.cons_cases, Lists.get_in, Lists.in_get, Lists.in_map, Lists.of_map, Lists.map_get, Lists.get_map}
+use Rattle.oat_parts.proofs.{Lists.in_up_from, Lists.in_flat_map, Lists.rises_parts, Orders.entries_are, Orders.starts_are, Orders.function_in_labels, Orders.block_in_labels, Orders.functions_rise}
+use Rattle.oat_parts.proofs.{Orders.blocks_rise, Orders.kinds_apart, Building.built_labels_rise}
 use Rattle.oat_symbols.specs.Names.{HasItsNames, BuiltMapsHaveNames}
 use Rattle.oat_symbols.proofs.Finding.{find_risen, find_none, find_last, greatest, of_filter, in_filter}
 

@@ -2,16 +2,10 @@
 use Rattle.std.proofs.Common.{◌≡◌, ℕ, zero, suc, ◌+◌, ◌*◌, ◌<◌, ◌≤◌, List, [], ◌∷◌, ◌++◌, length, sym, ap, ◌∙◌, subst, Some, arith}
 use Rattle.std.specs.Prelude.{slice_get}
 use Rattle.std.proofs.lemmas.List.Concat.{flat_map-append}
-use Rattle.oat_asm.specs.declared.item.Item.{Item}
-use Rattle.oat_asm.specs.declared.item.Item.TheVariants as item
-use Rattle.oat_asm.specs.Items.{words_needed}
-use Rattle.oat_asm.specs.Expansion.{expanded, expansion}
-use Rattle.oat_asm.specs.Standing.{ItemsStand}
 use Rattle.oat_asm.proofs.StandingItems.{stand_in_two}
-use Rattle.oat_image.specs.declared.image.Image.{Image}
-use Rattle.oat_parts.specs.Symbols.{FunctionSymbol}
-use Rattle.oat_parts.specs.Making.{FunctionCode, blocks_code, code_from}
+use Rattle.oat_parts.specs.{Item, words_needed, expanded, expansion, ItemsStand, Image, Symbols.FunctionSymbol, Making.FunctionCode, Making.blocks_code, Making.code_from}
 use Rattle.oat_symbols.specs.Codes.{FunctionStands, CodesStand, function_words, CodesFollow}
+use Rattle.oat_asm.specs.declared.item.Item.TheVariants as item
 
 module _ (i : Image) (at : ℕ → ℕ) where
   -- two lists of items, expanded

@@ -1,31 +1,18 @@
 -- The symbol table of a checked program is one.
 use Rattle.std.proofs.Common.{◌≡◌, ℕ, zero, suc, ◌+◌, ◌<◌, ◌≤◌, List, [], ◌∷◌, ◌++◌, length, map, take, drop, refl, sym, ap, ◌∙◌, subst, Bool, true, false, Option, Some, arith, inl, inr}
-use Rattle.std.specs.Prelude.{Contains, slice_get}
-use Rattle.std.specs.List.{AllByRecursion, flat_map, sum_by, list_any, position_or_len}
-use Rattle.std.specs.Option.{option_to_list}
-use Rattle.std.proofs.lemmas.Bool.{true≢false}
-use Rattle.std.proofs.lemmas.List.{map-append}
-use Rattle.std.proofs.lemmas.List.Concat.{flat_map-append}
-use Rattle.std.proofs.lemmas.List.Elements.{Contains-append_left, Contains-append_right, Contains-append_cases, All-contains}
-use Rattle.oat_map.specs.Name.{IsName}
-use Rattle.oat_image.specs.declared.image.InitWord.{InitWord}
-use Rattle.oat_image.specs.Grammar.{IsInitWord, IsIndex}
-use Rattle.oat_ir.specs.declared.program.Program.{Program}
-use Rattle.oat_ir.specs.declared.func.Func.{Func}
-use Rattle.oat_ir.specs.declared.func.BlockIr.{BlockIr}
-use Rattle.oat_ir.specs.Distinct.{have_one_name, have_one_label}
-use Rattle.oat_ir.specs.WellFormed.{IsProgram, IsFunc}
-use Rattle.oat_check.specs.Globals.{size_in_words, cell_words}
-use Rattle.oat_check.specs.Rules.{is_main, IsChecked}
-use Rattle.oat_check.specs.RuleLaws.{KeepsRules}
-use Rattle.oat_check.specs.Steps.{operation_number}
-use Rattle.oat_check.proofs.Checking.{keeps_rules}
-use Rattle.oat_parts.specs.Symbols.{FunctionSymbol, SymbolTable, IsFunctionSymbol, IsSymbolTable, AreDistinct, own_labels, function_labels, operations_in}
+use Rattle.std.specs.{Prelude.Contains, Prelude.slice_get, List.AllByRecursion, List.flat_map, List.sum_by, List.list_any, List.position_or_len, Option.option_to_list}
+use Rattle.std.proofs.lemmas.{Bool.true≢false, List.map-append, List.Concat.flat_map-append, List.Elements.Contains-append_left, List.Elements.Contains-append_right}
+use Rattle.std.proofs.lemmas.{List.Elements.Contains-append_cases, List.Elements.All-contains}
+use Rattle.oat_parts.specs.{IsName, InitWord, IsInitWord, IsIndex, Symbols.FunctionSymbol, Symbols.SymbolTable, Symbols.IsFunctionSymbol, Symbols.IsSymbolTable, Symbols.AreDistinct}
+use Rattle.oat_parts.specs.{Symbols.own_labels, Symbols.function_labels, Symbols.operations_in}
 use Rattle.oat_parts.proofs.Lists.{first_in, later_in, cons_cases, get_in, in_get, in_map, of_map, in_flat_map, of_flat_map, distinct_parts, distinct_join}
-use Rattle.oat_symbols.proofs.Distinct.{distinct_texts, ids, distinct_ids}
-use Rattle.oat_symbols.proofs.Labels.{functions_labelled, blocks_labelled, labels_distinct}
-use Rattle.oat_symbols.proofs.Globals.{words_between, words_set, cells_between, all_by, rises_map, rising}
-use Rattle.oat_symbols.specs.Programs.{block_names, symbol_for, symbols_from, all_symbols, label_of_block, with_first, main_at, words_from, symbols_of, HasValidNames, ProgramsHaveSymbols, ProgramsHaveTheirLabels}
+use Rattle.oat_check.specs.{Program, Func, BlockIr, have_one_name, have_one_label, IsProgram, IsFunc, Globals.size_in_words, Globals.cell_words, Rules.is_main, Rules.IsChecked, RuleLaws.KeepsRules}
+use Rattle.oat_check.specs.{Steps.operation_number}
+use Rattle.oat_check.proofs.Checking.{keeps_rules}
+use Rattle.oat_symbols.specs.Programs.{block_names, symbol_for, symbols_from, all_symbols, label_of_block, with_first, main_at, words_from, symbols_of, HasValidNames, ProgramsHaveSymbols}
+use Rattle.oat_symbols.specs.Programs.{ProgramsHaveTheirLabels}
+use Rattle.oat_symbols.proofs.{Distinct.distinct_texts, Distinct.ids, Distinct.distinct_ids, Labels.functions_labelled, Labels.blocks_labelled, Labels.labels_distinct, Globals.words_between}
+use Rattle.oat_symbols.proofs.{Globals.words_set, Globals.cells_between, Globals.all_by, Globals.rises_map, Globals.rising}
 
 -- ---- the functions
 

@@ -1,30 +1,13 @@
 -- The rows of items: which of them have numbers, and where they stand.
 use Rattle.std.proofs.Common.{◌≡◌, ℕ, ◌+◌, ◌<◌, ◌≤◌, List, [], ◌∷◌, ◌++◌, map, refl, sym, ap, ◌∙◌, subst, true, false, arith, inl, inr}
-use Rattle.std.specs.Prelude.{Contains, count_by, ⊤}
-use Rattle.std.specs.List.{AllByRecursion}
-use Rattle.std.proofs.lemmas.Bool.{true≢false}
-use Rattle.std.proofs.lemmas.List.{map-append}
-use Rattle.std.proofs.lemmas.List.Concat.{flat_map-append}
-use Rattle.std.proofs.lemmas.List.Elements.{Contains-append_cases}
-use Rattle.oat_a64.specs.Step.{code_base}
-use Rattle.oat_map.specs.declared.row.Row.{Row}
-use Rattle.oat_map.specs.Rows.{address_of}
-use Rattle.oat_map.specs.EdgeName.{is_numbered}
-use Rattle.oat_asm.specs.declared.mark.Mark.TheVariants.{Ret}
-use Rattle.oat_asm.specs.declared.note.Note.TheVariants.{Check}
-use Rattle.oat_asm.specs.declared.assembled.NoteAt.{NoteAt}
-use Rattle.oat_asm.specs.declared.item.Item.{Item}
-use Rattle.oat_asm.specs.declared.item.Item.TheVariants as item
-use Rattle.oat_asm.specs.Items.{item_words, address}
-use Rattle.oat_asm.specs.Layout.{notes_of_item, items_give}
-use Rattle.oat_asm.specs.Expansion.{expanded, expansion}
-use Rattle.oat_asm.specs.NoteRows.{row_of}
+use Rattle.std.specs.{Prelude.Contains, Prelude.count_by, Prelude.⊤, List.AllByRecursion}
+use Rattle.std.proofs.lemmas.{Bool.true≢false, List.map-append, List.Concat.flat_map-append, List.Elements.Contains-append_cases}
 use Rattle.oat_asm.proofs.Giving.{gives-append}
-use Rattle.oat_parts.specs.Making.{words_become}
-use Rattle.oat_parts.proofs.Lists.{not_in_none, first_in, later_in, cons_cases}
-use Rattle.oat_parts.proofs.Making.{words_add}
+use Rattle.oat_parts.specs.{code_base, Row, address_of, is_numbered, Ret, Check, NoteAt, Item, item_words, address, notes_of_item, items_give, expanded, expansion, row_of, Making.words_become}
+use Rattle.oat_parts.proofs.{Lists.not_in_none, Lists.first_in, Lists.later_in, Lists.cons_cases, Making.words_add}
 use Rattle.oat_symbols.specs.Names.{is_site_item}
 use Rattle.oat_symbols.proofs.Counting.{count_both}
+use Rattle.oat_asm.specs.declared.item.Item.TheVariants as item
 
 abbrev pub rows_of : (ℕ → ℕ) → ℕ → List Item → List Row
 rows_of at here items = map (λ n. row_of at n.at n.note) (items_give (notes_of_item code_base) here (expansion items))

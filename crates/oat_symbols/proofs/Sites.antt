@@ -1,36 +1,18 @@
 -- Numbers of sites in a built image.
 use Rattle.std.proofs.Common.{◌≡◌, ℕ, ◌+◌, ◌<◌, ◌≤◌, List, [], ◌∷◌, ◌++◌, length, refl, sym, ap, ◌∙◌, subst, Bool, ◌&&◌, Option, Some, arith, inl, inr, append_assoc}
-use Rattle.std.specs.Prelude.{slice_get, Contains, nat_lt, count_by, ◌⊎◌}
-use Rattle.std.specs.List.{AllByRecursion}
-use Rattle.std.specs.Option.{option_and_then}
-use Rattle.std.proofs.lemmas.Bool.{cases_Bool, eq-eqb, lt-ltb, le-ltb}
-use Rattle.std.proofs.lemmas.Option.{slice_get_within}
-use Rattle.std.proofs.lemmas.List.Concat.{flat_map-append}
-use Rattle.std.proofs.lemmas.List.Elements.{Contains-append_cases, Contains-append_right, Contains-append_left}
-use Rattle.oat_a64.specs.Step.{code_base}
-use Rattle.oat_map.specs.declared.map.Map.{Map}
-use Rattle.oat_map.specs.declared.row.Row.{Row}
-use Rattle.oat_map.specs.Rows.{address_of}
-use Rattle.oat_map.specs.EdgeName.{site, place_of, place_name, is_numbered, is_same_place, is_numbered_before}
-use Rattle.oat_asm.specs.declared.mark.Mark.{Mark}
-use Rattle.oat_asm.specs.declared.mark.Mark.TheVariants.{Ret}
-use Rattle.oat_asm.specs.declared.item.Item.{Item}
-use Rattle.oat_asm.specs.declared.item.Item.TheVariants as item
-use Rattle.oat_asm.specs.Items.{item_words, place, label_place, address, StandsOnce}
-use Rattle.oat_asm.specs.Expansion.{expanded, expansion}
-use Rattle.oat_asm.proofs.Giving.{get_left, get_right, before_front, before_back}
-use Rattle.oat_asm.proofs.LayoutLaws.{label_placed}
-use Rattle.oat_parts.specs.Symbols.{SymbolTable, IsSymbolTable, labels_of}
-use Rattle.oat_parts.specs.Parts.{AreInParts}
-use Rattle.oat_parts.specs.Built.{built_address, built_map, HasLabelsOf}
-use Rattle.oat_parts.specs.Making.{words_become}
-use Rattle.oat_parts.proofs.Lists.{first_in, cons_cases, in_get, in_flat_map}
-use Rattle.oat_parts.proofs.Assembling.{parts_have_the_labels}
-use Rattle.oat_parts.proofs.Making.{words_add}
+use Rattle.std.specs.{Prelude.slice_get, Prelude.Contains, Prelude.nat_lt, Prelude.count_by, Prelude.◌⊎◌, List.AllByRecursion, Option.option_and_then}
+use Rattle.std.proofs.lemmas.{Bool.cases_Bool, Bool.eq-eqb, Bool.lt-ltb, Bool.le-ltb, Option.slice_get_within, List.Concat.flat_map-append, List.Elements.Contains-append_cases}
+use Rattle.std.proofs.lemmas.{List.Elements.Contains-append_right, List.Elements.Contains-append_left}
+use Rattle.oat_asm.proofs.{Giving.get_left, Giving.get_right, Giving.before_front, Giving.before_back, LayoutLaws.label_placed}
+use Rattle.oat_parts.specs.{code_base, Map, Row, address_of, site, place_of, place_name, is_numbered, is_same_place, is_numbered_before, Mark, Ret, Item, item_words, place, label_place, address}
+use Rattle.oat_parts.specs.{StandsOnce, expanded, expansion, Symbols.SymbolTable, Symbols.IsSymbolTable, Symbols.labels_of, Parts.AreInParts, Built.built_address, Built.built_map, Built.HasLabelsOf}
+use Rattle.oat_parts.specs.{Making.words_become}
+use Rattle.oat_parts.proofs.{Lists.first_in, Lists.cons_cases, Lists.in_get, Lists.in_flat_map, Assembling.parts_have_the_labels, Making.words_add}
 use Rattle.oat_symbols.specs.Names.{HasItsNames, is_site_item, SitesAreCounted}
-use Rattle.oat_symbols.proofs.Names.{built_maps_have_names}
-use Rattle.oat_symbols.proofs.SiteRows.{rows_of, rows_append, HasFewNotes, all_sites, between, few_notes}
-use Rattle.oat_symbols.proofs.Counting.{count_both, count_more, count_same, count_none, three_false_first, three_false_middle, three_false_last, three_first, below, other_place}
+use Rattle.oat_symbols.proofs.{Names.built_maps_have_names, SiteRows.rows_of, SiteRows.rows_append, SiteRows.HasFewNotes, SiteRows.all_sites, SiteRows.between, SiteRows.few_notes, Counting.count_both}
+use Rattle.oat_symbols.proofs.{Counting.count_more, Counting.count_same, Counting.count_none, Counting.three_false_first, Counting.three_false_middle, Counting.three_false_last, Counting.three_first}
+use Rattle.oat_symbols.proofs.{Counting.below, Counting.other_place}
+use Rattle.oat_asm.specs.declared.item.Item.TheVariants as item
 
 module _ (t : SymbolTable) (before middle behind : List Item) (l : ℕ) (m : Mark) (unlabelled : (x : ℕ) → Contains middle (item.Label x) → ⊥) where
   abbrev tail : List Item

@@ -1,23 +1,12 @@
 -- The places of a built image have the names that the program's source has.
 use Rattle.std.proofs.Common.{◌≡◌, ℕ, zero, suc, ◌+◌, List, [], ◌∷◌, length, take, sym, ap, ◌∙◌, Some, None, arith, length-append}
-use Rattle.std.specs.Prelude.{slice_get}
-use Rattle.std.specs.List.{flat_map}
-use Rattle.std.specs.Option.{option_map, option_and_then}
-use Rattle.oat_map.specs.EdgeName.{place_name}
-use Rattle.oat_ir.specs.declared.program.Program.{Program}
-use Rattle.oat_ir.specs.declared.func.Func.{Func}
-use Rattle.oat_ir.specs.declared.func.BlockIr.{BlockIr}
-use Rattle.oat_check.specs.Rules.{IsChecked}
-use Rattle.oat_parts.specs.Symbols.{IsSymbolTable}
-use Rattle.oat_parts.specs.Parts.{AreInParts}
-use Rattle.oat_parts.specs.Built.{built_address, built_map}
-use Rattle.oat_parts.proofs.Lists.{get_in, in_get, map_get}
-use Rattle.oat_parts.proofs.Making.{codes_are_in_parts}
-use Rattle.oat_symbols.specs.Programs.{block_names, symbol_for, symbols_from, all_symbols, label_of_block, with_first, main_at, symbols_of}
-use Rattle.oat_symbols.specs.Codes.{items_for}
-use Rattle.oat_symbols.specs.Names.{HasItsNames, PlacesAreNamedBySource}
-use Rattle.oat_symbols.proofs.Programs.{programs_have_symbols, main_within, symbols_many, first_has}
-use Rattle.oat_symbols.proofs.Names.{built_maps_have_names}
+use Rattle.std.specs.{Prelude.slice_get, List.flat_map, Option.option_map, Option.option_and_then}
+use Rattle.oat_parts.specs.{place_name, Symbols.IsSymbolTable, Parts.AreInParts, Built.built_address, Built.built_map}
+use Rattle.oat_parts.proofs.{Lists.get_in, Lists.in_get, Lists.map_get, Making.codes_are_in_parts}
+use Rattle.oat_check.specs.{Program, Func, BlockIr, Rules.IsChecked}
+use Rattle.oat_symbols.specs.{Programs.block_names, Programs.symbol_for, Programs.symbols_from, Programs.all_symbols, Programs.label_of_block, Programs.with_first, Programs.main_at}
+use Rattle.oat_symbols.specs.{Programs.symbols_of, Codes.items_for, Names.HasItsNames, Names.PlacesAreNamedBySource}
+use Rattle.oat_symbols.proofs.{Programs.programs_have_symbols, Programs.main_within, Programs.symbols_many, Programs.first_has, Names.built_maps_have_names}
 
 -- the symbol of a function stands at its number
 symbol_at : (program : Program) (f n : ℕ) (funcs : List Func) (k : ℕ) (func : Func) → slice_get funcs k ≡ Some func

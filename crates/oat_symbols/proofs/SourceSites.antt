@@ -1,31 +1,18 @@
 -- The sites of a built image have the names that the program's source has.
-use Rattle.std.proofs.Common.{◌≡◌, ℕ, zero, suc, ◌+◌, ◌-◌, ◌*◌, ◌<◌, Bool, true, false, cond, List, [], ◌∷◌, ◌++◌, length, take, drop, refl, sym, ap, ◌∙◌, subst, Option, Some, arith, append_assoc, inl, inr}
+use Rattle.std.proofs.Common.{◌≡◌, ℕ, zero, suc, ◌+◌, ◌-◌, ◌*◌, ◌<◌, Bool, true, false, cond, List, [], ◌∷◌, ◌++◌, length, take, drop, refl, sym, ap, ◌∙◌, subst, Option, Some, arith, append_assoc}
+use Rattle.std.proofs.Common.{inl, inr}
 use Rattle.std.specs.Prelude.{slice_get, Contains, count_by, nat_eq, nat_lt}
-use Rattle.std.proofs.lemmas.Bool.{cases_lt, eq-eqb, ne_eqb, lt-ltb, le-ltb}
-use Rattle.std.proofs.lemmas.List.{length-take-le}
-use Rattle.std.proofs.lemmas.List.Elements.{Contains-append_left}
-use Rattle.oat_a64.specs.Step.{code_base}
-use Rattle.oat_map.specs.EdgeName.{PlaceName, Site, place_name, site}
-use Rattle.oat_asm.specs.declared.item.Item.{Item}
-use Rattle.oat_asm.specs.declared.item.Item.TheVariants as item
-use Rattle.oat_asm.specs.Items.{address}
+use Rattle.std.proofs.lemmas.{Bool.cases_lt, Bool.eq-eqb, Bool.ne_eqb, Bool.lt-ltb, Bool.le-ltb, List.length-take-le, List.Elements.Contains-append_left}
 use Rattle.oat_asm.proofs.Giving.{get_right}
-use Rattle.oat_ir.specs.declared.func.Func.{Func}
-use Rattle.oat_check.specs.Naming.{source_block_name}
-use Rattle.oat_parts.specs.Symbols.{FunctionSymbol, IsSymbolTable}
-use Rattle.oat_parts.specs.Parts.{AreInParts}
-use Rattle.oat_parts.specs.Built.{built_address, built_map}
-use Rattle.oat_parts.specs.Making.{FunctionCode, blocks_code, code_from, words_become, IsStretch, AreCodes}
-use Rattle.oat_parts.proofs.Lists.{get_before, all_get}
-use Rattle.oat_parts.proofs.Assembling.{none_labelled}
-use Rattle.oat_parts.proofs.Making.{codes_are_in_parts}
-use Rattle.oat_symbols.specs.Programs.{symbol_for, all_symbols, label_of_block, with_first, main_at, symbols_of}
-use Rattle.oat_symbols.specs.Codes.{codes_from, codes_of, IsCodeOf, items_for}
-use Rattle.oat_symbols.specs.Names.{HasSourceNames, is_site_item, SitesAreNamedBySource}
-use Rattle.oat_symbols.proofs.Programs.{programs_have_symbols, main_within, symbols_many, split_at}
-use Rattle.oat_symbols.proofs.Codes.{codes_are_of_the_program}
-use Rattle.oat_symbols.proofs.Sites.{sites_are_counted, label_at}
-use Rattle.oat_symbols.proofs.SourceNames.{own_symbol, places_are_named}
+use Rattle.oat_parts.specs.{code_base, PlaceName, Site, place_name, site, Item, address, Symbols.FunctionSymbol, Symbols.IsSymbolTable, Parts.AreInParts, Built.built_address, Built.built_map}
+use Rattle.oat_parts.specs.{Making.FunctionCode, Making.blocks_code, Making.code_from, Making.words_become, Making.IsStretch, Making.AreCodes}
+use Rattle.oat_parts.proofs.{Lists.get_before, Lists.all_get, Assembling.none_labelled, Making.codes_are_in_parts}
+use Rattle.oat_check.specs.{Func, Naming.source_block_name}
+use Rattle.oat_symbols.specs.{Programs.symbol_for, Programs.all_symbols, Programs.label_of_block, Programs.with_first, Programs.main_at, Programs.symbols_of, Codes.codes_from, Codes.codes_of}
+use Rattle.oat_symbols.specs.{Codes.IsCodeOf, Codes.items_for, Names.HasSourceNames, Names.is_site_item, Names.SitesAreNamedBySource}
+use Rattle.oat_symbols.proofs.{Programs.programs_have_symbols, Programs.main_within, Programs.symbols_many, Programs.split_at, Codes.codes_are_of_the_program, Sites.sites_are_counted, Sites.label_at}
+use Rattle.oat_symbols.proofs.{SourceNames.own_symbol, SourceNames.places_are_named}
+use Rattle.oat_asm.specs.declared.item.Item.TheVariants as item
 
 -- ---- a block among the items
 

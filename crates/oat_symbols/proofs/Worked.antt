@@ -1,26 +1,14 @@
 -- The worked program has all that the laws ask of a program and its code.
 use Rattle.std.proofs.Common.{[], ◌∷◌, refl, subst, arith, inl, inr}
-use Rattle.std.specs.Prelude.{Contains, codes}
-use Rattle.std.specs.List.{IsDistinct}
+use Rattle.std.specs.{Prelude.Contains, Prelude.codes, List.IsDistinct}
 use Rattle.std.proofs.lemmas.List.Elements.{All-from_recursion}
-use Rattle.oat_a64.specs.declared.inst.Inst.TheVariants.{SubImm, Svc}
-use Rattle.oat_a64.specs.Laws.{FetchesByTheTable}
-use Rattle.oat_map.specs.Name.{IsName}
 use Rattle.oat_map.proofs.NameTests.{name_from_test}
-use Rattle.oat_asm.specs.declared.mark.Mark.TheVariants.{Call, Ret, Begin, End}
-use Rattle.oat_ir.specs.declared.func.Func.{Func}
-use Rattle.oat_ir.specs.declared.func.BlockIr.{BlockIr}
-use Rattle.oat_ir.specs.declared.instr.Instr.TheVariants as instr
-use Rattle.oat_ir.specs.Indices.{HasLocal, IsInstr}
-use Rattle.oat_ir.specs.WellFormed.{IsLocal, IsBlockIr, IsFunc, IsProgram, IsGlobal}
-use Rattle.oat_ir.specs.WorkedPrograms.{idle, idle_main, idle_program}
-use Rattle.oat_check.specs.Rules.{IsChecked}
-use Rattle.oat_parts.specs.Parts.{simple, mark}
-use Rattle.oat_parts.specs.Making.{AreCodes}
+use Rattle.oat_parts.specs.{SubImm, Svc, FetchesByTheTable, IsName, Call, Ret, Begin, End, Parts.simple, Parts.mark, Making.AreCodes}
 use Rattle.oat_parts.proofs.Lists.{not_in_none, cons_cases}
-use Rattle.oat_symbols.specs.Programs.{symbols_of, HasValidNames}
-use Rattle.oat_symbols.specs.Worked.{idle_codes, IdleIsBuilt}
+use Rattle.oat_check.specs.{Func, BlockIr, HasLocal, IsInstr, IsLocal, IsBlockIr, IsFunc, IsProgram, IsGlobal, idle, idle_main, idle_program, Rules.IsChecked}
+use Rattle.oat_symbols.specs.{Programs.symbols_of, Programs.HasValidNames, Worked.idle_codes, Worked.IdleIsBuilt}
 use Rattle.oat_symbols.proofs.Codes.{programs_are_built}
+use Rattle.oat_check.specs.instr as instr
 
 is_func : IsFunc idle_program idle
 unfolding IsDistinct

@@ -1,20 +1,9 @@
 -- The code of a program's functions in the order of its symbol table, the image that is built of it, and where each function and block stands (docs/FORMATS.md).
-use Rattle.std.specs.Prelude.{◌≡◌, ◌+◌, ◌*◌, ◌^◌, ◌≤◌, ◌<◌, ℕ, List, [], ◌∷◌, length, slice_get, Some}
-use Rattle.std.specs.List.{AllByRecursion}
-use Rattle.std.specs.Option.{option_to_list}
-use Rattle.oat_a64.specs.Step.{code_base}
-use Rattle.oat_image.specs.declared.image.Image.{Image}
-use Rattle.oat_asm.specs.declared.item.Item.{Item}
-use Rattle.oat_asm.specs.Items.{words_needed, code_limit}
-use Rattle.oat_asm.specs.Expansion.{expansion}
-use Rattle.oat_asm.specs.Standing.{ItemsStand}
-use Rattle.oat_ir.specs.declared.program.Program.{Program}
-use Rattle.oat_ir.specs.declared.func.Func.{Func}
-use Rattle.oat_check.specs.Rules.{IsChecked}
-use Rattle.oat_check.specs.Steps.{operation_number}
-use Rattle.oat_parts.specs.Symbols.{FunctionSymbol, SymbolTable}
-use Rattle.oat_parts.specs.Built.{built_address, built_image, CanBeExpanded, IsBuiltWell}
-use Rattle.oat_parts.specs.Making.{FunctionCode, blocks_code, code_from, words_become, IsStretch, AreCodes}
+use Rattle.std.specs.{Prelude.◌≡◌, Prelude.◌+◌, Prelude.◌*◌, Prelude.◌^◌, Prelude.◌≤◌, Prelude.◌<◌, Prelude.ℕ, Prelude.List, Prelude.[], Prelude.◌∷◌, Prelude.length, Prelude.slice_get, Prelude.Some}
+use Rattle.std.specs.{List.AllByRecursion, Option.option_to_list}
+use Rattle.oat_parts.specs.{code_base, Image, Item, words_needed, code_limit, expansion, ItemsStand, Symbols.FunctionSymbol, Symbols.SymbolTable, Built.built_address, Built.built_image}
+use Rattle.oat_parts.specs.{Built.CanBeExpanded, Built.IsBuiltWell, Making.FunctionCode, Making.blocks_code, Making.code_from, Making.words_become, Making.IsStretch, Making.AreCodes}
+use Rattle.oat_check.specs.{Program, Func, Rules.IsChecked, Steps.operation_number}
 use Rattle.oat_symbols.specs.Programs.{with_first, main_at, symbols_of, HasValidNames}
 
 -- the code of each function, that of main first

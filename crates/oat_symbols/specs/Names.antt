@@ -1,30 +1,11 @@
 -- Names of places in a built image, and numbers of sites (docs/FORMATS.md).
 use Rattle.std.specs.Prelude.{◌≡◌, ◌+◌, ◌*◌, ◌≤◌, ℕ, Bool, true, false, IsTrue, List, ◌∷◌, ◌++◌, Some, None, slice_get, Contains, count_by}
-use Rattle.oat_a64.specs.Step.{code_base}
-use Rattle.oat_image.specs.declared.image.Image.{Image}
-use Rattle.oat_image.specs.Grammar.{IsWellFormedImage}
-use Rattle.oat_map.specs.declared.map.Map.{Map}
-use Rattle.oat_map.specs.declared.row.Row.{Row}
-use Rattle.oat_map.specs.Rows.{address_of, after, is_call}
-use Rattle.oat_map.specs.EdgeName.{place_of, place_name, site, call_site}
-use Rattle.oat_shape.specs.Shape.{IsShaped}
-use Rattle.oat_asm.specs.declared.mark.Mark.{Mark}
-use Rattle.oat_asm.specs.declared.mark.Mark.TheVariants.{Jump, Branch, Call, ICall, Ret}
-use Rattle.oat_asm.specs.declared.item.Item.{Item}
+use Rattle.oat_parts.specs.{code_base, Image, IsWellFormedImage, Map, Row, address_of, after, is_call, place_of, place_name, site, call_site, IsShaped, Mark, Jump, Branch, Call, ICall, Ret, Item}
+use Rattle.oat_parts.specs.{address, Symbols.FunctionSymbol, Symbols.SymbolTable, Symbols.IsSymbolTable, Symbols.labels_of, Parts.AreInParts, Built.built_address, Built.built_map, Making.FunctionCode}
+use Rattle.oat_parts.specs.{Making.AreCodes, Making.words_become}
+use Rattle.oat_check.specs.{Program, Func, BlockIr, SourceSite, Naming.source_func_name, Naming.source_block_name, Naming.source_site_name, Rules.IsChecked}
+use Rattle.oat_symbols.specs.{Programs.label_of_block, Programs.symbols_of, Programs.HasValidNames, Codes.codes_of, Codes.IsCodeOf, Codes.items_for}
 use Rattle.oat_asm.specs.declared.item.Item.TheVariants as item
-use Rattle.oat_asm.specs.Items.{address}
-use Rattle.oat_ir.specs.declared.program.Program.{Program}
-use Rattle.oat_ir.specs.declared.func.Func.{Func}
-use Rattle.oat_ir.specs.declared.func.BlockIr.{BlockIr}
-use Rattle.oat_ir.specs.declared.source.SourceSite.{SourceSite}
-use Rattle.oat_check.specs.Naming.{source_func_name, source_block_name, source_site_name}
-use Rattle.oat_check.specs.Rules.{IsChecked}
-use Rattle.oat_parts.specs.Symbols.{FunctionSymbol, SymbolTable, IsSymbolTable, labels_of}
-use Rattle.oat_parts.specs.Parts.{AreInParts}
-use Rattle.oat_parts.specs.Built.{built_address, built_map}
-use Rattle.oat_parts.specs.Making.{FunctionCode, AreCodes, words_become}
-use Rattle.oat_symbols.specs.Programs.{label_of_block, symbols_of, HasValidNames}
-use Rattle.oat_symbols.specs.Codes.{codes_of, IsCodeOf, items_for}
 
 -- functions and blocks have their names at their labels, and the place of an address is the last label at or below it
 pub record HasItsNames (t : SymbolTable) (m : Map) (address_of_label : ℕ → ℕ) : Type 0 where

@@ -1,20 +1,10 @@
 -- The symbol table of a program (docs/FORMATS.md, "Program text"): `main` is its first function, and all others stand in their order.
-use Rattle.std.specs.Prelude.{◌≡◌, ◌+◌, ℕ, nat_eq, if◌then◌else◌, List, [], ◌∷◌, ◌++◌, length, map, take, drop, slice_get, Some, ◌<◌, Contains}
-use Rattle.std.specs.List.{position_or_len, flat_map}
-use Rattle.oat_map.specs.Name.{IsName}
-use Rattle.oat_image.specs.declared.image.InitWord.{InitWord}
-use Rattle.oat_image.specs.Grammar.{IsLength}
-use Rattle.oat_shape.specs.Groups.{AreElements}
-use Rattle.oat_ir.specs.declared.program.Program.{Program}
-use Rattle.oat_ir.specs.declared.program.GlobalItem.{GlobalItem}
-use Rattle.oat_ir.specs.declared.program.GlobalItem.TheVariants.{CriticalArray}
-use Rattle.oat_ir.specs.declared.func.Func.{Func}
-use Rattle.oat_ir.specs.declared.func.BlockIr.{BlockIr}
-use Rattle.oat_check.specs.Globals.{size_in_words, start_of, cell_words, cell_number, word_number}
-use Rattle.oat_check.specs.Keeping.{is_referenced}
-use Rattle.oat_check.specs.Rules.{is_main, IsChecked}
-use Rattle.oat_check.specs.Steps.{operation_number}
-use Rattle.oat_parts.specs.Symbols.{FunctionSymbol, SymbolTable, IsSymbolTable, IsFunctionLabel, IsBlockLabel, operations_in}
+use Rattle.std.specs.{Prelude.◌≡◌, Prelude.◌+◌, Prelude.ℕ, Prelude.nat_eq, Prelude.if◌then◌else◌, Prelude.List, Prelude.[], Prelude.◌∷◌, Prelude.◌++◌, Prelude.length, Prelude.map, Prelude.take}
+use Rattle.std.specs.{Prelude.drop, Prelude.slice_get, Prelude.Some, Prelude.◌<◌, Prelude.Contains, List.position_or_len, List.flat_map}
+use Rattle.oat_parts.specs.{IsName, InitWord, IsLength, AreElements, Symbols.FunctionSymbol, Symbols.SymbolTable, Symbols.IsSymbolTable, Symbols.IsFunctionLabel, Symbols.IsBlockLabel}
+use Rattle.oat_parts.specs.{Symbols.operations_in}
+use Rattle.oat_check.specs.{Program, GlobalItem, CriticalArray, Func, BlockIr, Globals.size_in_words, Globals.start_of, Globals.cell_words, Globals.cell_number, Globals.word_number}
+use Rattle.oat_check.specs.{Keeping.is_referenced, Rules.is_main, Rules.IsChecked, Steps.operation_number}
 
 -- ---- functions and labels
 

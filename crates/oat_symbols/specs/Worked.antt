@@ -1,18 +1,10 @@
 -- A worked program: an operation that does nothing, `main` that calls it, and their code in parts. So there is what the laws speak of.
 use Rattle.std.specs.Prelude.{◌≡◌, ◌≤◌, List, [], ◌∷◌}
-use Rattle.oat_a64.specs.declared.inst.Inst.TheVariants.{SubImm, Svc}
+use Rattle.oat_parts.specs.{SubImm, Svc, Call, Ret, Begin, End, Item, words_needed, code_limit, expansion, Built.built_map, Making.FunctionCode, Making.AreCodes}
+use Rattle.oat_check.specs.{idle_program, Rules.IsChecked}
+use Rattle.oat_symbols.specs.{Programs.symbols_of, Programs.HasValidNames, Codes.items_for, Codes.IsBuiltWhole}
 use Rattle.oat_map.specs.declared.row.Row.TheVariants as row
-use Rattle.oat_asm.specs.declared.mark.Mark.TheVariants.{Call, Ret, Begin, End}
-use Rattle.oat_asm.specs.declared.item.Item.{Item}
 use Rattle.oat_asm.specs.declared.item.Item.TheVariants as item
-use Rattle.oat_asm.specs.Items.{words_needed, code_limit}
-use Rattle.oat_asm.specs.Expansion.{expansion}
-use Rattle.oat_ir.specs.WorkedPrograms.{idle_program}
-use Rattle.oat_check.specs.Rules.{IsChecked}
-use Rattle.oat_parts.specs.Built.{built_map}
-use Rattle.oat_parts.specs.Making.{FunctionCode, AreCodes}
-use Rattle.oat_symbols.specs.Programs.{symbols_of, HasValidNames}
-use Rattle.oat_symbols.specs.Codes.{items_for, IsBuiltWhole}
 
 -- the code of main, which stands first, and that of the operation
 abbrev pub idle_codes : List FunctionCode

@@ -1,35 +1,18 @@
 -- What the lines say that the reader takes.
 use Rattle.std.proofs.Common.{◌≡◌, ℕ, ◌<◌, ◌≤◌, Bool, true, false, ◌&&◌, cond, List, [], ◌∷◌, length, map, get_or, Option, Some, None, Ok, refl, sym, ap, ◌∙◌, subst, arith}
-use Rattle.std.specs.Prelude.{bytes_eq, is_some, if◌then◌else◌}
-use Rattle.std.specs.List.{list_all, find}
-use Rattle.std.specs.Option.{ok_or}
-use Rattle.std.proofs.lemmas.Bool.{and_parts, leb-true}
-use Rattle.std.proofs.lemmas.List.{get_or-map, map-id, length-map}
-use Rattle.std.proofs.lemmas.List.Quantifiers.{position-Some}
-use Rattle.std.proofs.lemmas.Slice.Eq.{bytes_eq-Decides}
-use Rattle.oat_lines.specs.Lines.{TextWord}
-use Rattle.oat_lines.specs.Reading.{◌>>=◌, guard, between}
+use Rattle.std.specs.{Prelude.bytes_eq, Prelude.is_some, Prelude.if◌then◌else◌, List.list_all, List.find, Option.ok_or}
+use Rattle.std.proofs.lemmas.{Bool.and_parts, Bool.leb-true, List.get_or-map, List.map-id, List.length-map, List.Quantifiers.position-Some, Slice.Eq.bytes_eq-Decides}
+use Rattle.oat_lines.specs.{Lines.TextWord, Reading.◌>>=◌, Reading.guard, Reading.between}
 use Rattle.oat_lines.proofs.Steps.{bind_ok, guarded_ok, or_ok, ok_is, chosen}
-use Rattle.oat_map.specs.Name.{IsName, is_name, read_name}
 use Rattle.oat_map.proofs.NameTests.{name_from_test}
-use Rattle.oat_ir.specs.declared.program.Program.{Program}
-use Rattle.oat_ir.specs.declared.func.Func.{Func}
-use Rattle.oat_ir.specs.declared.func.BlockIr.{BlockIr}
-use Rattle.oat_ir.specs.Distinct.{global_name}
-use Rattle.oat_ir.specs.Indices.{HasLocal, HasBlock, HasGlobal, HasFunc}
-use Rattle.oat_text.specs.declared.form.LineForm.{LineForm}
-use Rattle.oat_text.specs.declared.form.WordKind.{WordKind}
+use Rattle.oat_ir.specs.{IsName, is_name, read_name, declared.program.Program.Program, declared.func.Func.Func, declared.func.BlockIr.BlockIr, Distinct.global_name, Indices.HasLocal, Indices.HasBlock}
+use Rattle.oat_ir.specs.{Indices.HasGlobal, Indices.HasFunc}
+use Rattle.oat_text.specs.{declared.form.LineForm.LineForm, declared.form.WordKind.WordKind, declared.form.TheConstants.FORMS, declared.head.Stage.Stage, declared.fault.TextFaultKind.TextFaultKind}
+use Rattle.oat_text.specs.{declared.fault.TextFaultKind.TheVariants.Token, declared.fault.TextFaultKind.TheVariants.Expected, declared.fault.TextFaultKind.TheVariants.Number}
+use Rattle.oat_text.specs.{declared.fault.TextFaultKind.TheVariants.Unknown, Words.Says, Forms.spelled, Forms.line_form, Forms.kinds_of, Grammar.local_at, Grammar.block_at, Grammar.global_at}
+use Rattle.oat_text.specs.{Grammar.func_at, Readings.is_printable, Readings.is_shaped, Readings.is_in_range, Readings.all_pass, Readings.has_number, Outline.stands, Outline.fitting, Outline.tested}
+use Rattle.oat_text.specs.{Outline.itself, Outline.local_name, Bodies.Scope, Bodies.index_of}
 use Rattle.oat_text.specs.declared.form.WordKind.TheVariants as kind
-use Rattle.oat_text.specs.declared.form.TheConstants.{FORMS}
-use Rattle.oat_text.specs.declared.head.Stage.{Stage}
-use Rattle.oat_text.specs.declared.fault.TextFaultKind.{TextFaultKind}
-use Rattle.oat_text.specs.declared.fault.TextFaultKind.TheVariants.{Token, Expected, Number, Unknown}
-use Rattle.oat_text.specs.Words.{Says}
-use Rattle.oat_text.specs.Forms.{spelled, line_form, kinds_of}
-use Rattle.oat_text.specs.Grammar.{local_at, block_at, global_at, func_at}
-use Rattle.oat_text.specs.Readings.{is_printable, is_shaped, is_in_range, all_pass, has_number}
-use Rattle.oat_text.specs.Outline.{stands, fitting, tested, itself, local_name}
-use Rattle.oat_text.specs.Bodies.{Scope, index_of}
 
 -- ---- tests
 

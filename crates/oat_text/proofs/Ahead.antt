@@ -1,46 +1,22 @@
 -- What is left to read says the lines of what is still to come.
 use Rattle.std.proofs.Common.{◌≡◌, ℕ, ◌+◌, ◌≤◌, Bool, true, false, List, [], ◌∷◌, ◌++◌, length, take, drop, map, Option, Some, None, Result, Ok, refl, sym, ap, ◌∙◌, subst, append_assoc, arith}
-use Rattle.std.specs.Prelude.{bytes_eq, codes, option_map}
-use Rattle.std.specs.List.{AllZip, AllByRecursion, IsDistinct, flat_map, slice_get}
-use Rattle.std.specs.Option.{ok_or}
-use Rattle.std.proofs.lemmas.List.{append-nil, length-append}
-use Rattle.std.proofs.lemmas.List.Elements.{All-from_recursion}
-use Rattle.oat_lines.specs.Lines.{TextWord}
-use Rattle.oat_lines.specs.Reading.{◌>>=◌}
+use Rattle.std.specs.{Prelude.bytes_eq, Prelude.codes, Prelude.option_map, List.AllZip, List.AllByRecursion, List.IsDistinct, List.flat_map, List.slice_get, Option.ok_or}
+use Rattle.std.proofs.lemmas.{List.append-nil, List.length-append, List.Elements.All-from_recursion}
+use Rattle.oat_lines.specs.{Lines.TextWord, Reading.◌>>=◌}
 use Rattle.oat_lines.proofs.Steps.{some_is}
-use Rattle.oat_ir.specs.declared.program.Program.{Program}
-use Rattle.oat_ir.specs.declared.program.GlobalItem.{GlobalItem}
-use Rattle.oat_ir.specs.declared.func.Func.{Func}
-use Rattle.oat_ir.specs.declared.func.Role.{Role}
-use Rattle.oat_ir.specs.declared.func.Role.TheVariants.{Plain, Operation, Main}
-use Rattle.oat_ir.specs.declared.func.Local.{Local}
-use Rattle.oat_ir.specs.declared.func.BlockIr.{BlockIr}
-use Rattle.oat_ir.specs.declared.instr.Instr.{Instr}
-use Rattle.oat_ir.specs.declared.instr.Term.{Term}
-use Rattle.oat_ir.specs.Indices.{IsInstr, IsTerm}
-use Rattle.oat_ir.specs.WellFormed.{IsGlobal, IsLocal, IsRole, IsBlockIr, IsFunc}
-use Rattle.oat_text.specs.declared.form.InstrForm.{InstrForm}
+use Rattle.oat_ir.specs.{declared.program.Program.Program, declared.program.GlobalItem.GlobalItem, declared.func.Func.Func, declared.func.Role.Role, declared.func.Role.TheVariants.Plain}
+use Rattle.oat_ir.specs.{declared.func.Role.TheVariants.Operation, declared.func.Role.TheVariants.Main, declared.func.Local.Local, declared.func.BlockIr.BlockIr, declared.instr.Instr.Instr}
+use Rattle.oat_ir.specs.{declared.instr.Term.Term, Indices.IsInstr, Indices.IsTerm, WellFormed.IsGlobal, WellFormed.IsLocal, WellFormed.IsRole, WellFormed.IsBlockIr, WellFormed.IsFunc}
+use Rattle.oat_text.specs.{declared.form.InstrForm.InstrForm, declared.form.FuncForm.FuncForm, declared.form.GlobalForm.GlobalForm, declared.form.TermForm.TermForm, declared.head.Head.Head}
+use Rattle.oat_text.specs.{declared.head.Stage.Stage, declared.head.Stage.TheVariants.Outside, declared.head.Stage.TheVariants.Locals, declared.head.Stage.TheVariants.Inside}
+use Rattle.oat_text.specs.{declared.head.Stage.TheVariants.Behind, declared.fault.TextFaultKind.TheVariants.Unknown, Words.Keyword, Words.Named, Words.Says, Forms.global_word, Forms.func_word}
+use Rattle.oat_text.specs.{Forms.instr_word, Forms.term_word, Forms.instr_kinds, Forms.term_kinds, Grammar.Line, Grammar.global_line, Grammar.local_line, Grammar.instr_line, Grammar.term_line}
+use Rattle.oat_text.specs.{Grammar.head_line, Grammar.block_lines, Grammar.func_lines, Readings.has_number, Readings.name_at, Outline.Outline, Outline.no_head, Outline.with_locals}
+use Rattle.oat_text.specs.{Outline.with_labels, Bodies.Bodies, Bodies.Scope, Bodies.scope_of, Bodies.scope_in, Bodies.instr_in, Bodies.term_in, Bodies.instr_of, Bodies.term_of}
+use Rattle.oat_text.proofs.{Lines.Numbered, Lines.Say, Programs.all_append, Crossing.role_operations, Crossing.operations_of, Crossing.head_of, Accepted.AreShaped, Accepted.names_in}
+use Rattle.oat_text.proofs.{LinesSay.instr_said, LinesSay.term_said, Declared.BeginsRole, Declared.GlobalTaken, Declared.LocalTaken, Declared.BlockTaken, Declared.FuncTaken, Apart.IsApart}
+use Rattle.oat_text.proofs.{Apart.IsApartHead}
 use Rattle.oat_text.specs.declared.form.LineForm.TheVariants as line
-use Rattle.oat_text.specs.declared.form.FuncForm.{FuncForm}
-use Rattle.oat_text.specs.declared.form.GlobalForm.{GlobalForm}
-use Rattle.oat_text.specs.declared.form.TermForm.{TermForm}
-use Rattle.oat_text.specs.declared.head.Head.{Head}
-use Rattle.oat_text.specs.declared.head.Stage.{Stage}
-use Rattle.oat_text.specs.declared.head.Stage.TheVariants.{Outside, Locals, Inside, Behind}
-use Rattle.oat_text.specs.declared.fault.TextFaultKind.TheVariants.{Unknown}
-use Rattle.oat_text.specs.Words.{Keyword, Named, Says}
-use Rattle.oat_text.specs.Forms.{global_word, func_word, instr_word, term_word, instr_kinds, term_kinds}
-use Rattle.oat_text.specs.Grammar.{Line, global_line, local_line, instr_line, term_line, head_line, block_lines, func_lines}
-use Rattle.oat_text.specs.Readings.{has_number, name_at}
-use Rattle.oat_text.specs.Outline.{Outline, no_head, with_locals, with_labels}
-use Rattle.oat_text.specs.Bodies.{Bodies, Scope, scope_of, scope_in, instr_in, term_in, instr_of, term_of}
-use Rattle.oat_text.proofs.Lines.{Numbered, Say}
-use Rattle.oat_text.proofs.Programs.{all_append}
-use Rattle.oat_text.proofs.Crossing.{role_operations, operations_of, head_of}
-use Rattle.oat_text.proofs.Accepted.{AreShaped, names_in}
-use Rattle.oat_text.proofs.LinesSay.{instr_said, term_said}
-use Rattle.oat_text.proofs.Declared.{BeginsRole, GlobalTaken, LocalTaken, BlockTaken, FuncTaken}
-use Rattle.oat_text.proofs.Apart.{IsApart, IsApartHead}
 
 -- ---- lists
 

@@ -1,22 +1,13 @@
 -- What the lines so far declare is told apart.
 use Rattle.std.proofs.Common.{◌≡◌, ℕ, Bool, true, eqb, List, [], ◌∷◌, ◌++◌, length, Ok, subst}
-use Rattle.std.specs.Prelude.{bytes_eq}
-use Rattle.std.specs.List.{AllByRecursion, IsDistinct}
-use Rattle.oat_lines.specs.Lines.{TextWord}
-use Rattle.oat_lines.specs.Faults.{at}
+use Rattle.std.specs.{Prelude.bytes_eq, List.AllByRecursion, List.IsDistinct}
+use Rattle.oat_lines.specs.{Lines.TextWord, Faults.at}
 use Rattle.oat_lines.proofs.Steps.{bind_ok, ok_is, at_ok}
 use Rattle.oat_ir.specs.Distinct.{global_name, are_one_global, are_one_local}
-use Rattle.oat_text.specs.declared.form.LineForm.{LineForm}
+use Rattle.oat_text.specs.{declared.form.LineForm.LineForm, declared.head.Head.Head, declared.head.Stage.TheVariants.Outside, declared.head.Stage.TheVariants.Behind, Passes.each, Passes.over}
+use Rattle.oat_text.specs.{Readings.has_number, Outline.Outline, Outline.no_head, Outline.nothing, Outline.tested, Outline.itself, Outline.local_name, Outline.declare, Outline.outline_line}
+use Rattle.oat_text.proofs.{Programs.all_append, Lines.Numbered, Accepted.tested_is, Declared.distinct_added, Declared.global_taken, Declared.local_taken, Declared.block_taken, Declared.func_taken}
 use Rattle.oat_text.specs.declared.form.LineForm.TheVariants as line
-use Rattle.oat_text.specs.declared.head.Head.{Head}
-use Rattle.oat_text.specs.declared.head.Stage.TheVariants.{Outside, Behind}
-use Rattle.oat_text.specs.Passes.{each, over}
-use Rattle.oat_text.specs.Readings.{has_number}
-use Rattle.oat_text.specs.Outline.{Outline, no_head, nothing, tested, itself, local_name, declare, outline_line}
-use Rattle.oat_text.proofs.Programs.{all_append}
-use Rattle.oat_text.proofs.Lines.{Numbered}
-use Rattle.oat_text.proofs.Accepted.{tested_is}
-use Rattle.oat_text.proofs.Declared.{distinct_added, global_taken, local_taken, block_taken, func_taken}
 
 pub record IsApartHead (head : Head) : Type 0 where
   pub locals : IsDistinct are_one_local head.locals

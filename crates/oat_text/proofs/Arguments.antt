@@ -1,11 +1,8 @@
 -- Reading the arguments of a call one after the other.
 use Rattle.std.proofs.Common.{◌≡◌, ℕ, suc, ◌+◌, ◌-◌, ◌<◌, ◌≤◌, List, [], ◌∷◌, ◌++◌, length, take, set, Result, Ok, Err, refl, sym, ap, ◌∙◌, append_assoc, arith}
 use Rattle.std.proofs.lemmas.List.{take_more_set, append-nil, length-set, length-take}
-use Rattle.oat_lines.specs.Reading.{◌>>=◌}
-use Rattle.oat_lines.specs.Lines.{TextWord}
-use Rattle.oat_text.specs.declared.fault.TextFaultKind.{TextFaultKind}
-use Rattle.oat_text.specs.declared.fault.TextFaultKind.TheVariants.{Unknown}
-use Rattle.oat_text.specs.Bodies.{Scope, argument, arguments}
+use Rattle.oat_lines.specs.{Reading.◌>>=◌, Lines.TextWord}
+use Rattle.oat_text.specs.{declared.fault.TextFaultKind.TextFaultKind, declared.fault.TextFaultKind.TheVariants.Unknown, Bodies.Scope, Bodies.argument, Bodies.arguments}
 
 abbrev Read : Type 0
 Read = Result (List ℕ) TextFaultKind

@@ -1,40 +1,26 @@
 -- What the two passes make of the lines that declare: globals, the head of a function, and its locals.
 use Rattle.std.proofs.Common.{◌≡◌, ℕ, suc, ◌≤◌, true, false, eqb, List, [], ◌∷◌, ◌++◌, length, map, take, drop, Ok, refl, sym, ap, ◌∙◌, subst, append_assoc, arith}
-use Rattle.std.specs.Prelude.{codes, bytes_eq}
-use Rattle.std.specs.List.{AllByRecursion, AllZip, IsDistinct, list_any}
-use Rattle.std.proofs.lemmas.Bool.{eqb-false, le-leb, ne_eqb}
-use Rattle.std.proofs.lemmas.List.{append-nil, length-map, length-take-le, map-append, take-append-drop}
-use Rattle.oat_lines.specs.Lines.{TextWord}
-use Rattle.oat_lines.specs.Reading.{between}
-use Rattle.oat_ir.specs.declared.program.GlobalItem.{GlobalItem}
-use Rattle.oat_ir.specs.declared.program.GlobalItem.TheVariants.{Scalar, FnScalar, Array, CriticalArray}
-use Rattle.oat_ir.specs.declared.func.Func.{Func}
-use Rattle.oat_ir.specs.declared.func.Role.{Role}
-use Rattle.oat_ir.specs.declared.func.Role.TheVariants.{Plain, Operation, Main}
+use Rattle.std.specs.{Prelude.codes, Prelude.bytes_eq, List.AllByRecursion, List.AllZip, List.IsDistinct, List.list_any}
+use Rattle.std.proofs.lemmas.{Bool.eqb-false, Bool.le-leb, Bool.ne_eqb, List.append-nil, List.length-map, List.length-take-le, List.map-append, List.take-append-drop}
+use Rattle.oat_lines.specs.{Lines.TextWord, Reading.between}
+use Rattle.oat_ir.specs.{declared.program.GlobalItem.GlobalItem, declared.program.GlobalItem.TheVariants.Scalar, declared.program.GlobalItem.TheVariants.FnScalar}
+use Rattle.oat_ir.specs.{declared.program.GlobalItem.TheVariants.Array, declared.program.GlobalItem.TheVariants.CriticalArray, declared.func.Func.Func, declared.func.Role.Role}
+use Rattle.oat_ir.specs.{declared.func.Role.TheVariants.Plain, declared.func.Role.TheVariants.Operation, declared.func.Role.TheVariants.Main, declared.func.Local.Local, declared.func.BlockIr.BlockIr}
+use Rattle.oat_ir.specs.{Distinct.global_name, Distinct.are_one_global, Distinct.have_one_name, Distinct.are_one_operation, Distinct.have_one_operation, Distinct.are_one_local, WellFormed.IsGlobal}
+use Rattle.oat_ir.specs.{WellFormed.IsLocal, WellFormed.IsRole}
+use Rattle.oat_text.specs.{declared.form.GlobalForm.GlobalForm, declared.form.WordKind.WordKind, declared.head.Head.Head, declared.head.Stage.Stage, declared.head.Stage.TheVariants.Outside}
+use Rattle.oat_text.specs.{declared.head.Stage.TheVariants.Locals, Words.Said, Words.Named, Words.Typed, Words.Number, Words.Integer, Words.Says, Grammar.Line, Grammar.parameter, Grammar.head_line}
+use Rattle.oat_text.specs.{Passes.each, Outline.Outline, Outline.no_head, Outline.global_in, Outline.global_of, Outline.scalar_of, Outline.add_parameter, Outline.add_parameters, Outline.local_name}
+use Rattle.oat_text.specs.{Outline.begin_func, Outline.begin_operation, Outline.plain_line, Outline.operation_line, Outline.func_line, Outline.global_line, Outline.local_line, Outline.declare}
+use Rattle.oat_text.specs.{Bodies.Bodies, Bodies.fill}
+use Rattle.oat_text.proofs.{Finding.alike, Finding.fresh, Lines.Numbered, Lines.Say, Lines.Crosses, Lines.line_crossed, Lines.more_words, Lines.two_words, Spoken.Suits, Spoken.AllSuit}
+use Rattle.oat_text.proofs.{Spoken.name_read, Spoken.params_read, Spoken.ty_read, Spoken.parameter_read, Spoken.integer_read, Spoken.count_read, Tables.any_mapped}
 use Rattle.oat_ir.specs.declared.func.Ty.TheVariants as ty
-use Rattle.oat_ir.specs.declared.func.Local.{Local}
-use Rattle.oat_ir.specs.declared.func.BlockIr.{BlockIr}
-use Rattle.oat_ir.specs.Distinct.{global_name, are_one_global, have_one_name, are_one_operation, have_one_operation, are_one_local}
-use Rattle.oat_ir.specs.WellFormed.{IsGlobal, IsLocal, IsRole}
 use Rattle.oat_text.specs.declared.form.LineForm.TheVariants as line
-use Rattle.oat_text.specs.declared.form.GlobalForm.{GlobalForm}
 use Rattle.oat_text.specs.declared.form.GlobalForm.TheVariants as globals
 use Rattle.oat_text.specs.declared.form.FuncForm.TheVariants as funcs
-use Rattle.oat_text.specs.declared.form.WordKind.{WordKind}
 use Rattle.oat_text.specs.declared.form.WordKind.TheVariants as kind
-use Rattle.oat_text.specs.declared.head.Head.{Head}
-use Rattle.oat_text.specs.declared.head.Stage.{Stage}
-use Rattle.oat_text.specs.declared.head.Stage.TheVariants.{Outside, Locals}
-use Rattle.oat_text.specs.Words.{Said, Named, Typed, Number, Integer, Says}
-use Rattle.oat_text.specs.Grammar.{Line, parameter, head_line}
 use Rattle.oat_text.specs.Grammar as grammar
-use Rattle.oat_text.specs.Passes.{each}
-use Rattle.oat_text.specs.Outline.{Outline, no_head, global_in, global_of, scalar_of, add_parameter, add_parameters, local_name, begin_func, begin_operation, plain_line, operation_line, func_line, global_line, local_line, declare}
-use Rattle.oat_text.specs.Bodies.{Bodies, fill}
-use Rattle.oat_text.proofs.Finding.{alike, fresh}
-use Rattle.oat_text.proofs.Lines.{Numbered, Say, Crosses, line_crossed, more_words, two_words}
-use Rattle.oat_text.proofs.Spoken.{Suits, AllSuit, name_read, params_read, ty_read, parameter_read, integer_read, count_read}
-use Rattle.oat_text.proofs.Tables.{any_mapped}
 
 -- ---- words
 

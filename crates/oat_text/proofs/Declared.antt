@@ -1,49 +1,27 @@
 -- What the lines of declarations say that the reader takes, and what they leave behind.
 use Rattle.std.proofs.Common.{◌≡◌, ℕ, ◌+◌, ◌≤◌, Bool, true, false, not, eqb, ◌||◌, List, [], ◌∷◌, ◌++◌, length, map, Option, Some, None, Ok, refl, sym, ap, ◌∙◌, subst, inl, inr, append_assoc, arith}
-use Rattle.std.specs.Prelude.{bytes_eq, codes, if◌then◌else◌, ◌⊎◌, option_map}
-use Rattle.std.specs.List.{AllZip, AllByRecursion, IsDistinct, list_any, slice_get}
-use Rattle.std.specs.Option.{ok_or}
-use Rattle.std.proofs.lemmas.Bool.Decides.{nat_tests}
-use Rattle.std.proofs.lemmas.Slice.Eq.{bytes_eq-Decides}
-use Rattle.std.proofs.lemmas.Fmt.{decimal_digit}
-use Rattle.std.proofs.lemmas.List.{append-nil, length-map}
-use Rattle.oat_lines.specs.Lines.{TextWord}
-use Rattle.oat_lines.specs.Decimal.{numeral_of}
-use Rattle.oat_lines.specs.Fields.{cut}
-use Rattle.oat_lines.specs.Faults.{at}
-use Rattle.oat_lines.specs.declared.fault.Fault.TheVariants.{At}
-use Rattle.oat_lines.specs.Reading.{◌>>=◌, between}
-use Rattle.oat_lines.proofs.Cutting.{cut_takes, then_some, map_some}
-use Rattle.oat_lines.proofs.Steps.{bind_ok, guarded_ok, or_ok, ok_is, some_is, chosen, at_ok}
-use Rattle.oat_map.specs.Name.{IsName, read_name}
-use Rattle.oat_ir.specs.declared.program.GlobalItem.{GlobalItem}
-use Rattle.oat_ir.specs.declared.program.GlobalItem.TheVariants.{Scalar, FnScalar, Array, CriticalArray}
-use Rattle.oat_ir.specs.declared.func.Role.{Role}
-use Rattle.oat_ir.specs.declared.func.Role.TheVariants.{Plain, Operation, Main}
-use Rattle.oat_ir.specs.declared.func.Ty.{Ty}
-use Rattle.oat_ir.specs.declared.func.Ty.TheVariants.{I64, Fn}
-use Rattle.oat_ir.specs.declared.func.Local.{Local}
-use Rattle.oat_ir.specs.Distinct.{global_name, are_one_local}
-use Rattle.oat_ir.specs.WellFormed.{IsGlobal, IsTy, IsLocal}
-use Rattle.oat_text.specs.declared.fault.TextFaultKind.TheVariants.{Token, Expected, Number, Duplicate}
+use Rattle.std.specs.{Prelude.bytes_eq, Prelude.codes, Prelude.if◌then◌else◌, Prelude.◌⊎◌, Prelude.option_map, List.AllZip, List.AllByRecursion, List.IsDistinct, List.list_any, List.slice_get}
+use Rattle.std.specs.{Option.ok_or}
+use Rattle.std.proofs.lemmas.{Bool.Decides.nat_tests, Slice.Eq.bytes_eq-Decides, Fmt.decimal_digit, List.append-nil, List.length-map}
+use Rattle.oat_lines.specs.{Lines.TextWord, Decimal.numeral_of, Fields.cut, Faults.at, declared.fault.Fault.TheVariants.At, Reading.◌>>=◌, Reading.between}
+use Rattle.oat_lines.proofs.{Cutting.cut_takes, Cutting.then_some, Cutting.map_some, Steps.bind_ok, Steps.guarded_ok, Steps.or_ok, Steps.ok_is, Steps.some_is, Steps.chosen, Steps.at_ok}
+use Rattle.oat_ir.specs.{IsName, read_name, declared.program.GlobalItem.GlobalItem, declared.program.GlobalItem.TheVariants.Scalar, declared.program.GlobalItem.TheVariants.FnScalar}
+use Rattle.oat_ir.specs.{declared.program.GlobalItem.TheVariants.Array, declared.program.GlobalItem.TheVariants.CriticalArray, declared.func.Role.Role, declared.func.Role.TheVariants.Plain}
+use Rattle.oat_ir.specs.{declared.func.Role.TheVariants.Operation, declared.func.Role.TheVariants.Main, declared.func.Ty.Ty, declared.func.Ty.TheVariants.I64, declared.func.Ty.TheVariants.Fn}
+use Rattle.oat_ir.specs.{declared.func.Local.Local, Distinct.global_name, Distinct.are_one_local, WellFormed.IsGlobal, WellFormed.IsTy, WellFormed.IsLocal}
+use Rattle.oat_text.specs.{declared.fault.TextFaultKind.TheVariants.Token, declared.fault.TextFaultKind.TheVariants.Expected, declared.fault.TextFaultKind.TheVariants.Number}
+use Rattle.oat_text.specs.{declared.fault.TextFaultKind.TheVariants.Duplicate, declared.form.GlobalForm.GlobalForm, declared.form.FuncForm.FuncForm, declared.head.Stage.TheVariants.Locals}
+use Rattle.oat_text.specs.{declared.head.Stage.TheVariants.Inside, Words.Named, Words.Says, Words.reference_text, Words.ty_text, Forms.global_word, Forms.func_word, Grammar.global_line}
+use Rattle.oat_text.specs.{Grammar.local_line, Grammar.parameter, Grammar.head_line, Passes.each, Readings.params_of, Readings.ty_of, Readings.local_of, Readings.parameter_of, Readings.i64_of}
+use Rattle.oat_text.specs.{Readings.count_of, Readings.name_at, Readings.local_in, Readings.begins_reference, Readings.has_number, Outline.Outline, Outline.add, Outline.itself, Outline.local_name}
+use Rattle.oat_text.specs.{Outline.scalar_of, Outline.global_of, Outline.global_in, Outline.add_parameter, Outline.add_parameters, Outline.begin_func, Outline.begin_operation, Outline.name_first}
+use Rattle.oat_text.specs.{Outline.id_first, Outline.plain_line, Outline.operation_line, Outline.func_line, Outline.with_locals, Outline.with_labels}
+use Rattle.oat_text.proofs.{Finding.bytes_turned, Lines.lengths, Crossing.role_operations, Accepted.counted, Accepted.none_of, Accepted.one_of, Accepted.two_of, Accepted.some_of, Accepted.pair_of}
+use Rattle.oat_text.proofs.{Accepted.read_is, LinesSay.i64_read}
 use Rattle.oat_text.specs.declared.form.LineForm.TheVariants as line
-use Rattle.oat_text.specs.declared.form.GlobalForm.{GlobalForm}
 use Rattle.oat_text.specs.declared.form.GlobalForm.TheVariants as globals
-use Rattle.oat_text.specs.declared.form.FuncForm.{FuncForm}
 use Rattle.oat_text.specs.declared.form.FuncForm.TheVariants as funcs
-use Rattle.oat_text.specs.declared.head.Stage.TheVariants.{Locals, Inside}
-use Rattle.oat_text.specs.Words.{Named, Says, reference_text, ty_text}
-use Rattle.oat_text.specs.Forms.{global_word, func_word}
-use Rattle.oat_text.specs.Grammar.{global_line, local_line, parameter, head_line}
-use Rattle.oat_text.specs.Passes.{each}
-use Rattle.oat_text.specs.Readings.{params_of, ty_of, local_of, parameter_of, i64_of, count_of, name_at, local_in, begins_reference, has_number}
-use Rattle.oat_text.specs.Outline.{Outline, add, itself, local_name, scalar_of, global_of, global_in, add_parameter, add_parameters, begin_func, begin_operation, name_first, id_first, plain_line, operation_line, func_line, with_locals, with_labels}
 use Rattle.oat_text.specs.Outline as outline
-use Rattle.oat_text.proofs.Finding.{bytes_turned}
-use Rattle.oat_text.proofs.Lines.{lengths}
-use Rattle.oat_text.proofs.Crossing.{role_operations}
-use Rattle.oat_text.proofs.Accepted.{counted, none_of, one_of, two_of, some_of, pair_of, read_is}
-use Rattle.oat_text.proofs.LinesSay.{i64_read}
 
 -- ---- types
 

@@ -1,40 +1,29 @@
 -- What the two passes make of the lines of a function's blocks.
 use Rattle.std.proofs.Common.{◌≡◌, ℕ, zero, suc, ◌<◌, ◌≤◌, Bool, true, List, [], ◌∷◌, ◌++◌, length, map, get_or, Ok, refl, sym, ◌∙◌, subst, append_assoc, arith}
-use Rattle.std.specs.Prelude.{codes, Option, Some, None, slice_get, bytes_eq}
-use Rattle.std.specs.List.{AllByRecursion, AllZip, IsDistinct, flat_map}
-use Rattle.std.proofs.lemmas.List.{append-nil, length-map, map-append}
-use Rattle.std.proofs.lemmas.List.Elements.{recursion_from_All}
-use Rattle.oat_lines.specs.Lines.{TextWord}
-use Rattle.oat_lines.specs.Reading.{between}
-use Rattle.oat_ir.specs.declared.program.Program.{Program}
-use Rattle.oat_ir.specs.declared.func.Func.{Func}
-use Rattle.oat_ir.specs.declared.func.BlockIr.{BlockIr}
-use Rattle.oat_ir.specs.declared.instr.Instr.{Instr}
-use Rattle.oat_ir.specs.declared.instr.Instr.TheVariants.{Const, Copy, Binary, Load, Store, LoadX, StoreX, RefTo, Call, ICall, Input, Output}
-use Rattle.oat_ir.specs.declared.instr.Term.{Term}
-use Rattle.oat_ir.specs.declared.instr.Term.TheVariants.{Jump, Branch, Ret, Halt}
-use Rattle.oat_ir.specs.Distinct.{global_name, have_one_label}
-use Rattle.oat_ir.specs.Indices.{HasLocal, HasBlock, HasGlobal, HasFunc, AreArguments, IsInstr, IsTerm}
-use Rattle.oat_ir.specs.WellFormed.{IsBlockIr, IsFunc, IsProgram}
+use Rattle.std.specs.{Prelude.codes, Prelude.Option, Prelude.Some, Prelude.None, Prelude.slice_get, Prelude.bytes_eq, List.AllByRecursion, List.AllZip, List.IsDistinct, List.flat_map}
+use Rattle.std.proofs.lemmas.{List.append-nil, List.length-map, List.map-append, List.Elements.recursion_from_All}
+use Rattle.oat_lines.specs.{Lines.TextWord, Reading.between}
+use Rattle.oat_ir.specs.{declared.program.Program.Program, declared.func.Func.Func, declared.func.BlockIr.BlockIr, declared.instr.Instr.Instr, declared.instr.Instr.TheVariants.Const}
+use Rattle.oat_ir.specs.{declared.instr.Instr.TheVariants.Copy, declared.instr.Instr.TheVariants.Binary, declared.instr.Instr.TheVariants.Load, declared.instr.Instr.TheVariants.Store}
+use Rattle.oat_ir.specs.{declared.instr.Instr.TheVariants.LoadX, declared.instr.Instr.TheVariants.StoreX, declared.instr.Instr.TheVariants.RefTo, declared.instr.Instr.TheVariants.Call}
+use Rattle.oat_ir.specs.{declared.instr.Instr.TheVariants.ICall, declared.instr.Instr.TheVariants.Input, declared.instr.Instr.TheVariants.Output, declared.instr.Term.Term}
+use Rattle.oat_ir.specs.{declared.instr.Term.TheVariants.Jump, declared.instr.Term.TheVariants.Branch, declared.instr.Term.TheVariants.Ret, declared.instr.Term.TheVariants.Halt, Distinct.global_name}
+use Rattle.oat_ir.specs.{Distinct.have_one_label, Indices.HasLocal, Indices.HasBlock, Indices.HasGlobal, Indices.HasFunc, Indices.AreArguments, Indices.IsInstr, Indices.IsTerm, WellFormed.IsBlockIr}
+use Rattle.oat_ir.specs.{WellFormed.IsFunc, WellFormed.IsProgram}
+use Rattle.oat_text.specs.{declared.form.InstrForm.InstrForm, declared.form.TermForm.TermForm, declared.head.Stage.Stage, declared.head.Stage.TheVariants.Locals}
+use Rattle.oat_text.specs.{declared.head.Stage.TheVariants.Inside, declared.head.Stage.TheVariants.Behind, Words.Said, Words.Keyword, Words.Named, Words.Integer, Words.Says, Grammar.Line}
+use Rattle.oat_text.specs.{Grammar.local_at, Grammar.block_at, Grammar.global_at, Grammar.func_at, Forms.instr_word, Forms.term_word, Outline.Outline, Outline.itself, Outline.local_name}
+use Rattle.oat_text.specs.{Outline.stands, Outline.block_line, Outline.declare, Bodies.Scope, Bodies.Bodies, Bodies.index_of, Bodies.arguments, Bodies.copy_of, Bodies.load_of, Bodies.store_of}
+use Rattle.oat_text.specs.{Bodies.ref_of, Bodies.binary_of, Bodies.const_of, Bodies.loadx_of, Bodies.storex_of, Bodies.call_of, Bodies.icall_of, Bodies.instr_of, Bodies.branch_of, Bodies.term_of}
+use Rattle.oat_text.specs.{Bodies.scope_of, Bodies.instr_in, Bodies.term_in, Bodies.instr_line, Bodies.term_line, Bodies.fill}
+use Rattle.oat_text.proofs.{Crossing.is_between, Crossing.four_suit, Crossing.name_fresh, Crossing.name_of, Crossing.label_of, Crossing.head_of, Crossing.with_funcs, Crossing.in_func, Finding.alike}
+use Rattle.oat_text.proofs.{Finding.found_at, Lines.Numbered, Lines.Say, Lines.Fits, Lines.Crosses, Lines.here, Lines.onward, Lines.line_crossed, Lines.one_word, Lines.more_words, Lines.two_words}
+use Rattle.oat_text.proofs.{Lines.three_words, Spoken.Suits, Spoken.AllSuit, Spoken.name_read, Spoken.integer_read, Tables.place_mapped}
 use Rattle.oat_text.specs.declared.form.LineForm.TheVariants as line
-use Rattle.oat_text.specs.declared.form.InstrForm.{InstrForm}
 use Rattle.oat_text.specs.declared.form.InstrForm.TheVariants as instrs
-use Rattle.oat_text.specs.declared.form.TermForm.{TermForm}
 use Rattle.oat_text.specs.declared.form.TermForm.TheVariants as terms
 use Rattle.oat_text.specs.declared.form.WordKind.TheVariants as kind
-use Rattle.oat_text.specs.declared.head.Stage.{Stage}
-use Rattle.oat_text.specs.declared.head.Stage.TheVariants.{Locals, Inside, Behind}
-use Rattle.oat_text.specs.Words.{Said, Keyword, Named, Integer, Says}
-use Rattle.oat_text.specs.Grammar.{Line, local_at, block_at, global_at, func_at}
 use Rattle.oat_text.specs.Grammar as grammar
-use Rattle.oat_text.specs.Forms.{instr_word, term_word}
-use Rattle.oat_text.specs.Outline.{Outline, itself, local_name, stands, block_line, declare}
-use Rattle.oat_text.specs.Bodies.{Scope, Bodies, index_of, arguments, copy_of, load_of, store_of, ref_of, binary_of, const_of, loadx_of, storex_of, call_of, icall_of, instr_of, branch_of, term_of, scope_of, instr_in, term_in, instr_line, term_line, fill}
-use Rattle.oat_text.proofs.Crossing.{is_between, four_suit, name_fresh, name_of, label_of, head_of, with_funcs, in_func}
-use Rattle.oat_text.proofs.Finding.{alike, found_at}
-use Rattle.oat_text.proofs.Lines.{Numbered, Say, Fits, Crosses, here, onward, line_crossed, one_word, more_words, two_words, three_words}
-use Rattle.oat_text.proofs.Spoken.{Suits, AllSuit, name_read, integer_read}
-use Rattle.oat_text.proofs.Tables.{place_mapped}
 
 -- ---- names
 

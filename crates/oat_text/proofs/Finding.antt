@@ -1,10 +1,7 @@
 -- What is found by its name, where names are told apart.
 use Rattle.std.proofs.Common.{◌≡◌, ℕ, zero, suc, ◌+◌, ◌<◌, Bool, true, false, not, List, [], ◌∷◌, ◌++◌, length, map, get_or, Some, refl, ap, ◌∙◌, arith}
-use Rattle.std.specs.Prelude.{bytes_eq}
-use Rattle.std.specs.Cmp.Lexicographic.{nat_list_eq_equiv}
-use Rattle.std.specs.List.{AllByRecursion, IsDistinct, list_any, prefix_len}
-use Rattle.std.proofs.lemmas.Bool.{lt-ltb}
-use Rattle.std.proofs.lemmas.Slice.Eq.{bytes_eq-Decides}
+use Rattle.std.specs.{Prelude.bytes_eq, Cmp.Lexicographic.nat_list_eq_equiv, List.AllByRecursion, List.IsDistinct, List.list_any, List.prefix_len}
+use Rattle.std.proofs.lemmas.{Bool.lt-ltb, Slice.Eq.bytes_eq-Decides}
 use Rattle.oat_lines.specs.Lines.{TextWord}
 use Rattle.oat_text.specs.Bodies.{index_of}
 

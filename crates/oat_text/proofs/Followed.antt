@@ -1,32 +1,19 @@
 -- Both passes over all lines: what is read says the lines of the program.
 use Rattle.std.proofs.Common.{◌≡◌, ℕ, ◌+◌, ◌≤◌, true, false, eqb, List, [], ◌∷◌, ◌++◌, length, map, Some, None, Ok, refl, sym, ap, ◌∙◌, subst, arith}
-use Rattle.std.specs.List.{AllByRecursion}
-use Rattle.std.specs.Option.{ok_or}
-use Rattle.std.proofs.lemmas.Bool.{eqb-true}
-use Rattle.std.proofs.lemmas.List.{append-nil, length-append, map-append}
-use Rattle.oat_lines.specs.Lines.{TextWord}
-use Rattle.oat_lines.specs.Faults.{at}
-use Rattle.oat_lines.specs.declared.fault.Fault.TheVariants.{At}
-use Rattle.oat_lines.specs.Reading.{◌>>=◌}
+use Rattle.std.specs.{List.AllByRecursion, Option.ok_or}
+use Rattle.std.proofs.lemmas.{Bool.eqb-true, List.append-nil, List.length-append, List.map-append}
+use Rattle.oat_lines.specs.{Lines.TextWord, Faults.at, declared.fault.Fault.TheVariants.At, Reading.◌>>=◌}
 use Rattle.oat_lines.proofs.Steps.{bind_ok, or_ok, ok_is, some_is, at_ok}
-use Rattle.oat_ir.specs.declared.program.Program.{Program}
-use Rattle.oat_ir.specs.declared.func.BlockIr.{BlockIr}
-use Rattle.oat_text.specs.declared.fault.TextFaultKind.TheVariants.{Unknown}
-use Rattle.oat_text.specs.declared.form.LineForm.{LineForm}
+use Rattle.oat_ir.specs.{declared.program.Program.Program, declared.func.BlockIr.BlockIr}
+use Rattle.oat_text.specs.{declared.fault.TextFaultKind.TheVariants.Unknown, declared.form.LineForm.LineForm, declared.head.Stage.Stage, declared.head.Stage.TheVariants.Outside}
+use Rattle.oat_text.specs.{declared.head.Stage.TheVariants.Locals, declared.head.Stage.TheVariants.Inside, declared.head.Stage.TheVariants.Behind, Forms.line_form, Forms.instr_kinds, Forms.term_kinds}
+use Rattle.oat_text.specs.{Passes.each, Passes.over, Readings.name_at, Outline.Outline, Outline.no_head, Outline.with_locals, Outline.with_labels, Outline.tested, Outline.declare}
+use Rattle.oat_text.specs.{Outline.outline_line, Bodies.Bodies, Bodies.instr_in, Bodies.term_in, Bodies.fill, Bodies.body_line}
+use Rattle.oat_text.proofs.{Lines.Numbered, Accepted.IsTested, Accepted.tested_is, Accepted.all_shaped, Accepted.counted, Accepted.none_of, Declared.global_taken, Declared.local_taken}
+use Rattle.oat_text.proofs.{Declared.block_taken, Declared.func_taken, Crossing.role_operations, Ahead.IsLast, Ahead.After, Ahead.global_step, Ahead.func_step, Ahead.local_step, Ahead.first_block}
+use Rattle.oat_text.proofs.{Ahead.next_block, Ahead.instr_step, Ahead.term_step, Ahead.end_step}
 use Rattle.oat_text.specs.declared.form.LineForm.TheVariants as line
-use Rattle.oat_text.specs.declared.head.Stage.{Stage}
-use Rattle.oat_text.specs.declared.head.Stage.TheVariants.{Outside, Locals, Inside, Behind}
-use Rattle.oat_text.specs.Forms.{line_form, instr_kinds, term_kinds}
-use Rattle.oat_text.specs.Passes.{each, over}
-use Rattle.oat_text.specs.Readings.{name_at}
-use Rattle.oat_text.specs.Outline.{Outline, no_head, with_locals, with_labels, tested, declare, outline_line}
-use Rattle.oat_text.specs.Bodies.{Bodies, instr_in, term_in, fill, body_line}
 use Rattle.oat_text.specs.Bodies as bodies
-use Rattle.oat_text.proofs.Lines.{Numbered}
-use Rattle.oat_text.proofs.Accepted.{IsTested, tested_is, all_shaped, counted, none_of}
-use Rattle.oat_text.proofs.Declared.{global_taken, local_taken, block_taken, func_taken}
-use Rattle.oat_text.proofs.Crossing.{role_operations}
-use Rattle.oat_text.proofs.Ahead.{IsLast, After, global_step, func_step, local_step, first_block, next_block, instr_step, term_step, end_step}
 
 abbrev pub labels_of : List BlockIr → List TextWord
 labels_of blocks = map (λ c. c.label) blocks

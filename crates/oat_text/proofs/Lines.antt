@@ -1,25 +1,17 @@
 -- Lines that say those of a program, and what the two passes make of one of them.
 use Rattle.std.proofs.Common.{◌≡◌, ℕ, suc, ◌+◌, ◌-◌, Bool, true, false, not, cond, eqb, List, [], ◌∷◌, length, map, Ok, refl, ap, ◌∙◌}
-use Rattle.std.specs.Prelude.{Some, if◌then◌else◌}
-use Rattle.std.specs.List.{AllZip, list_all}
-use Rattle.oat_lines.specs.Lines.{TextWord, words_of, is_skipped, counting}
-use Rattle.oat_lines.specs.Reading.{between}
+use Rattle.std.specs.{Prelude.Some, Prelude.if◌then◌else◌, List.AllZip, List.list_all}
+use Rattle.oat_lines.specs.{Lines.TextWord, Lines.words_of, Lines.is_skipped, Lines.counting, Reading.between}
 use Rattle.oat_ir.specs.declared.instr.BinOp.TheVariants.{Add, Sub, Mul, And, Or, Xor, Shl, Shr, Sar, Eq, Ne, Lt, Le, Ltu, Leu, Div, Rem, Divu, Remu}
-use Rattle.oat_text.specs.declared.form.LineForm.{LineForm}
+use Rattle.oat_text.specs.{declared.form.LineForm.LineForm, declared.form.WordKind.WordKind, Words.Said, Words.Keyword, Words.Says, Grammar.Line, Forms.spelled, Forms.line_form, Forms.kinds_of}
+use Rattle.oat_text.specs.{Forms.optional, Readings.is_printable, Readings.is_shaped, Readings.is_in_range, Readings.all_pass, Readings.has_number, Passes.numbered, Passes.each, Passes.over}
+use Rattle.oat_text.specs.{Outline.Outline, Outline.stands, Outline.fitting, Outline.tested, Outline.declare, Outline.outline_line, Bodies.Bodies, Bodies.fill, Bodies.body_line}
+use Rattle.oat_text.proofs.Spoken.{AllSuit, passes}
 use Rattle.oat_text.specs.declared.form.LineForm.TheVariants as line
 use Rattle.oat_text.specs.declared.form.GlobalForm.TheVariants as globals
 use Rattle.oat_text.specs.declared.form.FuncForm.TheVariants as funcs
 use Rattle.oat_text.specs.declared.form.InstrForm.TheVariants as instrs
 use Rattle.oat_text.specs.declared.form.TermForm.TheVariants as terms
-use Rattle.oat_text.specs.declared.form.WordKind.{WordKind}
-use Rattle.oat_text.specs.Words.{Said, Keyword, Says}
-use Rattle.oat_text.specs.Grammar.{Line}
-use Rattle.oat_text.specs.Forms.{spelled, line_form, kinds_of, optional}
-use Rattle.oat_text.specs.Readings.{is_printable, is_shaped, is_in_range, all_pass, has_number}
-use Rattle.oat_text.specs.Passes.{numbered, each, over}
-use Rattle.oat_text.specs.Outline.{Outline, stands, fitting, tested, declare, outline_line}
-use Rattle.oat_text.specs.Bodies.{Bodies, fill, body_line}
-use Rattle.oat_text.proofs.Spoken.{AllSuit, passes}
 
 -- ---- lines with their numbers
 

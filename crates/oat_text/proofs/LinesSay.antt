@@ -1,37 +1,25 @@
 -- What the lines of instructions and terminators say that the reader takes.
 use Rattle.std.proofs.Common.{◌≡◌, ℕ, ℤ, zero, suc, ◌≤◌, true, List, [], ◌∷◌, length, map, Some, None, Result, Ok, refl, sym, subst, arith}
-use Rattle.std.specs.List.{AllZip, AllByRecursion, slice_get}
-use Rattle.std.specs.Option.{ok_or}
-use Rattle.std.specs.Prelude.{option_and_then, if◌then◌else◌, IsTrue}
+use Rattle.std.specs.{List.AllZip, List.AllByRecursion, List.slice_get, Option.ok_or, Prelude.option_and_then, Prelude.if◌then◌else◌, Prelude.IsTrue}
 use Rattle.std.proofs.lemmas.List.Elements.{All-from_recursion}
-use Rattle.oat_lines.specs.Lines.{TextWord}
-use Rattle.oat_lines.specs.Integer.{integer_of, is_i64}
-use Rattle.oat_lines.specs.Reading.{◌>>=◌, between}
-use Rattle.oat_lines.proofs.Cutting.{then_some}
-use Rattle.oat_lines.proofs.Steps.{bind_ok, or_ok, ok_is, chosen}
-use Rattle.oat_map.specs.Name.{IsName}
-use Rattle.oat_ir.specs.declared.program.Program.{Program}
-use Rattle.oat_ir.specs.declared.func.Func.{Func}
-use Rattle.oat_ir.specs.declared.instr.BinOp.{BinOp}
-use Rattle.oat_ir.specs.declared.instr.Instr.{Instr}
-use Rattle.oat_ir.specs.declared.instr.Instr.TheVariants.{Const, Copy, Binary, Load, Store, LoadX, StoreX, RefTo, Call, ICall, Input, Output}
-use Rattle.oat_ir.specs.declared.instr.Term.{Term}
-use Rattle.oat_ir.specs.declared.instr.Term.TheVariants.{Jump, Branch, Ret, Halt}
-use Rattle.oat_ir.specs.Indices.{HasLocal, IsInstr, IsTerm}
-use Rattle.oat_text.specs.declared.fault.TextFaultKind.{TextFaultKind}
-use Rattle.oat_text.specs.declared.fault.TextFaultKind.TheVariants.{Number}
+use Rattle.oat_lines.specs.{Lines.TextWord, Integer.integer_of, Integer.is_i64, Reading.◌>>=◌, Reading.between}
+use Rattle.oat_lines.proofs.{Cutting.then_some, Steps.bind_ok, Steps.or_ok, Steps.ok_is, Steps.chosen}
+use Rattle.oat_ir.specs.{IsName, declared.program.Program.Program, declared.func.Func.Func, declared.instr.BinOp.BinOp, declared.instr.Instr.Instr, declared.instr.Instr.TheVariants.Const}
+use Rattle.oat_ir.specs.{declared.instr.Instr.TheVariants.Copy, declared.instr.Instr.TheVariants.Binary, declared.instr.Instr.TheVariants.Load, declared.instr.Instr.TheVariants.Store}
+use Rattle.oat_ir.specs.{declared.instr.Instr.TheVariants.LoadX, declared.instr.Instr.TheVariants.StoreX, declared.instr.Instr.TheVariants.RefTo, declared.instr.Instr.TheVariants.Call}
+use Rattle.oat_ir.specs.{declared.instr.Instr.TheVariants.ICall, declared.instr.Instr.TheVariants.Input, declared.instr.Instr.TheVariants.Output, declared.instr.Term.Term}
+use Rattle.oat_ir.specs.{declared.instr.Term.TheVariants.Jump, declared.instr.Term.TheVariants.Branch, declared.instr.Term.TheVariants.Ret, declared.instr.Term.TheVariants.Halt, Indices.HasLocal}
+use Rattle.oat_ir.specs.{Indices.IsInstr, Indices.IsTerm}
+use Rattle.oat_text.specs.{declared.fault.TextFaultKind.TextFaultKind, declared.fault.TextFaultKind.TheVariants.Number, declared.form.InstrForm.InstrForm, declared.form.TermForm.TermForm, Words.Says}
+use Rattle.oat_text.specs.{Forms.instr_word, Forms.term_word, Forms.instr_kinds, Forms.term_kinds, Grammar.local_at, Grammar.instr_line, Grammar.term_line, Readings.i64_of, Readings.has_number}
+use Rattle.oat_text.specs.{Bodies.Scope, Bodies.argument, Bodies.arguments, Bodies.global_index, Bodies.func_index, Bodies.local_index, Bodies.label_index, Bodies.const_of, Bodies.copy_of}
+use Rattle.oat_text.specs.{Bodies.binary_of, Bodies.load_of, Bodies.store_of, Bodies.loadx_of, Bodies.storex_of, Bodies.ref_of, Bodies.call_of, Bodies.icall_of, Bodies.instr_of, Bodies.branch_of}
+use Rattle.oat_text.specs.{Bodies.term_of}
+use Rattle.oat_text.proofs.Accepted.{AreShaped, counted, none_of, one_of, two_of, three_of, pair_of, names_in, local_found, global_found, func_found, block_found}
 use Rattle.oat_text.specs.declared.form.LineForm.TheVariants as line
 use Rattle.oat_text.specs.declared.form.WordKind.TheVariants as kind
-use Rattle.oat_text.specs.declared.form.InstrForm.{InstrForm}
 use Rattle.oat_text.specs.declared.form.InstrForm.TheVariants as instrs
-use Rattle.oat_text.specs.declared.form.TermForm.{TermForm}
 use Rattle.oat_text.specs.declared.form.TermForm.TheVariants as terms
-use Rattle.oat_text.specs.Words.{Says}
-use Rattle.oat_text.specs.Forms.{instr_word, term_word, instr_kinds, term_kinds}
-use Rattle.oat_text.specs.Grammar.{local_at, instr_line, term_line}
-use Rattle.oat_text.specs.Readings.{i64_of, has_number}
-use Rattle.oat_text.specs.Bodies.{Scope, argument, arguments, global_index, func_index, local_index, label_index, const_of, copy_of, binary_of, load_of, store_of, loadx_of, storex_of, ref_of, call_of, icall_of, instr_of, branch_of, term_of}
-use Rattle.oat_text.proofs.Accepted.{AreShaped, counted, none_of, one_of, two_of, three_of, pair_of, names_in, local_found, global_found, func_found, block_found}
 
 pub i64_read : (word : TextWord) (value : ℤ) → i64_of word ≡ Some value → (integer_of word ≡ Some value) × IsTrue (is_i64 value)
 i64_read word value e =

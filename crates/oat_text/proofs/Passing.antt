@@ -1,12 +1,9 @@
 -- Going over the lines of a text, as a loop does.
 use Rattle.std.proofs.Common.{◌≡◌, ℕ, ◌+◌, ◌<◌, ◌≤◌, Bool, true, false, List, [], ◌∷◌, length, Ok, Err, refl, sym, ap, ◌∙◌, arith}
 use Rattle.std.specs.Prelude.{if◌then◌else◌}
-use Rattle.oat_lines.specs.declared.fault.Fault.{Fault}
-use Rattle.oat_lines.specs.Faults.{Fails}
-use Rattle.oat_lines.specs.Lines.{TextWord, lines_of, words_of, is_skipped}
+use Rattle.oat_lines.specs.{declared.fault.Fault.Fault, Faults.Fails, Lines.TextWord, Lines.lines_of, Lines.words_of, Lines.is_skipped}
 use Rattle.oat_lines.proofs.Steps.{ok_is, fails_as}
-use Rattle.oat_text.specs.declared.fault.TextFaultKind.{TextFaultKind}
-use Rattle.oat_text.specs.Passes.{OrFault, numbered, each, over}
+use Rattle.oat_text.specs.{declared.fault.TextFaultKind.TextFaultKind, Passes.OrFault, Passes.numbered, Passes.each, Passes.over}
 
 module _ {S X : Type 0} (takes : S → X → OrFault S) where
   pub each_next : (s t : S) (x : X) (rest xs : List X) (total : OrFault S) → takes s x ≡ Ok t → rest ≡ x ∷ xs

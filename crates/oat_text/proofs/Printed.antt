@@ -1,20 +1,12 @@
 -- The pieces that are printed, joined, are the text of a program.
 use Rattle.std.proofs.Common.{◌≡◌, ℕ, List, [], ◌∷◌, ◌++◌, map, take, drop, refl, sym, ap, ◌∙◌, append_assoc}
-use Rattle.std.specs.Prelude.{codes, decimal}
-use Rattle.std.specs.List.{flat_map}
-use Rattle.std.proofs.lemmas.Grind.{flat_map-append}
-use Rattle.std.proofs.lemmas.List.{append-nil}
-use Rattle.oat_lines.specs.Fields.{spaced, ended}
-use Rattle.oat_lines.specs.Lines.{TextWord}
-use Rattle.oat_ir.specs.declared.program.Program.{Program}
-use Rattle.oat_ir.specs.declared.func.Func.{Func}
-use Rattle.oat_ir.specs.declared.func.Role.{Role}
-use Rattle.oat_ir.specs.declared.func.Role.TheVariants.{Plain, Operation, Main}
-use Rattle.oat_ir.specs.declared.func.BlockIr.{BlockIr}
-use Rattle.oat_ir.specs.WellFormed.{IsRole}
-use Rattle.oat_text.specs.Words.{Said, printed_word}
-use Rattle.oat_text.specs.Grammar.{global_line, instr_line, term_line, parameter, head_line, local_line, block_lines, func_lines, line_text, lines_text, program_text}
-use Rattle.oat_text.specs.Printing.{words_behind, head_text}
+use Rattle.std.specs.{Prelude.codes, Prelude.decimal, List.flat_map}
+use Rattle.std.proofs.lemmas.{Grind.flat_map-append, List.append-nil}
+use Rattle.oat_lines.specs.{Fields.spaced, Fields.ended, Lines.TextWord}
+use Rattle.oat_ir.specs.{declared.program.Program.Program, declared.func.Func.Func, declared.func.Role.Role, declared.func.Role.TheVariants.Plain, declared.func.Role.TheVariants.Operation}
+use Rattle.oat_ir.specs.{declared.func.Role.TheVariants.Main, declared.func.BlockIr.BlockIr, WellFormed.IsRole}
+use Rattle.oat_text.specs.{Words.Said, Words.printed_word, Grammar.global_line, Grammar.instr_line, Grammar.term_line, Grammar.parameter, Grammar.head_line, Grammar.local_line, Grammar.block_lines}
+use Rattle.oat_text.specs.{Grammar.func_lines, Grammar.line_text, Grammar.lines_text, Grammar.program_text, Printing.words_behind, Printing.head_text}
 
 -- ---- lists
 

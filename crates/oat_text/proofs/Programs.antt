@@ -1,34 +1,29 @@
 -- Each line of a program can be said, and so the printed text is a text of the program.
 use Rattle.std.proofs.Common.{◌≡◌, ℕ, ◌<◌, Bool, true, false, List, [], ◌∷◌, ◌++◌, length, get_or, take, drop, map, zero, suc, refl, arith}
-use Rattle.std.specs.Prelude.{codes}
-use Rattle.std.specs.List.{All, AllByRecursion, AllZip, flat_map}
-use Rattle.std.proofs.lemmas.List.{length-map}
-use Rattle.std.proofs.lemmas.List.Elements.{All-from_recursion, recursion_from_All}
-use Rattle.oat_lines.specs.Lines.{TextWord, lines_of, is_skipped, counting}
-use Rattle.oat_lines.specs.Fields.{spaced, ended}
-use Rattle.oat_map.specs.Name.{IsName}
-use Rattle.oat_ir.specs.declared.program.Program.{Program}
-use Rattle.oat_ir.specs.declared.program.GlobalItem.{GlobalItem}
-use Rattle.oat_ir.specs.declared.program.GlobalItem.TheVariants.{Scalar, FnScalar, Array, CriticalArray}
-use Rattle.oat_ir.specs.declared.func.Func.{Func}
-use Rattle.oat_ir.specs.declared.func.Role.{Role}
-use Rattle.oat_ir.specs.declared.func.Role.TheVariants.{Plain, Operation, Main}
-use Rattle.oat_ir.specs.declared.func.Ty.TheVariants as ty
-use Rattle.oat_ir.specs.declared.func.Local.{Local}
-use Rattle.oat_ir.specs.declared.func.BlockIr.{BlockIr}
-use Rattle.oat_ir.specs.declared.instr.BinOp.{BinOp}
-use Rattle.oat_ir.specs.declared.instr.BinOp.TheVariants.{Add, Sub, Mul, And, Or, Xor, Shl, Shr, Sar, Eq, Ne, Lt, Le, Ltu, Leu, Div, Rem, Divu, Remu}
-use Rattle.oat_ir.specs.declared.instr.Instr.{Instr}
-use Rattle.oat_ir.specs.declared.instr.Instr.TheVariants.{Const, Copy, Binary, Load, Store, LoadX, StoreX, RefTo, Call, ICall, Input, Output}
-use Rattle.oat_ir.specs.declared.instr.Term.{Term}
-use Rattle.oat_ir.specs.declared.instr.Term.TheVariants.{Jump, Branch, Ret, Halt}
-use Rattle.oat_ir.specs.Distinct.{global_name}
-use Rattle.oat_ir.specs.Indices.{HasLocal, HasBlock, HasGlobal, HasFunc, IsInstr, IsTerm}
-use Rattle.oat_ir.specs.WellFormed.{IsGlobal, IsLocal, IsRole, IsBlockIr, IsFunc, IsProgram}
-use Rattle.oat_text.specs.Words.{Keyword, Named, Says, printed_word}
-use Rattle.oat_text.specs.Grammar.{Line, local_at, block_at, global_at, func_at, scalar_keyword, global_line, op_keyword, instr_line, term_line, parameter, head_line, local_line, block_lines, func_lines, program_lines, TextSays, lines_text}
-use Rattle.oat_text.specs.Laws.{HasGlobalValues, HasConstant, HasBlockValues, HasFuncValues, HasValues, PrintedIsText}
+use Rattle.std.specs.{Prelude.codes, List.All, List.AllByRecursion, List.AllZip, List.flat_map}
+use Rattle.std.proofs.lemmas.{List.length-map, List.Elements.All-from_recursion, List.Elements.recursion_from_All}
+use Rattle.oat_lines.specs.{Lines.TextWord, Lines.lines_of, Lines.is_skipped, Lines.counting, Fields.spaced, Fields.ended}
+use Rattle.oat_ir.specs.{IsName, declared.program.Program.Program, declared.program.GlobalItem.GlobalItem, declared.program.GlobalItem.TheVariants.Scalar}
+use Rattle.oat_ir.specs.{declared.program.GlobalItem.TheVariants.FnScalar, declared.program.GlobalItem.TheVariants.Array, declared.program.GlobalItem.TheVariants.CriticalArray}
+use Rattle.oat_ir.specs.{declared.func.Func.Func, declared.func.Role.Role, declared.func.Role.TheVariants.Plain, declared.func.Role.TheVariants.Operation, declared.func.Role.TheVariants.Main}
+use Rattle.oat_ir.specs.{declared.func.Local.Local, declared.func.BlockIr.BlockIr, declared.instr.BinOp.BinOp, declared.instr.BinOp.TheVariants.Add, declared.instr.BinOp.TheVariants.Sub}
+use Rattle.oat_ir.specs.{declared.instr.BinOp.TheVariants.Mul, declared.instr.BinOp.TheVariants.And, declared.instr.BinOp.TheVariants.Or, declared.instr.BinOp.TheVariants.Xor}
+use Rattle.oat_ir.specs.{declared.instr.BinOp.TheVariants.Shl, declared.instr.BinOp.TheVariants.Shr, declared.instr.BinOp.TheVariants.Sar, declared.instr.BinOp.TheVariants.Eq}
+use Rattle.oat_ir.specs.{declared.instr.BinOp.TheVariants.Ne, declared.instr.BinOp.TheVariants.Lt, declared.instr.BinOp.TheVariants.Le, declared.instr.BinOp.TheVariants.Ltu}
+use Rattle.oat_ir.specs.{declared.instr.BinOp.TheVariants.Leu, declared.instr.BinOp.TheVariants.Div, declared.instr.BinOp.TheVariants.Rem, declared.instr.BinOp.TheVariants.Divu}
+use Rattle.oat_ir.specs.{declared.instr.BinOp.TheVariants.Remu, declared.instr.Instr.Instr, declared.instr.Instr.TheVariants.Const, declared.instr.Instr.TheVariants.Copy}
+use Rattle.oat_ir.specs.{declared.instr.Instr.TheVariants.Binary, declared.instr.Instr.TheVariants.Load, declared.instr.Instr.TheVariants.Store, declared.instr.Instr.TheVariants.LoadX}
+use Rattle.oat_ir.specs.{declared.instr.Instr.TheVariants.StoreX, declared.instr.Instr.TheVariants.RefTo, declared.instr.Instr.TheVariants.Call, declared.instr.Instr.TheVariants.ICall}
+use Rattle.oat_ir.specs.{declared.instr.Instr.TheVariants.Input, declared.instr.Instr.TheVariants.Output, declared.instr.Term.Term, declared.instr.Term.TheVariants.Jump}
+use Rattle.oat_ir.specs.{declared.instr.Term.TheVariants.Branch, declared.instr.Term.TheVariants.Ret, declared.instr.Term.TheVariants.Halt, Distinct.global_name, Indices.HasLocal, Indices.HasBlock}
+use Rattle.oat_ir.specs.{Indices.HasGlobal, Indices.HasFunc, Indices.IsInstr, Indices.IsTerm, WellFormed.IsGlobal, WellFormed.IsLocal, WellFormed.IsRole, WellFormed.IsBlockIr, WellFormed.IsFunc}
+use Rattle.oat_ir.specs.{WellFormed.IsProgram}
+use Rattle.oat_text.specs.{Words.Keyword, Words.Named, Words.Says, Words.printed_word, Grammar.Line, Grammar.local_at, Grammar.block_at, Grammar.global_at, Grammar.func_at, Grammar.scalar_keyword}
+use Rattle.oat_text.specs.{Grammar.global_line, Grammar.op_keyword, Grammar.instr_line, Grammar.term_line, Grammar.parameter, Grammar.head_line, Grammar.local_line, Grammar.block_lines}
+use Rattle.oat_text.specs.{Grammar.func_lines, Grammar.program_lines, Grammar.TextSays, Grammar.lines_text, Laws.HasGlobalValues, Laws.HasConstant, Laws.HasBlockValues, Laws.HasFuncValues}
+use Rattle.oat_text.specs.{Laws.HasValues, Laws.PrintedIsText}
 use Rattle.oat_text.proofs.Spelled.{IsPlain, words_spaced, spaced_within, lines_ended}
+use Rattle.oat_ir.specs.declared.func.Ty.TheVariants as ty
 use Rattle.oat_text.proofs.Said as said
 
 -- ---- lists

@@ -1,30 +1,17 @@
 -- A text of a program is read, and gives the program.
 use Rattle.std.proofs.Common.{◌≡◌, ℕ, ◌<◌, List, [], ◌∷◌, ◌++◌, length, map, take, drop, Ok, refl, sym, ap, ◌∙◌, subst, append_assoc, arith}
-use Rattle.std.specs.Prelude.{codes, Some, None, slice_get, zip}
-use Rattle.std.specs.List.{AllByRecursion, IsDistinct, flat_map}
-use Rattle.std.proofs.lemmas.List.{append-nil, length-append, length-map, map-append, take-append-drop}
-use Rattle.std.proofs.lemmas.Option.{slice_get_read}
+use Rattle.std.specs.{Prelude.codes, Prelude.Some, Prelude.None, Prelude.slice_get, Prelude.zip, List.AllByRecursion, List.IsDistinct, List.flat_map}
 use Rattle.std.proofs.Math.Seq.{get_or-append_seam}
-use Rattle.std.proofs.lemmas.List.Elements.{recursion_from_All}
-use Rattle.oat_lines.specs.Faults.{Gives}
-use Rattle.oat_lines.specs.Lines.{lines_of}
-use Rattle.oat_ir.specs.declared.program.Program.{Program}
-use Rattle.oat_ir.specs.declared.program.GlobalItem.{GlobalItem}
-use Rattle.oat_ir.specs.declared.func.Func.{Func}
-use Rattle.oat_ir.specs.declared.func.Local.{Local}
-use Rattle.oat_ir.specs.Distinct.{are_one_global, have_one_name, have_one_operation, are_one_local}
-use Rattle.oat_ir.specs.WellFormed.{IsGlobal, IsLocal, IsBlockIr, IsFunc, IsProgram}
-use Rattle.oat_text.specs.declared.head.Stage.TheVariants.{Locals}
-use Rattle.oat_text.specs.Words.{Keyword}
-use Rattle.oat_text.specs.Grammar.{IsProgramText, program_text, Line, local_line, block_lines, func_lines, global_line, program_lines, program_text}
-use Rattle.oat_text.specs.Laws.{TextIsRead, PrintedIsRead, PrintedIsRead}
-use Rattle.oat_text.specs.Passes.{OrFault, numbered, each}
-use Rattle.oat_text.specs.Outline.{nothing, outline_of}
-use Rattle.oat_text.specs.Bodies.{program_of, Bodies, bodies_of, func_from}
-use Rattle.oat_text.proofs.Crossing.{name_of, head_of, with_funcs, in_func, global_crossed, head_crossed, local_crossed}
-use Rattle.oat_text.proofs.Filling.{filled, body_crossed, end_crossed}
-use Rattle.oat_text.proofs.Programs.{all_take, all_drop, printed}
-use Rattle.oat_text.proofs.Lines.{Numbered, Say, Crosses, here, onward, numbered_words, say_from_zip}
+use Rattle.std.proofs.lemmas.{List.append-nil, List.length-append, List.length-map, List.map-append, List.take-append-drop, Option.slice_get_read, List.Elements.recursion_from_All}
+use Rattle.oat_lines.specs.{Faults.Gives, Lines.lines_of}
+use Rattle.oat_ir.specs.{declared.program.Program.Program, declared.program.GlobalItem.GlobalItem, declared.func.Func.Func, declared.func.Local.Local, Distinct.are_one_global, Distinct.have_one_name}
+use Rattle.oat_ir.specs.{Distinct.have_one_operation, Distinct.are_one_local, WellFormed.IsGlobal, WellFormed.IsLocal, WellFormed.IsBlockIr, WellFormed.IsFunc, WellFormed.IsProgram}
+use Rattle.oat_text.specs.{declared.head.Stage.TheVariants.Locals, Words.Keyword, Grammar.IsProgramText, Grammar.program_text, Grammar.Line, Grammar.local_line, Grammar.block_lines}
+use Rattle.oat_text.specs.{Grammar.func_lines, Grammar.global_line, Grammar.program_lines, Laws.TextIsRead, Laws.PrintedIsRead, Passes.OrFault, Passes.numbered, Passes.each, Outline.nothing}
+use Rattle.oat_text.specs.{Outline.outline_of, Bodies.program_of, Bodies.Bodies, Bodies.bodies_of, Bodies.func_from}
+use Rattle.oat_text.proofs.{Crossing.name_of, Crossing.head_of, Crossing.with_funcs, Crossing.in_func, Crossing.global_crossed, Crossing.head_crossed, Crossing.local_crossed, Filling.filled}
+use Rattle.oat_text.proofs.{Filling.body_crossed, Filling.end_crossed, Programs.all_take, Programs.all_drop, Programs.printed, Lines.Numbered, Lines.Say, Lines.Crosses, Lines.here, Lines.onward}
+use Rattle.oat_text.proofs.{Lines.numbered_words, Lines.say_from_zip}
 
 -- ---- globals
 

@@ -1,38 +1,20 @@
 -- What is read from a text is a program of it.
 use Rattle.std.proofs.Common.{◌≡◌, ℕ, ◌+◌, ◌≤◌, Bool, true, false, eqb, List, [], ◌∷◌, ◌++◌, length, map, Ok, Err, refl, inl, inr, sym, ap, ◌∙◌, subst, arith}
-use Rattle.std.specs.Prelude.{bytes_eq, if◌then◌else◌, ◌⊎◌, IfOk}
-use Rattle.std.specs.List.{AllZip, AllByRecursion, IsDistinct, flat_map, zip}
+use Rattle.std.specs.{Prelude.bytes_eq, Prelude.if◌then◌else◌, Prelude.◌⊎◌, Prelude.IfOk, List.AllZip, List.AllByRecursion, List.IsDistinct, List.flat_map, List.zip}
 use Rattle.std.proofs.lemmas.List.Elements.{All-from_recursion}
-use Rattle.oat_lines.specs.Lines.{TextWord, lines_of, words_of, is_skipped, counting}
-use Rattle.oat_lines.specs.declared.fault.Fault.{Fault}
-use Rattle.oat_lines.specs.declared.fault.Fault.TheVariants.{At}
-use Rattle.oat_lines.specs.Faults.{Gives}
-use Rattle.oat_lines.specs.Reading.{◌>>=◌, guard}
+use Rattle.oat_lines.specs.{Lines.TextWord, Lines.lines_of, Lines.words_of, Lines.is_skipped, Lines.counting, declared.fault.Fault.Fault, declared.fault.Fault.TheVariants.At, Faults.Gives}
+use Rattle.oat_lines.specs.{Reading.◌>>=◌, Reading.guard}
 use Rattle.oat_lines.proofs.Steps.{bind_ok, guarded_ok, ok_is}
-use Rattle.oat_ir.specs.declared.program.Program.{Program}
-use Rattle.oat_ir.specs.declared.func.Func.{Func}
-use Rattle.oat_ir.specs.declared.func.Role.{Role}
-use Rattle.oat_ir.specs.declared.func.Role.TheVariants.{Plain, Operation, Main}
-use Rattle.oat_ir.specs.Distinct.{are_one_operation, have_one_operation}
-use Rattle.oat_ir.specs.Size.{program_size}
-use Rattle.oat_ir.specs.WellFormed.{IsGlobal, IsFunc, IsProgram}
-use Rattle.oat_text.specs.declared.head.Stage.{Stage}
-use Rattle.oat_text.specs.declared.head.Stage.TheVariants.{Outside, Locals, Inside, Behind}
-use Rattle.oat_text.specs.declared.fault.TextFaultKind.{TextFaultKind}
-use Rattle.oat_text.specs.declared.fault.TextFaultKind.TheVariants.{Expected}
-use Rattle.oat_text.specs.Words.{Says}
-use Rattle.oat_text.specs.Grammar.{global_line, func_lines, program_lines, TextSays, IsProgramText}
-use Rattle.oat_text.specs.Passes.{OrFault, numbered, over}
-use Rattle.oat_text.specs.Outline.{Outline, nothing, is_outside, outline_line, outline_of}
-use Rattle.oat_text.specs.Bodies.{Bodies, no_bodies, bodies_of, func_from, program_from, program_of}
-use Rattle.oat_text.specs.Laws.{ReadIsText, OneProgram, ProgramOrFault}
-use Rattle.oat_text.proofs.Lines.{Numbered, Say, numbered_words, zip_from_say}
-use Rattle.oat_text.proofs.Apart.{nothing_apart, lines_apart}
-use Rattle.oat_text.proofs.Crossing.{role_operations, operations_of, head_of}
-use Rattle.oat_text.proofs.ReadBack.{text_read, funcs_back}
-use Rattle.oat_text.proofs.Ahead.{IsLast, AfterFuncs, distinct_mapped}
-use Rattle.oat_text.proofs.Followed.{follow}
-use Rattle.oat_text.proofs.Sized.{counting_many, zip_many, lines_bound}
+use Rattle.oat_ir.specs.{declared.program.Program.Program, declared.func.Func.Func, declared.func.Role.Role, declared.func.Role.TheVariants.Plain, declared.func.Role.TheVariants.Operation}
+use Rattle.oat_ir.specs.{declared.func.Role.TheVariants.Main, Distinct.are_one_operation, Distinct.have_one_operation, Size.program_size, WellFormed.IsGlobal, WellFormed.IsFunc, WellFormed.IsProgram}
+use Rattle.oat_text.specs.{declared.head.Stage.Stage, declared.head.Stage.TheVariants.Outside, declared.head.Stage.TheVariants.Locals, declared.head.Stage.TheVariants.Inside}
+use Rattle.oat_text.specs.{declared.head.Stage.TheVariants.Behind, declared.fault.TextFaultKind.TextFaultKind, declared.fault.TextFaultKind.TheVariants.Expected, Words.Says, Grammar.global_line}
+use Rattle.oat_text.specs.{Grammar.func_lines, Grammar.program_lines, Grammar.TextSays, Grammar.IsProgramText, Passes.OrFault, Passes.numbered, Passes.over, Outline.Outline, Outline.nothing}
+use Rattle.oat_text.specs.{Outline.is_outside, Outline.outline_line, Outline.outline_of, Bodies.Bodies, Bodies.no_bodies, Bodies.bodies_of, Bodies.func_from, Bodies.program_from, Bodies.program_of}
+use Rattle.oat_text.specs.{Laws.ReadIsText, Laws.OneProgram, Laws.ProgramOrFault}
+use Rattle.oat_text.proofs.{Lines.Numbered, Lines.Say, Lines.numbered_words, Lines.zip_from_say, Apart.nothing_apart, Apart.lines_apart, Crossing.role_operations, Crossing.operations_of}
+use Rattle.oat_text.proofs.{Crossing.head_of, ReadBack.text_read, ReadBack.funcs_back, Ahead.IsLast, Ahead.AfterFuncs, Ahead.distinct_mapped, Followed.follow, Sized.counting_many, Sized.zip_many}
+use Rattle.oat_text.proofs.{Sized.lines_bound}
 
 -- ---- lines
 

@@ -1,23 +1,12 @@
 -- What is said by the word that is printed for it.
 use Rattle.std.proofs.Common.{◌≡◌, ℕ, ℤ, suc, ◌+◌, ◌^◌, ◌<◌, ◌≤◌, Bool, true, false, eqb, ltb, [], ◌∷◌, ◌++◌, length, get_or, refl, ◌∙◌, inl, inr, arith}
-use Rattle.std.specs.Prelude.{pos, negsuc, if◌then◌else◌, codes, decimal, Option, Some, None, IsTrue}
-use Rattle.std.specs.List.{AllByRecursion, list_all}
-use Rattle.std.specs.Str.Parse.{starts_with_minus}
-use Rattle.std.proofs.lemmas.Bool.{ne_eqb, ltb-true, lt-ltb}
-use Rattle.std.proofs.lemmas.Bool.Decides.{nat_tests}
-use Rattle.std.proofs.lemmas.Fmt.{decimal_digit, decimal_nonempty}
-use Rattle.std.proofs.lemmas.List.Elements.{recursion_from_All}
-use Rattle.std.proofs.lemmas.List.Folds.{list_all-append}
-use Rattle.oat_lines.specs.Decimal.{is_decimal_digit, numeral_of, leads_with_zero}
-use Rattle.oat_lines.specs.Integer.{is_i64}
-use Rattle.oat_lines.specs.Fields.{is_visible}
-use Rattle.oat_lines.specs.Lines.{TextWord, is_comment}
+use Rattle.std.specs.{Prelude.pos, Prelude.negsuc, Prelude.if◌then◌else◌, Prelude.codes, Prelude.decimal, Prelude.Option, Prelude.Some, Prelude.None, Prelude.IsTrue, List.AllByRecursion}
+use Rattle.std.specs.{List.list_all, Str.Parse.starts_with_minus}
+use Rattle.std.proofs.lemmas.{Bool.ne_eqb, Bool.ltb-true, Bool.lt-ltb, Bool.Decides.nat_tests, Fmt.decimal_digit, Fmt.decimal_nonempty, List.Elements.recursion_from_All, List.Folds.list_all-append}
+use Rattle.std.proofs.lemmas.{Bool.and_parts}
+use Rattle.oat_lines.specs.{Decimal.is_decimal_digit, Decimal.numeral_of, Decimal.leads_with_zero, Integer.is_i64, Fields.is_visible, Lines.TextWord, Lines.is_comment}
 use Rattle.oat_lines.proofs.Decimals.{decimal_digits, decimal_again}
-use Rattle.std.proofs.lemmas.Bool.{and_parts}
-use Rattle.oat_map.specs.Name.{IsName, IsNameByte}
-use Rattle.oat_ir.specs.declared.func.Ty.{Ty}
-use Rattle.oat_ir.specs.declared.func.Ty.TheVariants.{I64, Fn}
-use Rattle.oat_ir.specs.WellFormed.{IsTy}
+use Rattle.oat_ir.specs.{IsName, IsNameByte, declared.func.Ty.Ty, declared.func.Ty.TheVariants.I64, declared.func.Ty.TheVariants.Fn, WellFormed.IsTy}
 use Rattle.oat_text.specs.Words.{Said, Keyword, Named, Typed, Parameter, Number, Integer, Says, printed_word, ty_text, reference_text}
 use Rattle.oat_text.proofs.Spelled.{IsPlain}
 

@@ -1,18 +1,11 @@
 -- The size of a program is within the number of its lines.
 use Rattle.std.proofs.Common.{◌≡◌, ℕ, suc, ◌+◌, ◌*◌, ◌≤◌, Bool, true, false, not, eqb, List, [], ◌∷◌, ◌++◌, length, drop, map, refl, ap, arith}
-use Rattle.std.specs.Prelude.{codes, if◌then◌else◌}
-use Rattle.std.specs.List.{AllZip, AllByRecursion, flat_map, sum_by, slice_split}
-use Rattle.std.specs.Str.Lines.{lines_of_parts}
-use Rattle.std.proofs.lemmas.List.{length-append, length-map, length-drop}
-use Rattle.std.proofs.lemmas.List.Sums.{count_by-le-length, length-filter, sum_by-cons}
-use Rattle.std.proofs.lemmas.List.Splits.{length-slice_split}
+use Rattle.std.specs.{Prelude.codes, Prelude.if◌then◌else◌, List.AllZip, List.AllByRecursion, List.flat_map, List.sum_by, List.slice_split, Str.Lines.lines_of_parts}
+use Rattle.std.proofs.lemmas.{List.length-append, List.length-map, List.length-drop, List.Sums.count_by-le-length, List.Sums.length-filter, List.Sums.sum_by-cons, List.Splits.length-slice_split}
 use Rattle.oat_lines.specs.Lines.{TextWord, lines_of, words_of, is_skipped, counting}
-use Rattle.oat_ir.specs.declared.program.Program.{Program}
-use Rattle.oat_ir.specs.declared.func.Func.{Func}
-use Rattle.oat_ir.specs.declared.func.BlockIr.{BlockIr}
-use Rattle.oat_ir.specs.Size.{block_size, func_size, program_size}
-use Rattle.oat_text.specs.Words.{Keyword, Says}
-use Rattle.oat_text.specs.Grammar.{Line, global_line, local_line, instr_line, term_line, block_lines, func_lines, program_lines}
+use Rattle.oat_ir.specs.{declared.program.Program.Program, declared.func.Func.Func, declared.func.BlockIr.BlockIr, Size.block_size, Size.func_size, Size.program_size}
+use Rattle.oat_text.specs.{Words.Keyword, Words.Says, Grammar.Line, Grammar.global_line, Grammar.local_line, Grammar.instr_line, Grammar.term_line, Grammar.block_lines, Grammar.func_lines}
+use Rattle.oat_text.specs.{Grammar.program_lines}
 
 -- ---- lines of a text
 

@@ -1,14 +1,9 @@
 -- The lines and words of a text that is printed are those that were put.
 use Rattle.std.proofs.Common.{◌≡◌, ℕ, ◌-◌, ◌<◌, Bool, true, false, eqb, ltb, List, [], ◌∷◌, ◌++◌, length, get_or, refl, ap, ◌∙◌, append_assoc, arith}
-use Rattle.std.specs.List.{All, AllByRecursion, list_all, slice_split}
-use Rattle.std.specs.Str.Lines.{lines_of_parts, strip_carriage_return}
-use Rattle.std.proofs.lemmas.Bool.{ne_eqb, ltb-true, lt-ltb}
-use Rattle.std.proofs.lemmas.List.Elements.{All-from_recursion}
-use Rattle.std.proofs.lemmas.List.Folds.{list_all-append}
-use Rattle.std.proofs.lemmas.List.Splits.{slice_split_at, slice_split_none, length-slice_split}
-use Rattle.oat_lines.specs.Lines.{lines_of, words_of, is_blank, has_bytes, is_comment}
-use Rattle.oat_lines.specs.Fields.{spaced, ended, is_visible}
-use Rattle.std.proofs.lemmas.Bool.{and_parts}
+use Rattle.std.specs.{List.All, List.AllByRecursion, List.list_all, List.slice_split, Str.Lines.lines_of_parts, Str.Lines.strip_carriage_return}
+use Rattle.std.proofs.lemmas.{Bool.ne_eqb, Bool.ltb-true, Bool.lt-ltb, List.Elements.All-from_recursion, List.Folds.list_all-append, List.Splits.slice_split_at, List.Splits.slice_split_none}
+use Rattle.std.proofs.lemmas.{List.Splits.length-slice_split, Bool.and_parts}
+use Rattle.oat_lines.specs.{Lines.lines_of, Lines.words_of, Lines.is_blank, Lines.has_bytes, Lines.is_comment, Fields.spaced, Fields.ended, Fields.is_visible}
 
 -- a word that is printed
 pub record IsPlain (word : List ℕ) : Type 0 where

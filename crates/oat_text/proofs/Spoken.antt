@@ -1,25 +1,15 @@
 -- What the words that say something give where it is wanted, and which tests they pass.
 use Rattle.std.proofs.Common.{◌≡◌, ℕ, ℤ, zero, suc, ◌+◌, ◌≤◌, Bool, true, false, eqb, leb, ltb, ◌&&◌, List, [], ◌∷◌, ◌++◌, length, Some, refl, sym, ap, subst, inl, inr, arith}
-use Rattle.std.specs.Prelude.{pos, neg_ℤ, if◌then◌else◌, codes, IsTrue, option_map, bytes_eq}
-use Rattle.std.specs.List.{AllByRecursion, list_all}
-use Rattle.std.proofs.lemmas.Bool.{and_parts, eqb-true, ne_eqb, lt-ltb, le-leb, leb-true}
-use Rattle.std.proofs.lemmas.Fmt.{decimal_digit}
-use Rattle.std.proofs.lemmas.List.Elements.{recursion_from_All}
-use Rattle.oat_lines.specs.Decimal.{is_decimal_digit, numeral_of}
-use Rattle.oat_lines.specs.Fields.{cut, is_visible}
-use Rattle.oat_lines.specs.Integer.{integer_of, is_i64}
-use Rattle.oat_lines.proofs.Steps.{chosen}
-use Rattle.oat_lines.proofs.Cutting.{map_some}
-use Rattle.oat_lines.specs.Lines.{TextWord}
-use Rattle.oat_map.specs.Name.{IsName, IsNameByte, read_name}
+use Rattle.std.specs.{Prelude.pos, Prelude.neg_ℤ, Prelude.if◌then◌else◌, Prelude.codes, Prelude.IsTrue, Prelude.option_map, Prelude.bytes_eq, List.AllByRecursion, List.list_all}
+use Rattle.std.proofs.lemmas.{Bool.and_parts, Bool.eqb-true, Bool.ne_eqb, Bool.lt-ltb, Bool.le-leb, Bool.leb-true, Fmt.decimal_digit, List.Elements.recursion_from_All}
+use Rattle.oat_lines.specs.{Decimal.is_decimal_digit, Decimal.numeral_of, Fields.cut, Fields.is_visible, Integer.integer_of, Integer.is_i64, Lines.TextWord}
+use Rattle.oat_lines.proofs.{Steps.chosen, Cutting.map_some}
 use Rattle.oat_map.proofs.NameTests.{test_from_name}
-use Rattle.oat_ir.specs.declared.func.Ty.{Ty}
-use Rattle.oat_ir.specs.declared.func.Ty.TheVariants.{I64, Fn}
-use Rattle.oat_ir.specs.WellFormed.{IsTy}
-use Rattle.oat_text.specs.declared.form.WordKind.{WordKind}
+use Rattle.oat_ir.specs.{IsName, IsNameByte, read_name, declared.func.Ty.Ty, declared.func.Ty.TheVariants.I64, declared.func.Ty.TheVariants.Fn, WellFormed.IsTy}
+use Rattle.oat_text.specs.{declared.form.WordKind.WordKind, Words.Said, Words.Named, Words.Typed, Words.Parameter, Words.Number, Words.Integer, Words.Says, Words.reference_text, Words.ty_text}
+use Rattle.oat_text.specs.{Words.parameter_text, Readings.params_of, Readings.ty_of, Readings.parameter_of, Readings.i64_of, Readings.count_of, Readings.begins_reference, Readings.is_printable}
+use Rattle.oat_text.specs.{Readings.is_shaped, Readings.is_in_range}
 use Rattle.oat_text.specs.declared.form.WordKind.TheVariants as kind
-use Rattle.oat_text.specs.Words.{Said, Named, Typed, Parameter, Number, Integer, Says, reference_text, ty_text, parameter_text}
-use Rattle.oat_text.specs.Readings.{params_of, ty_of, parameter_of, i64_of, count_of, begins_reference, is_printable, is_shaped, is_in_range}
 
 -- ---- names
 

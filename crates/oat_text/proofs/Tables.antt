@@ -1,7 +1,6 @@
 -- What is found among the keys of a table is found among its things.
 use Rattle.std.proofs.Common.{◌≡◌, ℕ, ◌+◌, ◌-◌, ◌^◌, ◌<◌, Bool, false, not, cond, ◌||◌, List, [], ◌∷◌, ◌++◌, length, map, Vec, Global, refl, sym, ap, ◌∙◌, arith}
-use Rattle.std.specs.Prelude.{position, if◌then◌else◌, bytes_eq}
-use Rattle.std.specs.List.{list_any, prefix_len}
+use Rattle.std.specs.{Prelude.position, Prelude.if◌then◌else◌, Prelude.bytes_eq, List.list_any, List.prefix_len}
 use Rattle.std.proofs.lemmas.List.{map-append, length-map, length-append}
 
 pub any_mapped : {X Y : Type 0} (p : Y → Bool) (f : X → Y) (xs : List X) → list_any (λ x. p (f x)) xs ≡ list_any p (map f xs)

@@ -1,8 +1,7 @@
 -- Testing the words of a line one after the other.
 use Rattle.std.proofs.Common.{◌≡◌, Bool, true, List, [], ◌∷◌, refl, sym, ◌∙◌}
 use Rattle.oat_lines.specs.Lines.{TextWord}
-use Rattle.oat_text.specs.declared.form.WordKind.{WordKind}
-use Rattle.oat_text.specs.Readings.{all_pass}
+use Rattle.oat_text.specs.{declared.form.WordKind.WordKind, Readings.all_pass}
 
 no_words : (test : WordKind → TextWord → Bool) (kinds : List WordKind) → all_pass test kinds [] ≡ true
 no_words test [] = refl

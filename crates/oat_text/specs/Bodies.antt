@@ -1,36 +1,20 @@
 -- The program that a text stands for, from what its lines declare, or else the first line that names something that isn't
 -- declared: the second pass (docs/FORMATS.md, "Program text").
-use Rattle.std.specs.Prelude.{ℕ, zero, suc, List, [], ◌∷◌, ◌++◌, length, position, drop, zip, map, Option, None, slice_get, option_map, option_and_then, Result, Ok, Err}
-use Rattle.std.specs.Option.{ok_or}
-use Rattle.std.specs.Str.{bytes_eq}
-use Rattle.oat_lines.specs.declared.fault.Fault.TheVariants.{At}
-use Rattle.oat_lines.specs.Faults.{at}
-use Rattle.oat_lines.specs.Lines.{TextWord, lines_of}
-use Rattle.oat_lines.specs.Reading.{◌>>=◌}
-use Rattle.oat_ir.specs.declared.program.Program.{Program}
-use Rattle.oat_ir.specs.declared.program.GlobalItem.{GlobalItem}
-use Rattle.oat_ir.specs.declared.func.Func.{Func}
-use Rattle.oat_ir.specs.declared.func.Local.{Local}
-use Rattle.oat_ir.specs.declared.func.BlockIr.{BlockIr}
-use Rattle.oat_ir.specs.declared.instr.BinOp.{BinOp}
-use Rattle.oat_ir.specs.declared.instr.Instr.{Instr}
-use Rattle.oat_ir.specs.declared.instr.Instr.TheVariants.{Const, Copy, Binary, Load, Store, LoadX, StoreX, RefTo, Call, ICall, Input, Output}
-use Rattle.oat_ir.specs.declared.instr.Term.{Term}
-use Rattle.oat_ir.specs.declared.instr.Term.TheVariants.{Jump, Branch, Ret, Halt}
-use Rattle.oat_ir.specs.Distinct.{global_name}
-use Rattle.oat_text.specs.declared.form.LineForm.{LineForm}
+use Rattle.std.specs.{Prelude.ℕ, Prelude.zero, Prelude.suc, Prelude.List, Prelude.[], Prelude.◌∷◌, Prelude.◌++◌, Prelude.length, Prelude.position, Prelude.drop, Prelude.zip, Prelude.map}
+use Rattle.std.specs.{Prelude.Option, Prelude.None, Prelude.slice_get, Prelude.option_map, Prelude.option_and_then, Prelude.Result, Prelude.Ok, Prelude.Err, Option.ok_or, Str.bytes_eq}
+use Rattle.oat_lines.specs.{declared.fault.Fault.TheVariants.At, Faults.at, Lines.TextWord, Lines.lines_of, Reading.◌>>=◌}
+use Rattle.oat_ir.specs.{declared.program.Program.Program, declared.program.GlobalItem.GlobalItem, declared.func.Func.Func, declared.func.Local.Local, declared.func.BlockIr.BlockIr}
+use Rattle.oat_ir.specs.{declared.instr.BinOp.BinOp, declared.instr.Instr.Instr, declared.instr.Instr.TheVariants.Const, declared.instr.Instr.TheVariants.Copy, declared.instr.Instr.TheVariants.Binary}
+use Rattle.oat_ir.specs.{declared.instr.Instr.TheVariants.Load, declared.instr.Instr.TheVariants.Store, declared.instr.Instr.TheVariants.LoadX, declared.instr.Instr.TheVariants.StoreX}
+use Rattle.oat_ir.specs.{declared.instr.Instr.TheVariants.RefTo, declared.instr.Instr.TheVariants.Call, declared.instr.Instr.TheVariants.ICall, declared.instr.Instr.TheVariants.Input}
+use Rattle.oat_ir.specs.{declared.instr.Instr.TheVariants.Output, declared.instr.Term.Term, declared.instr.Term.TheVariants.Jump, declared.instr.Term.TheVariants.Branch}
+use Rattle.oat_ir.specs.{declared.instr.Term.TheVariants.Ret, declared.instr.Term.TheVariants.Halt, Distinct.global_name}
+use Rattle.oat_text.specs.{declared.form.LineForm.LineForm, declared.form.InstrForm.InstrForm, declared.form.TermForm.TermForm, declared.fault.TextFaultKind.TextFaultKind}
+use Rattle.oat_text.specs.{declared.fault.TextFaultKind.TheVariants.Number, declared.fault.TextFaultKind.TheVariants.Unknown, declared.head.Head.Head, Forms.line_form, Passes.OrFault, Passes.numbered}
+use Rattle.oat_text.specs.{Passes.over, Readings.i64_of, Readings.name_at, Outline.Outline, Outline.itself, Outline.local_name, Outline.outline_of}
 use Rattle.oat_text.specs.declared.form.LineForm.TheVariants as line
-use Rattle.oat_text.specs.declared.form.InstrForm.{InstrForm}
 use Rattle.oat_text.specs.declared.form.InstrForm.TheVariants as instrs
-use Rattle.oat_text.specs.declared.form.TermForm.{TermForm}
 use Rattle.oat_text.specs.declared.form.TermForm.TheVariants as terms
-use Rattle.oat_text.specs.declared.fault.TextFaultKind.{TextFaultKind}
-use Rattle.oat_text.specs.declared.fault.TextFaultKind.TheVariants.{Number, Unknown}
-use Rattle.oat_text.specs.declared.head.Head.{Head}
-use Rattle.oat_text.specs.Forms.{line_form}
-use Rattle.oat_text.specs.Passes.{OrFault, numbered, over}
-use Rattle.oat_text.specs.Readings.{i64_of, name_at}
-use Rattle.oat_text.specs.Outline.{Outline, itself, local_name, outline_of}
 
 -- ---- names
 

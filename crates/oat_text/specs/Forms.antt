@@ -1,21 +1,15 @@
 -- The table of lines of a program text: what stands behind each first word (docs/FORMATS.md, "Program text").
-use Rattle.std.specs.Prelude.{ℕ, List, [], ◌∷◌, find, codes, Option}
-use Rattle.std.specs.Str.{bytes_eq}
+use Rattle.std.specs.{Prelude.ℕ, Prelude.List, Prelude.[], Prelude.◌∷◌, Prelude.find, Prelude.codes, Prelude.Option, Str.bytes_eq}
 use Rattle.oat_lines.specs.Lines.{TextWord}
-use Rattle.oat_text.specs.declared.form.LineForm.{LineForm}
+use Rattle.oat_text.specs.{declared.form.LineForm.LineForm, declared.form.GlobalForm.GlobalForm, declared.form.FuncForm.FuncForm, declared.form.InstrForm.InstrForm, declared.form.TermForm.TermForm}
+use Rattle.oat_text.specs.{declared.form.WordKind.WordKind, declared.form.WordKind.TheVariants.Named, declared.form.WordKind.TheVariants.Typed, declared.form.WordKind.TheVariants.Parameter}
+use Rattle.oat_text.specs.{declared.form.WordKind.TheVariants.Start, declared.form.WordKind.TheVariants.Integer, declared.form.WordKind.TheVariants.Count, declared.form.TheConstants.FORMS}
+use Rattle.oat_text.specs.{Grammar.op_keyword}
 use Rattle.oat_text.specs.declared.form.LineForm.TheVariants as line
-use Rattle.oat_text.specs.declared.form.GlobalForm.{GlobalForm}
 use Rattle.oat_text.specs.declared.form.GlobalForm.TheVariants as globals
-use Rattle.oat_text.specs.declared.form.FuncForm.{FuncForm}
 use Rattle.oat_text.specs.declared.form.FuncForm.TheVariants as funcs
-use Rattle.oat_text.specs.declared.form.InstrForm.{InstrForm}
 use Rattle.oat_text.specs.declared.form.InstrForm.TheVariants as instrs
-use Rattle.oat_text.specs.declared.form.TermForm.{TermForm}
 use Rattle.oat_text.specs.declared.form.TermForm.TheVariants as terms
-use Rattle.oat_text.specs.declared.form.WordKind.{WordKind}
-use Rattle.oat_text.specs.declared.form.WordKind.TheVariants.{Named, Typed, Parameter, Start, Integer, Count}
-use Rattle.oat_text.specs.declared.form.TheConstants.{FORMS}
-use Rattle.oat_text.specs.Grammar.{op_keyword}
 
 -- ---- first words
 

@@ -1,27 +1,23 @@
 -- The program grammar: the lines of each program, and which texts have them (docs/FORMATS.md, "Program text"). A program has
 -- its lines in one order, so that a text of it differs from the printed one in blanks, skipped lines and zeros alone.
-use Rattle.std.specs.Prelude.{ℕ, Bool, true, false, List, [], ◌∷◌, ◌++◌, map, take, drop, codes}
-use Rattle.std.specs.List.{AllZip, flat_map, slice_index_or}
-use Rattle.oat_lines.specs.Lines.{TextWord, lines_of, counting}
-use Rattle.oat_lines.specs.Fields.{spaced, ended}
-use Rattle.oat_ir.specs.declared.program.Program.{Program}
-use Rattle.oat_ir.specs.declared.program.GlobalItem.{GlobalItem}
-use Rattle.oat_ir.specs.declared.program.GlobalItem.TheVariants.{Scalar, FnScalar, Array, CriticalArray}
-use Rattle.oat_ir.specs.declared.func.Func.{Func}
-use Rattle.oat_ir.specs.declared.func.Role.{Role}
-use Rattle.oat_ir.specs.declared.func.Role.TheVariants.{Plain, Operation, Main}
-use Rattle.oat_ir.specs.declared.func.Ty.TheVariants as ty
-use Rattle.oat_ir.specs.declared.func.Local.{Local}
-use Rattle.oat_ir.specs.declared.func.BlockIr.{BlockIr}
-use Rattle.oat_ir.specs.declared.instr.BinOp.{BinOp}
-use Rattle.oat_ir.specs.declared.instr.BinOp.TheVariants.{Add, Sub, Mul, And, Or, Xor, Shl, Shr, Sar, Eq, Ne, Lt, Le, Ltu, Leu, Div, Rem, Divu, Remu}
-use Rattle.oat_ir.specs.declared.instr.Instr.{Instr}
-use Rattle.oat_ir.specs.declared.instr.Instr.TheVariants.{Const, Copy, Binary, Load, Store, LoadX, StoreX, RefTo, Call, ICall, Input, Output}
-use Rattle.oat_ir.specs.declared.instr.Term.{Term}
-use Rattle.oat_ir.specs.declared.instr.Term.TheVariants.{Jump, Branch, Ret, Halt}
-use Rattle.oat_ir.specs.Distinct.{global_name}
-use Rattle.oat_ir.specs.WellFormed.{IsProgram}
+use Rattle.std.specs.{Prelude.ℕ, Prelude.Bool, Prelude.true, Prelude.false, Prelude.List, Prelude.[], Prelude.◌∷◌, Prelude.◌++◌, Prelude.map, Prelude.take, Prelude.drop, Prelude.codes, List.AllZip}
+use Rattle.std.specs.{List.flat_map, List.slice_index_or}
+use Rattle.oat_lines.specs.{Lines.TextWord, Lines.lines_of, Lines.counting, Fields.spaced, Fields.ended}
+use Rattle.oat_ir.specs.{declared.program.Program.Program, declared.program.GlobalItem.GlobalItem, declared.program.GlobalItem.TheVariants.Scalar, declared.program.GlobalItem.TheVariants.FnScalar}
+use Rattle.oat_ir.specs.{declared.program.GlobalItem.TheVariants.Array, declared.program.GlobalItem.TheVariants.CriticalArray, declared.func.Func.Func, declared.func.Role.Role}
+use Rattle.oat_ir.specs.{declared.func.Role.TheVariants.Plain, declared.func.Role.TheVariants.Operation, declared.func.Role.TheVariants.Main, declared.func.Local.Local, declared.func.BlockIr.BlockIr}
+use Rattle.oat_ir.specs.{declared.instr.BinOp.BinOp, declared.instr.BinOp.TheVariants.Add, declared.instr.BinOp.TheVariants.Sub, declared.instr.BinOp.TheVariants.Mul}
+use Rattle.oat_ir.specs.{declared.instr.BinOp.TheVariants.And, declared.instr.BinOp.TheVariants.Or, declared.instr.BinOp.TheVariants.Xor, declared.instr.BinOp.TheVariants.Shl}
+use Rattle.oat_ir.specs.{declared.instr.BinOp.TheVariants.Shr, declared.instr.BinOp.TheVariants.Sar, declared.instr.BinOp.TheVariants.Eq, declared.instr.BinOp.TheVariants.Ne}
+use Rattle.oat_ir.specs.{declared.instr.BinOp.TheVariants.Lt, declared.instr.BinOp.TheVariants.Le, declared.instr.BinOp.TheVariants.Ltu, declared.instr.BinOp.TheVariants.Leu}
+use Rattle.oat_ir.specs.{declared.instr.BinOp.TheVariants.Div, declared.instr.BinOp.TheVariants.Rem, declared.instr.BinOp.TheVariants.Divu, declared.instr.BinOp.TheVariants.Remu}
+use Rattle.oat_ir.specs.{declared.instr.Instr.Instr, declared.instr.Instr.TheVariants.Const, declared.instr.Instr.TheVariants.Copy, declared.instr.Instr.TheVariants.Binary}
+use Rattle.oat_ir.specs.{declared.instr.Instr.TheVariants.Load, declared.instr.Instr.TheVariants.Store, declared.instr.Instr.TheVariants.LoadX, declared.instr.Instr.TheVariants.StoreX}
+use Rattle.oat_ir.specs.{declared.instr.Instr.TheVariants.RefTo, declared.instr.Instr.TheVariants.Call, declared.instr.Instr.TheVariants.ICall, declared.instr.Instr.TheVariants.Input}
+use Rattle.oat_ir.specs.{declared.instr.Instr.TheVariants.Output, declared.instr.Term.Term, declared.instr.Term.TheVariants.Jump, declared.instr.Term.TheVariants.Branch}
+use Rattle.oat_ir.specs.{declared.instr.Term.TheVariants.Ret, declared.instr.Term.TheVariants.Halt, Distinct.global_name, WellFormed.IsProgram}
 use Rattle.oat_text.specs.Words.{Said, Keyword, Named, Typed, Parameter, Number, Integer, Says, printed_word}
+use Rattle.oat_ir.specs.declared.func.Ty.TheVariants as ty
 
 -- what a line says, word by word
 abbrev pub Line : Type 0

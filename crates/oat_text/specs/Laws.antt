@@ -1,20 +1,10 @@
 -- The texts of programs, what is printed for a program, and what is read (docs/FORMATS.md, "Program text").
-use Rattle.std.specs.Prelude.{ℕ, ◌≡◌, ◌≤◌, ◌⊎◌, List, length, Ok, Err, IsTrue}
-use Rattle.std.specs.List.{All}
-use Rattle.oat_lines.specs.declared.fault.Fault.{Fault}
-use Rattle.oat_lines.specs.Integer.{is_i64}
-use Rattle.oat_map.specs.Name.{IsName}
-use Rattle.oat_ir.specs.declared.program.Program.{Program}
-use Rattle.oat_ir.specs.declared.program.GlobalItem.{GlobalItem}
-use Rattle.oat_ir.specs.declared.program.GlobalItem.TheVariants.{Scalar, FnScalar, Array, CriticalArray}
-use Rattle.oat_ir.specs.declared.func.Func.{Func}
-use Rattle.oat_ir.specs.declared.func.BlockIr.{BlockIr}
-use Rattle.oat_ir.specs.declared.instr.Instr.{Instr}
-use Rattle.oat_ir.specs.declared.instr.Instr.TheVariants.{Const}
-use Rattle.oat_ir.specs.WellFormed.{IsProgram}
-use Rattle.oat_text.specs.declared.fault.TextFaultKind.{TextFaultKind}
-use Rattle.oat_text.specs.Grammar.{IsProgramText, program_text}
-use Rattle.oat_text.specs.Bodies.{program_of}
+use Rattle.std.specs.{Prelude.ℕ, Prelude.◌≡◌, Prelude.◌≤◌, Prelude.◌⊎◌, Prelude.List, Prelude.length, Prelude.Ok, Prelude.Err, Prelude.IsTrue, List.All}
+use Rattle.oat_lines.specs.{declared.fault.Fault.Fault, Integer.is_i64}
+use Rattle.oat_ir.specs.{IsName, declared.program.Program.Program, declared.program.GlobalItem.GlobalItem, declared.program.GlobalItem.TheVariants.Scalar}
+use Rattle.oat_ir.specs.{declared.program.GlobalItem.TheVariants.FnScalar, declared.program.GlobalItem.TheVariants.Array, declared.program.GlobalItem.TheVariants.CriticalArray}
+use Rattle.oat_ir.specs.{declared.func.Func.Func, declared.func.BlockIr.BlockIr, declared.instr.Instr.Instr, declared.instr.Instr.TheVariants.Const, WellFormed.IsProgram}
+use Rattle.oat_text.specs.{declared.fault.TextFaultKind.TextFaultKind, Grammar.IsProgramText, Grammar.program_text, Bodies.program_of}
 
 -- ---- what values of the Rust types have, and lists of numbers needn't: names are names, and numbers have 64 bits
 

@@ -1,3 +1,6 @@
+pub use Rattle.oat_lines.specs.Fields.{ended}
+pub use Rattle.oat_lines.specs.Integer.{is_i64}
+pub use Rattle.oat_ir.specs.declared.instr.Term.TheVariants.{Branch, Jump, Ret}
 pub mod Bodies
 pub mod FaultText
 pub mod Forms

@@ -1,34 +1,21 @@
 -- What the lines of a program text declare, or else the fault of its first bad line, but for names of nothing that is declared:
 -- the first pass (docs/FORMATS.md, "Program text"). A line's faults are looked for in the order Token, Expected, Number, Duplicate.
-use Rattle.std.specs.Prelude.{ℕ, ◌+◌, ◌==◌, ◌&&◌, Bool, true, false, not, List, [], ◌∷◌, ◌++◌, length, codes, Option, None, slice_get, option_map, Result, Ok, if◌then◌else◌}
-use Rattle.std.specs.List.{list_all, list_any}
-use Rattle.std.specs.Option.{ok_or}
-use Rattle.std.specs.Str.{bytes_eq}
-use Rattle.oat_lines.specs.declared.fault.Fault.TheVariants.{At}
-use Rattle.oat_lines.specs.Faults.{at}
-use Rattle.oat_lines.specs.Lines.{TextWord, lines_of}
-use Rattle.oat_lines.specs.Reading.{◌>>=◌, guard}
-use Rattle.oat_map.specs.Name.{read_name}
-use Rattle.oat_ir.specs.declared.program.GlobalItem.{GlobalItem}
-use Rattle.oat_ir.specs.declared.program.GlobalItem.TheVariants.{Scalar, FnScalar, Array, CriticalArray}
-use Rattle.oat_ir.specs.declared.func.Role.{Role}
-use Rattle.oat_ir.specs.declared.func.Role.TheVariants.{Plain, Operation, Main}
-use Rattle.oat_ir.specs.declared.func.Local.{Local}
-use Rattle.oat_ir.specs.Distinct.{global_name}
-use Rattle.oat_text.specs.declared.form.LineForm.{LineForm}
+use Rattle.std.specs.{Prelude.ℕ, Prelude.◌+◌, Prelude.◌==◌, Prelude.◌&&◌, Prelude.Bool, Prelude.true, Prelude.false, Prelude.not, Prelude.List, Prelude.[], Prelude.◌∷◌, Prelude.◌++◌, Prelude.length}
+use Rattle.std.specs.{Prelude.codes, Prelude.Option, Prelude.None, Prelude.slice_get, Prelude.option_map, Prelude.Result, Prelude.Ok, Prelude.if◌then◌else◌, List.list_all, List.list_any, Option.ok_or}
+use Rattle.std.specs.{Str.bytes_eq}
+use Rattle.oat_lines.specs.{declared.fault.Fault.TheVariants.At, Faults.at, Lines.TextWord, Lines.lines_of, Reading.◌>>=◌, Reading.guard}
+use Rattle.oat_ir.specs.{read_name, declared.program.GlobalItem.GlobalItem, declared.program.GlobalItem.TheVariants.Scalar, declared.program.GlobalItem.TheVariants.FnScalar}
+use Rattle.oat_ir.specs.{declared.program.GlobalItem.TheVariants.Array, declared.program.GlobalItem.TheVariants.CriticalArray, declared.func.Role.Role, declared.func.Role.TheVariants.Plain}
+use Rattle.oat_ir.specs.{declared.func.Role.TheVariants.Operation, declared.func.Role.TheVariants.Main, declared.func.Local.Local, Distinct.global_name}
+use Rattle.oat_text.specs.{declared.form.LineForm.LineForm, declared.form.GlobalForm.GlobalForm, declared.form.FuncForm.FuncForm, declared.fault.TextFaultKind.TextFaultKind}
+use Rattle.oat_text.specs.{declared.fault.TextFaultKind.TheVariants.Token, declared.fault.TextFaultKind.TheVariants.Expected, declared.fault.TextFaultKind.TheVariants.Number}
+use Rattle.oat_text.specs.{declared.fault.TextFaultKind.TheVariants.Duplicate, declared.head.Head.Head, declared.head.Stage.Stage, declared.head.Stage.TheVariants.Outside}
+use Rattle.oat_text.specs.{declared.head.Stage.TheVariants.Locals, declared.head.Stage.TheVariants.Inside, declared.head.Stage.TheVariants.Behind, Forms.line_form, Forms.kinds_of, Passes.OrFault}
+use Rattle.oat_text.specs.{Passes.numbered, Passes.each, Passes.over, Readings.params_of, Readings.parameter_of, Readings.i64_of, Readings.count_of, Readings.name_at, Readings.local_in}
+use Rattle.oat_text.specs.{Readings.begins_reference, Readings.is_printable, Readings.is_shaped, Readings.is_in_range, Readings.all_pass, Readings.has_number}
 use Rattle.oat_text.specs.declared.form.LineForm.TheVariants as line
-use Rattle.oat_text.specs.declared.form.GlobalForm.{GlobalForm}
 use Rattle.oat_text.specs.declared.form.GlobalForm.TheVariants as globals
-use Rattle.oat_text.specs.declared.form.FuncForm.{FuncForm}
 use Rattle.oat_text.specs.declared.form.FuncForm.TheVariants as funcs
-use Rattle.oat_text.specs.declared.fault.TextFaultKind.{TextFaultKind}
-use Rattle.oat_text.specs.declared.fault.TextFaultKind.TheVariants.{Token, Expected, Number, Duplicate}
-use Rattle.oat_text.specs.declared.head.Head.{Head}
-use Rattle.oat_text.specs.declared.head.Stage.{Stage}
-use Rattle.oat_text.specs.declared.head.Stage.TheVariants.{Outside, Locals, Inside, Behind}
-use Rattle.oat_text.specs.Forms.{line_form, kinds_of}
-use Rattle.oat_text.specs.Passes.{OrFault, numbered, each, over}
-use Rattle.oat_text.specs.Readings.{params_of, parameter_of, i64_of, count_of, name_at, local_in, begins_reference, is_printable, is_shaped, is_in_range, all_pass, has_number}
 
 -- what the lines so far declare
 pub record Outline : Type 0 where

@@ -1,8 +1,6 @@
 -- Going over the lines of a program text (docs/FORMATS.md, "Program text").
 use Rattle.std.specs.Prelude.{ℕ, ◌+◌, List, [], ◌∷◌, Result, Ok, if◌then◌else◌}
-use Rattle.oat_lines.specs.declared.fault.Fault.{Fault}
-use Rattle.oat_lines.specs.Lines.{TextWord, words_of, is_skipped}
-use Rattle.oat_lines.specs.Reading.{◌>>=◌}
+use Rattle.oat_lines.specs.{declared.fault.Fault.Fault, Lines.TextWord, Lines.words_of, Lines.is_skipped, Reading.◌>>=◌}
 use Rattle.oat_text.specs.declared.fault.TextFaultKind.{TextFaultKind}
 
 -- a value, or why there is none

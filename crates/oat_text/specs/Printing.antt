@@ -1,10 +1,7 @@
 -- Parts of a printed line of a program text (docs/FORMATS.md, "Program text"). These are words of this project's own.
-use Rattle.std.specs.Prelude.{ℕ, List, [], ◌∷◌, codes, decimal}
-use Rattle.std.specs.List.{flat_map}
-use Rattle.oat_lines.specs.Fields.{spaced}
-use Rattle.oat_lines.specs.Lines.{TextWord}
-use Rattle.oat_ir.specs.declared.func.Role.{Role}
-use Rattle.oat_ir.specs.declared.func.Role.TheVariants.{Plain, Operation, Main}
+use Rattle.std.specs.{Prelude.ℕ, Prelude.List, Prelude.[], Prelude.◌∷◌, Prelude.codes, Prelude.decimal, List.flat_map}
+use Rattle.oat_lines.specs.{Fields.spaced, Lines.TextWord}
+use Rattle.oat_ir.specs.{declared.func.Role.Role, declared.func.Role.TheVariants.Plain, declared.func.Role.TheVariants.Operation, declared.func.Role.TheVariants.Main}
 use Rattle.oat_text.specs.Words.{Said, printed_word}
 
 -- words that stand behind others, each with the space before it; an item is one word

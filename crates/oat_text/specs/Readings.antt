@@ -1,21 +1,11 @@
 -- What a word of a program text gives where a value of its kind is wanted, and the tests that a line's words have to pass
 -- (docs/FORMATS.md, "Program text").
-use Rattle.std.specs.Prelude.{ℕ, ℤ, ◌-◌, ◌&&◌, ◌||◌, Bool, true, List, ◌∷◌, length, take, nat_lt, codes, Option, Some, None, is_some, option_map, option_and_then, slice_get, if◌then◌else◌}
-use Rattle.std.specs.List.{list_all}
-use Rattle.std.specs.Str.{bytes_eq}
-use Rattle.oat_lines.specs.Decimal.{numeral_of}
-use Rattle.oat_lines.specs.Fields.{cut, is_visible}
-use Rattle.oat_lines.specs.Integer.{integer_of, is_i64}
-use Rattle.oat_lines.specs.Reading.{between}
-use Rattle.oat_lines.specs.Lines.{TextWord}
-use Rattle.oat_map.specs.Name.{read_name}
-use Rattle.oat_ir.specs.declared.func.Ty.{Ty}
-use Rattle.oat_ir.specs.declared.func.Ty.TheVariants.{I64, Fn}
-use Rattle.oat_ir.specs.declared.func.Local.{Local}
-use Rattle.oat_text.specs.declared.form.LineForm.{LineForm}
-use Rattle.oat_text.specs.declared.form.WordKind.{WordKind}
+use Rattle.std.specs.{Prelude.ℕ, Prelude.ℤ, Prelude.◌-◌, Prelude.◌&&◌, Prelude.◌||◌, Prelude.Bool, Prelude.true, Prelude.List, Prelude.◌∷◌, Prelude.length, Prelude.take, Prelude.nat_lt, Prelude.codes}
+use Rattle.std.specs.{Prelude.Option, Prelude.Some, Prelude.None, Prelude.is_some, Prelude.option_map, Prelude.option_and_then, Prelude.slice_get, Prelude.if◌then◌else◌, List.list_all, Str.bytes_eq}
+use Rattle.oat_lines.specs.{Decimal.numeral_of, Fields.cut, Fields.is_visible, Integer.integer_of, Integer.is_i64, Reading.between, Lines.TextWord}
+use Rattle.oat_ir.specs.{read_name, declared.func.Ty.Ty, declared.func.Ty.TheVariants.I64, declared.func.Ty.TheVariants.Fn, declared.func.Local.Local}
+use Rattle.oat_text.specs.{declared.form.LineForm.LineForm, declared.form.WordKind.WordKind, Forms.kinds_of, Forms.optional}
 use Rattle.oat_text.specs.declared.form.WordKind.TheVariants as kind
-use Rattle.oat_text.specs.Forms.{kinds_of, optional}
 
 -- ---- values
 

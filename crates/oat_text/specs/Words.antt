@@ -1,13 +1,8 @@
 -- What a word of a program text says, and which words say it (docs/FORMATS.md, "Program text"). Keywords, names and types
 -- have one spelling; numbers may have leading zeros, and -0 is 0.
-use Rattle.std.specs.Prelude.{ℕ, ℤ, ◌≡◌, IsTrue, ◌++◌, codes, decimal, Some}
-use Rattle.std.specs.Fmt.{signed_decimal}
-use Rattle.oat_lines.specs.Decimal.{numeral_of}
-use Rattle.oat_lines.specs.Integer.{integer_of, is_i64}
-use Rattle.oat_lines.specs.Lines.{TextWord}
-use Rattle.oat_map.specs.Name.{IsName}
-use Rattle.oat_ir.specs.declared.func.Ty.{Ty}
-use Rattle.oat_ir.specs.declared.func.Ty.TheVariants.{I64, Fn}
+use Rattle.std.specs.{Prelude.ℕ, Prelude.ℤ, Prelude.◌≡◌, Prelude.IsTrue, Prelude.◌++◌, Prelude.codes, Prelude.decimal, Prelude.Some, Fmt.signed_decimal}
+use Rattle.oat_lines.specs.{Decimal.numeral_of, Integer.integer_of, Integer.is_i64, Lines.TextWord}
+use Rattle.oat_ir.specs.{IsName, declared.func.Ty.Ty, declared.func.Ty.TheVariants.I64, declared.func.Ty.TheVariants.Fn}
 
 -- the word of a reference of a function with so many parameters
 abbrev pub reference_text : ℕ → TextWord

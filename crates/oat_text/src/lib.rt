@@ -18,5 +18,6 @@ mod tested;
 mod word;
 
 pub use fault::{TextFault, TextFaultKind};
+pub use oat_ir::Listed;
 pub use printing::print_program;
 pub use reading::read_program;

@@ -10,9 +10,8 @@ use crate::fault::{TextFault, TextFaultKind};
 use crate::head::Head;
 use crate::outline::Outline;
 use crate::pass::go_over;
-use oat_ir::{BlockIr, Func, Program};
+use oat_ir::{BlockIr, Func, Listed, Program};
 use oat_lines::Fault;
-use oat_list::Listed;
 use oat_map::Name;
 use std::alloc::{AllocError, Global};
 

@@ -1,22 +1,15 @@
 -- Bytes have one verdict, and an acceptance says all at once.
 use Rattle.std.proofs.Common.{◌≡◌, ℕ, ◌<◌, List, Option, Some, None, MatchOption, refl, sym, ap, ◌∙◌, inl, inr, arith}
 use Rattle.std.proofs.lemmas.Bool.{cases_lt}
-use Rattle.oat_map.specs.declared.edge.Edge.{Edge}
-use Rattle.oat_blob.specs.declared.body.Violation.{Violation}
-use Rattle.oat_blob.specs.Body.{Body}
-use Rattle.oat_hmac.specs.Hmac.{hmac}
-use Rattle.oat_blob.specs.Layout.{IsBlob, covered_of}
-use Rattle.oat_blob.specs.Faults.{IsFormOffset}
-use Rattle.oat_blob.proofs.OneLayout.{one_body}
-use Rattle.oat_replay.proofs.ReplayLemmas.{one_path, never_both}
-use Rattle.oat_verify.specs.declared.verdict.Cause.{Cause}
-use Rattle.oat_verify.specs.declared.verdict.Cause.TheVariants as causes
-use Rattle.oat_verify.specs.declared.verdict.Verdict.{Verdict}
-use Rattle.oat_verify.specs.declared.verdict.Verdict.TheVariants.{Accept, Refuse}
-use Rattle.oat_verify.specs.Verdict.{Subject, FitsSession, Looks, JudgesPath, Replays, stuck, walked, Judges, IsVerdict, blob, form, carried, no_blob, Accepts, AcceptanceAtOnce, OneSerial, OneVerdict}
-use Rattle.oat_replay.proofs.OneStuck.{one_stuck}
-use Rattle.oat_first.specs.First.{fails, passes, IsOne, IsDecisive}
 use Rattle.oat_first.proofs.FirstLaws.{First-one, Tests-decisive}
+use Rattle.oat_shape.specs.{Edge, fails, passes, IsOne, IsDecisive}
+use Rattle.oat_blob.proofs.OneLayout.{one_body}
+use Rattle.oat_replay.specs.{Violation, Body, hmac, IsBlob, covered_of, IsFormOffset}
+use Rattle.oat_replay.proofs.{ReplayLemmas.one_path, ReplayLemmas.never_both, OneStuck.one_stuck}
+use Rattle.oat_verify.specs.{declared.verdict.Cause.Cause, declared.verdict.Verdict.Verdict, declared.verdict.Verdict.TheVariants.Accept, declared.verdict.Verdict.TheVariants.Refuse, Verdict.Subject}
+use Rattle.oat_verify.specs.{Verdict.FitsSession, Verdict.Looks, Verdict.JudgesPath, Verdict.Replays, Verdict.stuck, Verdict.walked, Verdict.Judges, Verdict.IsVerdict, Verdict.blob, Verdict.form}
+use Rattle.oat_verify.specs.{Verdict.carried, Verdict.no_blob, Verdict.Accepts, Verdict.AcceptanceAtOnce, Verdict.OneSerial, Verdict.OneVerdict}
+use Rattle.oat_verify.specs.declared.verdict.Cause.TheVariants as causes
 
 -- ---- one verdict
 

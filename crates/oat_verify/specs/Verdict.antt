@@ -1,24 +1,12 @@
 -- The verdict on a blob: what is looked at, in which order, and what each answer means (docs/DEFINITIONS.md, "Verdict").
 use Rattle.std.specs.Prelude.{◌≡◌, ◌<◌, ◌↔◌, ℕ, List, Option, Some, None, MatchOption}
 use Rattle.sha2.specs.Sha256.{sha256}
-use Rattle.oat_image.specs.declared.image.Image.{Image}
-use Rattle.oat_image.specs.Grammar.{image_text}
-use Rattle.oat_map.specs.declared.map.Map.{Map}
-use Rattle.oat_map.specs.declared.edge.Edge.{Edge}
-use Rattle.oat_map.specs.Walk.{returns_of}
-use Rattle.oat_case.specs.declared.case.Session.{Session}
-use Rattle.oat_blob.specs.Body.{Body}
-use Rattle.oat_blob.specs.Layout.{IsBlob, covered_of}
-use Rattle.oat_blob.specs.Faults.{IsFormOffset}
+use Rattle.oat_shape.specs.{Image, image_text, Map, Edge, returns_of, Tests}
 use Rattle.oat_chain.specs.Chain.{window_head, chain}
-use Rattle.oat_hmac.specs.Hmac.{hmac}
-use Rattle.oat_replay.specs.Replay.{IsWalked, GetsStuck}
-use Rattle.oat_replay.specs.declared.cause.ReplayCause.{ReplayCause}
-use Rattle.oat_verify.specs.declared.verdict.Cause.{Cause}
+use Rattle.oat_replay.specs.{Body, IsBlob, covered_of, IsFormOffset, hmac, Replay.IsWalked, Replay.GetsStuck, declared.cause.ReplayCause.ReplayCause}
+use Rattle.oat_case.specs.declared.case.Session.{Session}
+use Rattle.oat_verify.specs.{declared.verdict.Cause.Cause, declared.verdict.Verdict.Verdict, declared.verdict.Verdict.TheVariants.Accept, declared.verdict.Verdict.TheVariants.Refuse}
 use Rattle.oat_verify.specs.declared.verdict.Cause.TheVariants as causes
-use Rattle.oat_verify.specs.declared.verdict.Verdict.{Verdict}
-use Rattle.oat_verify.specs.declared.verdict.Verdict.TheVariants.{Accept, Refuse}
-use Rattle.oat_first.specs.First.{Tests}
 
 -- what a verdict is about, beside the bytes of the blob
 pub record Subject : Type 0 where

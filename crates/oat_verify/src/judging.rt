@@ -1,21 +1,15 @@
 ghost use Rattle.std.specs.Prelude.{◌≡◌, ◌↔◌, ◌++◌, ◌∷◌, [], ℕ, List, IsTrue, IfOk};
-ghost use Rattle.oat_hmac.specs.Hmac.{hmac};
+ghost use Rattle.oat_replay.specs.{hmac, Body, covered_of};
+ghost use Rattle.oat_shape.specs.{Edge, returns_of, IsOperation};
 ghost use Rattle.oat_chain.specs.Chain.{chain};
 ghost use Rattle.oat_chain.specs.Standing.{StandsFor};
-ghost use Rattle.oat_map.specs.declared.edge.Edge.{Edge};
-ghost use Rattle.oat_map.specs.Walk.{returns_of};
-ghost use Rattle.oat_blob.specs.Body.{Body};
-ghost use Rattle.oat_blob.specs.Layout.{covered_of};
-ghost use Rattle.oat_map.specs.Rows.{IsOperation};
 ghost use Rattle.oat_verify.specs.Verdict.{subject_of, FitsSession, Judges, JudgesPath, Replays, Screens, IsVerdict, verdict_by};
 
 use crate::verdict::{Cause, Verdict};
-use oat_blob::{BlobRef, BodyHead, decode};
+use oat_blob::{BlobRef, BodyHead, Mac, decode};
 use oat_case::Session;
 use oat_chain::{Chain, window_head};
-use oat_hmac::Mac;
-use oat_map::{Edge, Path};
-use oat_replay::{WalkFault, walk};
+use oat_replay::{Edge, Path, WalkFault, walk};
 use oat_shape::Shaped;
 use std::alloc::{AllocError, Global};
 

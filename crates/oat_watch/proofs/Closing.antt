@@ -1,8 +1,7 @@
 -- Windows of a list that grows by one item at a time: the one that is open, and what the next item makes of it.
 use Rattle.std.proofs.Common.{◌≡◌, ◌++◌, ◌∷◌, ◌∙◌, ◌<◌, ℕ, zero, suc, Bool, true, false, cond, List, [], append_assoc, refl, sym, ap, arith}
-use Rattle.std.specs.Prelude.{◌||◌}
-use Rattle.std.specs.List.{list_any}
-use Rattle.oat_events.specs.Windows.{beyond, inside, is_closed, past, through, up_to}
+use Rattle.std.specs.{Prelude.◌||◌, List.list_any}
+use Rattle.oat_attest.specs.{beyond, inside, is_closed, past, through, up_to}
 use Rattle.oat_watch.specs.Collecting.{is_opened}
 
 -- ---- one test

@@ -1,27 +1,14 @@
 -- What one more instruction makes of the windows that are collected of a run.
-use Rattle.std.proofs.Common.{◌≡◌, ◌++◌, ◌∷◌, ◌∙◌, ◌+◌, ◌<◌, ℕ, zero, suc, Bool, true, false, List, [], append-nil, append_assoc, length, length-append, map, Option, Some, slice_get, inl, inr, refl, sym, ap, subst, arith}
+use Rattle.std.proofs.Common.{◌≡◌, ◌++◌, ◌∷◌, ◌∙◌, ◌+◌, ◌<◌, ℕ, zero, suc, Bool, true, false, List, [], append-nil, append_assoc, length, length-append, map, Option, Some, slice_get, inl, inr, refl}
+use Rattle.std.proofs.Common.{sym, ap, subst, arith}
 use Rattle.std.specs.Prelude.{◌⊎◌}
-use Rattle.std.proofs.lemmas.Bool.{cases_lt}
-use Rattle.std.proofs.lemmas.List.{map-append}
-use Rattle.oat_events.specs.Cells.{Cells}
-use Rattle.oat_events.specs.Windows.{is_closed}
+use Rattle.std.proofs.lemmas.{Bool.cases_lt, List.map-append}
 use Rattle.oat_events.proofs.WindowLaws.{closed_stays, inside_stays, up_to_stays}
-use Rattle.oat_image.specs.declared.image.Image.{Image}
-use Rattle.oat_measure.specs.declared.call.MonitorCall.{MonitorCall}
-use Rattle.oat_measure.specs.declared.opening.Opening.{Opening}
-use Rattle.oat_measure.specs.Measurement.{measuring, sealed, unmeasured}
-use Rattle.oat_measure.specs.Shelving.{Measurements, at_start, is_due}
-use Rattle.oat_journal.specs.Measured.{start_cells}
-use Rattle.oat_journal.specs.Run.{Entry}
-use Rattle.oat_journal.specs.Uses.{Held}
-use Rattle.oat_journal.specs.Window.{made_call}
-use Rattle.oat_watch.specs.Collecting.{AreClosedWindows, RunStands, is_opened, made_before, made_in, opens_one, seals_one}
-use Rattle.oat_watch.specs.Collecting.RunStands.{finished, outside, within}
-use Rattle.oat_watch.specs.declared.window.Window.{Window}
-use Rattle.oat_watch.specs.Shown.{Holds}
-use Rattle.oat_watch.proofs.Closing.{going, opening}
-use Rattle.oat_watch.proofs.Staging.{Turn}
-use Rattle.oat_watch.proofs.Staging.Turn.{opens_window, seals_due, seals_last, stays_after, stays_in, stays_out}
+use Rattle.oat_attest.specs.{Cells, is_closed, Image, MonitorCall, Opening, measuring, sealed, unmeasured, Measurements, at_start, is_due, start_cells, Entry, Held, made_call}
+use Rattle.oat_watch.specs.{Collecting.AreClosedWindows, Collecting.RunStands, Collecting.is_opened, Collecting.made_before, Collecting.made_in, Collecting.opens_one, Collecting.seals_one}
+use Rattle.oat_watch.specs.{Collecting.RunStands.finished, Collecting.RunStands.outside, Collecting.RunStands.within, declared.window.Window.Window, Shown.Holds}
+use Rattle.oat_watch.proofs.{Closing.going, Closing.opening, Staging.Turn, Staging.Turn.opens_window, Staging.Turn.seals_due, Staging.Turn.seals_last, Staging.Turn.stays_after, Staging.Turn.stays_in}
+use Rattle.oat_watch.proofs.{Staging.Turn.stays_out}
 
 module _ (image : Image) (o : Opening) where
   abbrev Opened : ℕ → List Entry → Bool

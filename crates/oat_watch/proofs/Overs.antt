@@ -1,18 +1,10 @@
 -- The row over an address of an image with the shape, and the return sites of its calls.
-use Rattle.std.proofs.Common.{◌≡◌, ℕ, zero, suc, ◌+◌, ◌-◌, ◌<◌, ◌≤◌, Bool, true, false, cond, eqb, eqb-true, List, [], ◌∷◌, length, map, get_or, Option, Some, None, inl, inr, refl, sym, ap, subst, ◌∙◌, arith}
-use Rattle.std.specs.Prelude.{Contains, nat_le, nat_lt, slice_get}
-use Rattle.std.specs.List.{find, list_any}
-use Rattle.std.specs.List.Sorted.{IsPartitionPoint}
-use Rattle.std.proofs.lemmas.Bool.{and_from, and_parts, cases_lt, false≢true, leb-true, le-leb, lt-ltb, ltb-false, ltb-true}
-use Rattle.std.proofs.lemmas.List.{get_or_default, get_or-map, length-map}
-use Rattle.std.proofs.lemmas.List.Folds.{Any-from_list_any, list_any_at}
-use Rattle.std.proofs.lemmas.List.Kept.{AllPairs-from_increasing}
-use Rattle.std.proofs.lemmas.Option.{slice_get-get_or}
-use Rattle.oat_map.specs.declared.row.Row.{Row}
-use Rattle.oat_map.specs.Rows.{address_of, after, is_call, is_over, is_returned_to, row_over, word_count}
-use Rattle.oat_shape.specs.Laid.{IsLaid}
-use Rattle.oat_shape.specs.Shape.{Covers, group_end}
-use Rattle.oat_image.specs.declared.image.Image.{Image}
+use Rattle.std.proofs.Common.{◌≡◌, ℕ, zero, suc, ◌+◌, ◌-◌, ◌<◌, ◌≤◌, Bool, true, false, cond, eqb, eqb-true, List, [], ◌∷◌, length, map, get_or, Option, Some, None, inl, inr, refl, sym, ap, subst}
+use Rattle.std.proofs.Common.{◌∙◌, arith}
+use Rattle.std.specs.{Prelude.Contains, Prelude.nat_le, Prelude.nat_lt, Prelude.slice_get, List.find, List.list_any, List.Sorted.IsPartitionPoint}
+use Rattle.std.proofs.lemmas.{Bool.and_from, Bool.and_parts, Bool.cases_lt, Bool.false≢true, Bool.leb-true, Bool.le-leb, Bool.lt-ltb, Bool.ltb-false, Bool.ltb-true, List.get_or_default}
+use Rattle.std.proofs.lemmas.{List.get_or-map, List.length-map, List.Folds.Any-from_list_any, List.Folds.list_any_at, List.Kept.AllPairs-from_increasing, Option.slice_get-get_or}
+use Rattle.oat_attest.specs.{Row, address_of, after, is_call, is_over, is_returned_to, row_over, word_count, IsLaid, Covers, group_end, Image}
 
 -- ---- the first element that passes
 

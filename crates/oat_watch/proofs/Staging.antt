@@ -1,13 +1,8 @@
 -- What a monitor call makes of the stage of a session: whether it opens a window or seals one.
 use Rattle.std.proofs.Common.{◌≡◌, ◌∙◌, ◌+◌, ℕ, Bool, true, false, cond, eqb, ◌∷◌, [], length, length-append, Option, Some, None, Result, Ok, Err, refl, sym, ap}
-use Rattle.oat_measure.specs.declared.call.MonitorCall.{MonitorCall}
-use Rattle.oat_measure.specs.declared.call.MonitorCall.TheVariants as svc
-use Rattle.oat_measure.specs.declared.opening.Opening.{Opening}
-use Rattle.oat_measure.specs.declared.stop.StopKind.{StopKind}
-use Rattle.oat_measure.specs.Measurement.{Stage, State, after_window, before_window, inside_window, measuring, sealed, unmeasured}
-use Rattle.oat_measure.specs.Monitor.{opens, seals}
-use Rattle.oat_measure.specs.Shelving.{Measurements, body_of, is_due, measured_on, settled, shelving, with_state}
-use Rattle.oat_journal.specs.Window.{is_made}
+use Rattle.oat_attest.specs.{MonitorCall, Opening, StopKind, Stage, State, after_window, before_window, inside_window, measuring, sealed, unmeasured, opens, seals, Measurements, body_of, is_due}
+use Rattle.oat_attest.specs.{measured_on, settled, shelving, with_state, is_made}
+use Rattle.oat_attest.specs.svc as svc
 
 -- how a session goes on from one stage to the next, with the call that it measures
 pub data Turn (o : Opening) (m next : Measurements) (call : Option MonitorCall) : Type 0 where

@@ -1,19 +1,9 @@
 -- What one more instruction adds to a window.
 use Rattle.std.proofs.Common.{◌≡◌, ◌++◌, ◌∷◌, ◌∙◌, ℕ, List, [], Option, Some, None, append-nil, append_assoc, filter_map, map, option_map, refl, sym, ap}
 use Rattle.std.specs.List.{cons_option}
-use Rattle.std.proofs.lemmas.List.{map-append}
-use Rattle.std.proofs.lemmas.List.Elements.{filter_map-append}
-use Rattle.oat_events.specs.Cells.{Cells}
-use Rattle.oat_image.specs.declared.image.Image.{Image}
-use Rattle.oat_map.specs.declared.edge.Edge.{Edge}
-use Rattle.oat_measure.specs.declared.call.MonitorCall.{MonitorCall}
-use Rattle.oat_journal.specs.Measured.{start_cells}
-use Rattle.oat_journal.specs.Run.{Entry}
-use Rattle.oat_journal.specs.Uses.{CheckedUse, use_behind, uses_behind}
-use Rattle.oat_journal.specs.Window.{made_call, returned, returns_of_run, shown_edge}
-use Rattle.oat_watch.specs.declared.watched.CheckedUse.{CheckedUse as ShownUse}
-use Rattle.oat_watch.specs.declared.window.Window.{Window}
-use Rattle.oat_watch.specs.Shown.{Holds, use_of}
+use Rattle.std.proofs.lemmas.{List.map-append, List.Elements.filter_map-append}
+use Rattle.oat_attest.specs.{Cells, Image, Edge, MonitorCall, start_cells, Entry, CheckedUse, use_behind, uses_behind, made_call, returned, returns_of_run, shown_edge}
+use Rattle.oat_watch.specs.{declared.watched.CheckedUse.CheckedUse as ShownUse, declared.window.Window.Window, Shown.Holds, Shown.use_of}
 
 cons-append : {X : Type 0} (o : Option X) (xs ys : List X) → cons_option o (xs ++ ys) ≡ cons_option o xs ++ ys
 cons-append None xs ys = refl

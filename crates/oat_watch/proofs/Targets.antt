@@ -1,10 +1,8 @@
 -- The test of an indirect target fails where none is allowed.
 use Rattle.std.proofs.Common.{◌≡◌, ℕ, Bool, true, false, eqb-true, List, refl}
 use Rattle.std.specs.List.{list_any}
-use Rattle.std.proofs.lemmas.Bool.{and_parts}
-use Rattle.std.proofs.lemmas.List.Folds.{Any-from_list_any}
-use Rattle.oat_map.specs.declared.map.Function.{Function}
-use Rattle.oat_map.specs.Rows.{IsIndirectTarget, is_called_at}
+use Rattle.std.proofs.lemmas.{Bool.and_parts, List.Folds.Any-from_list_any}
+use Rattle.oat_attest.specs.{Function, IsIndirectTarget, is_called_at}
 
 pub no-target : (functions : List Function) (params to : ℕ) → (IsIndirectTarget functions params to → ⊥) → list_any (is_called_at params to) functions ≡ false
 no-target functions params to none = by (list_any (is_called_at params to) functions) refl where

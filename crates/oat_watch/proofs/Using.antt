@@ -1,11 +1,9 @@
 -- What a use of a cell finds, by a table that holds the defined values.
 use Rattle.std.proofs.Common.{◌≡◌, ◌<◌, ℕ, zero, suc, List, [], ◌∷◌, length, Option, Some, None, option_map, refl, ap, ◌∙◌, arith}
 use Rattle.std.specs.Prelude.{slice_get}
-use Rattle.oat_events.specs.Cells.{Cells}
 use Rattle.oat_journal.proofs.RunLaws.{held_is}
-use Rattle.oat_journal.specs.Uses.{CheckedUse, Held, define_of, defined_value, use_behind}
-use Rattle.oat_measure.specs.declared.call.MonitorCall.{MonitorCall}
-use Rattle.oat_measure.specs.declared.call.MonitorCall.TheVariants as svc
+use Rattle.oat_attest.specs.{Cells, CheckedUse, Held, define_of, defined_value, use_behind, MonitorCall}
+use Rattle.oat_attest.specs.svc as svc
 
 -- a cell of the table has a number below its length
 pub is-cell : (words : List ℕ) (cell word : ℕ) → slice_get words cell ≡ Some word → cell < length words

@@ -1,42 +1,18 @@
 -- The verdict on a window of a whole run, and what it says of the run.
 use Rattle.std.proofs.Common.{◌≡◌, ◌++◌, ◌∙◌, ◌+◌, ◌<◌, ℕ, zero, suc, List, [], ◌∷◌, length, map, Option, Some, None, slice_get, option_map, inl, inr, refl, sym, ap, subst, arith}
-use Rattle.std.specs.Prelude.{◌↔◌, IfSome, IsNone}
-use Rattle.std.specs.List.{All}
+use Rattle.std.specs.{Prelude.◌↔◌, Prelude.IfSome, Prelude.IsNone, List.All}
 use Rattle.std.proofs.lemmas.List.{get_or-map, length-map}
 use Rattle.sha2.specs.Sha256.{sha256}
-use Rattle.oat_attest.proofs.Headlines.{headline}
-use Rattle.oat_attest.specs.Headline.{calls_before}
-use Rattle.oat_blob.proofs.OneLayout.{one_body}
-use Rattle.oat_blob.specs.Body.{Body}
-use Rattle.oat_blob.specs.Layout.{IsBlobOf}
-use Rattle.oat_case.specs.declared.case.Case.{Case}
-use Rattle.oat_chain.specs.Chain.{DiffersAt, chain, messages}
-use Rattle.oat_chain.specs.Clash.{bytes_of}
-use Rattle.oat_chain.specs.declared.message.Clash.{Clash}
-use Rattle.oat_device.specs.DeviceRun.{DeviceRun, IsAtStart, bodies_so_far, run_so_far, window_opening}
-use Rattle.oat_image.specs.declared.image.Image.{Image}
-use Rattle.oat_image.specs.Grammar.{IsWellFormedImage}
-use Rattle.oat_map.specs.declared.edge.Edge.{Edge}
-use Rattle.oat_map.specs.Rows.{BeginsAt}
-use Rattle.oat_map.specs.Walk.{returns_of}
-use Rattle.oat_measure.specs.declared.opening.Opening.{Opening}
-use Rattle.oat_measure.specs.Shelving.{sealed_bodies, serial_of}
-use Rattle.oat_journal.proofs.RunLaws.{bodies_tell_windows}
-use Rattle.oat_journal.specs.Measured.{HasBody, opening_of, window_of}
-use Rattle.oat_journal.specs.Run.{AreGiven}
-use Rattle.oat_journal.specs.Uses.{CheckedUse, IsSound}
-use Rattle.oat_journal.specs.Window.{returns_of_run}
 use Rattle.oat_shape.proofs.Laid.{opens_once}
-use Rattle.oat_shape.specs.Shape.{IsShaped}
+use Rattle.oat_blob.proofs.OneLayout.{one_body}
+use Rattle.oat_journal.proofs.RunLaws.{bodies_tell_windows}
 use Rattle.oat_verify.proofs.OneVerdict.{acceptance_at_once}
-use Rattle.oat_verify.specs.declared.verdict.Verdict.{Verdict}
-use Rattle.oat_verify.specs.declared.verdict.Verdict.TheVariants.{Accept}
-use Rattle.oat_verify.specs.Verdict.{Accepts, IsVerdict, head_of, subject_of}
-use Rattle.oat_watch.specs.declared.watched.CheckedUse.{CheckedUse as ShownUse}
-use Rattle.oat_watch.specs.declared.watched.WatchedWindow.{WatchedWindow}
-use Rattle.oat_watch.specs.declared.window.Window.{Window}
-use Rattle.oat_watch.specs.Shown.{Holds, use_of}
-use Rattle.oat_watch.specs.Watching.{FoundDefined, IsWatched, HasWholeRun, OfEach, PartsFrom, watched_run}
+use Rattle.oat_attest.specs.{Headline.calls_before, Body, IsBlobOf, Case, DiffersAt, chain, messages, bytes_of, Clash, Image, IsWellFormedImage, Edge, BeginsAt, returns_of, Opening, sealed_bodies}
+use Rattle.oat_attest.specs.{serial_of, HasBody, opening_of, window_of, AreGiven, CheckedUse, IsSound, returns_of_run, IsShaped, Verdict, Accept, Accepts, IsVerdict, head_of, subject_of}
+use Rattle.oat_attest.proofs.Headlines.{headline}
+use Rattle.oat_device.specs.DeviceRun.{DeviceRun, IsAtStart, bodies_so_far, run_so_far, window_opening}
+use Rattle.oat_watch.specs.{declared.watched.CheckedUse.CheckedUse as ShownUse, declared.watched.WatchedWindow.WatchedWindow, declared.window.Window.Window, Shown.Holds, Shown.use_of}
+use Rattle.oat_watch.specs.{Watching.FoundDefined, Watching.IsWatched, Watching.HasWholeRun, Watching.OfEach, Watching.PartsFrom, Watching.watched_run}
 
 -- ---- the clash
 

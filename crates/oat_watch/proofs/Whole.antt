@@ -1,26 +1,16 @@
 -- The windows of a whole run are those that were collected of it.
-use Rattle.std.proofs.Common.{◌≡◌, ◌++◌, ◌∷◌, ◌∙◌, ◌+◌, ◌-◌, ◌<◌, ℕ, zero, suc, Bool, true, false, cond, ltb, List, [], append-nil, length, length-append, map, Option, Some, None, slice_get, inl, inr, refl, sym, ap, subst, arith}
+use Rattle.std.proofs.Common.{◌≡◌, ◌++◌, ◌∷◌, ◌∙◌, ◌+◌, ◌-◌, ◌<◌, ℕ, zero, suc, Bool, true, false, cond, ltb, List, [], append-nil, length, length-append, map, Option, Some, None, slice_get, inl, inr}
+use Rattle.std.proofs.Common.{refl, sym, ap, subst, arith}
 use Rattle.std.proofs.lemmas.Bool.{ltb-true}
-use Rattle.oat_blob.specs.Body.{Body}
-use Rattle.oat_device.proofs.DeviceLaws.{journals_grow}
-use Rattle.oat_device.specs.Advancing.{HasEntry, HasNoEntry, end_by_now}
-use Rattle.oat_device.specs.declared.entry.Entry.{Entry as ShownEntry}
-use Rattle.oat_device.specs.DeviceRun.{DeviceRun, run_so_far, window_opening}
 use Rattle.oat_events.proofs.WindowLaws.{inside_stays, up_to_stays}
-use Rattle.oat_image.specs.declared.image.Image.{Image}
-use Rattle.oat_journal.specs.declared.end.DeviceEnd.{DeviceEnd}
-use Rattle.oat_journal.specs.declared.end.DeviceEnd.TheVariants.{OutOfSteps}
-use Rattle.oat_journal.specs.Measured.{dev, start_cells}
-use Rattle.oat_journal.specs.Run.{Entry, journal_from}
-use Rattle.oat_journal.specs.Window.{made_call}
-use Rattle.oat_measure.specs.declared.opening.Opening.{Opening}
-use Rattle.oat_measure.specs.Measurement.{Stage, measuring, sealed, unmeasured}
-use Rattle.oat_measure.specs.Shelving.{Measurements, at_start, body_of, measures, sealed_bodies}
-use Rattle.oat_watch.specs.Collecting.{AreWindows, Collects, IsCollected, RunStands, made_before, made_in, opens_one, seals_one}
-use Rattle.oat_watch.specs.Collecting.RunStands.{finished, outside, within}
-use Rattle.oat_watch.specs.declared.collection.Collection.{Collection}
-use Rattle.oat_watch.specs.declared.window.Window.{Window}
-use Rattle.oat_watch.specs.Shown.{Holds}
+use Rattle.oat_attest.specs.{Body, Image, DeviceEnd, OutOfSteps, dev, start_cells, Entry, journal_from, made_call, Opening, Stage, measuring, sealed, unmeasured, Measurements, at_start, body_of}
+use Rattle.oat_attest.specs.{measures, sealed_bodies}
+use Rattle.oat_device.specs.{Advancing.HasEntry, Advancing.HasNoEntry, Advancing.end_by_now, declared.entry.Entry.Entry as ShownEntry, DeviceRun.DeviceRun, DeviceRun.run_so_far}
+use Rattle.oat_device.specs.{DeviceRun.window_opening}
+use Rattle.oat_device.proofs.DeviceLaws.{journals_grow}
+use Rattle.oat_watch.specs.{Collecting.AreWindows, Collecting.Collects, Collecting.IsCollected, Collecting.RunStands, Collecting.made_before, Collecting.made_in, Collecting.opens_one}
+use Rattle.oat_watch.specs.{Collecting.seals_one, Collecting.RunStands.finished, Collecting.RunStands.outside, Collecting.RunStands.within, declared.collection.Collection.Collection}
+use Rattle.oat_watch.specs.{declared.window.Window.Window, Shown.Holds}
 
 -- ---- a run that goes on has steps left
 

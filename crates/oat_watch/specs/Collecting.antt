@@ -1,24 +1,10 @@
 -- What has been collected of a run while it goes on: its windows that have closed, and the present one (docs/DEFINITIONS.md, "The run beside its verdict").
-use Rattle.std.specs.Prelude.{◌≡◌, ◌+◌, ◌++◌, ◌<◌, ◌≤◌, ◌⊎◌, ℕ, zero, suc, Bool, true, false, List, [], ◌∷◌, ◌↔◌, IsTrue, Ok, Option, Some, length, map, slice_get}
-use Rattle.std.specs.List.{list_any}
-use Rattle.oat_events.specs.Windows.{inside, is_closed, past, up_to}
-use Rattle.oat_image.specs.declared.image.Image.{Image}
-use Rattle.oat_measure.specs.declared.call.MonitorCall.{MonitorCall}
-use Rattle.oat_measure.specs.declared.opening.Opening.{Opening}
-use Rattle.oat_measure.specs.Measurement.{measuring, sealed, unmeasured}
-use Rattle.oat_measure.specs.Monitored.{cells_of}
-use Rattle.oat_measure.specs.Shelving.{Measurements, is_due, measured_on, sealed_bodies}
-use Rattle.oat_journal.specs.Measured.{Run, start_cells, window_of}
-use Rattle.oat_journal.specs.Run.{Entry}
-use Rattle.oat_journal.specs.Uses.{Held}
-use Rattle.oat_journal.specs.Window.{made_call, opens_window, seals_window}
-use Rattle.oat_device.specs.Advancing.{ShowsEntry}
-use Rattle.oat_device.specs.declared.entry.Entry.{Entry as ShownEntry}
-use Rattle.oat_device.specs.DeviceRun.{DeviceRun, run_so_far, window_opening}
-use Rattle.oat_attest.specs.Headline.{calls_before}
-use Rattle.oat_watch.specs.declared.collection.Collection.{Collection}
-use Rattle.oat_watch.specs.declared.window.Window.{Window}
-use Rattle.oat_watch.specs.Shown.{Holds}
+use Rattle.std.specs.{Prelude.◌≡◌, Prelude.◌+◌, Prelude.◌++◌, Prelude.◌<◌, Prelude.◌≤◌, Prelude.◌⊎◌, Prelude.ℕ, Prelude.zero, Prelude.suc, Prelude.Bool, Prelude.true, Prelude.false, Prelude.List}
+use Rattle.std.specs.{Prelude.[], Prelude.◌∷◌, Prelude.◌↔◌, Prelude.IsTrue, Prelude.Ok, Prelude.Option, Prelude.Some, Prelude.length, Prelude.map, Prelude.slice_get, List.list_any}
+use Rattle.oat_attest.specs.{inside, is_closed, past, up_to, Image, MonitorCall, Opening, measuring, sealed, unmeasured, cells_of, Measurements, is_due, measured_on, sealed_bodies, Run, start_cells}
+use Rattle.oat_attest.specs.{window_of, Entry, Held, made_call, opens_window, seals_window, Headline.calls_before}
+use Rattle.oat_device.specs.{Advancing.ShowsEntry, declared.entry.Entry.Entry as ShownEntry, DeviceRun.DeviceRun, DeviceRun.run_so_far, DeviceRun.window_opening}
+use Rattle.oat_watch.specs.{declared.collection.Collection.Collection, declared.window.Window.Window, Shown.Holds}
 
 -- window s was opened
 unfoldable pub is_opened : {X : Type 0} → (X → Bool) → (X → Bool) → ℕ → List X → Bool

@@ -1,16 +1,8 @@
 -- What is shown of a window while its run goes on (docs/DEFINITIONS.md, "The run beside its verdict").
 use Rattle.std.specs.Prelude.{◌≡◌, ◌++◌, ◌∷◌, ℕ, List, [], Option, map}
-use Rattle.oat_image.specs.declared.image.Image.{Image}
-use Rattle.oat_measure.specs.declared.call.MonitorCall.{MonitorCall}
-use Rattle.oat_measure.specs.Monitored.{cells_of}
-use Rattle.oat_device.specs.Advancing.{ShowsEntry}
-use Rattle.oat_device.specs.declared.entry.Entry.{Entry as ShownEntry}
-use Rattle.oat_journal.specs.Measured.{start_cells}
-use Rattle.oat_journal.specs.Run.{Entry}
-use Rattle.oat_journal.specs.Uses.{CheckedUse, Held, uses_behind}
-use Rattle.oat_journal.specs.Window.{executed_path, made_call, returns_of_run}
-use Rattle.oat_watch.specs.declared.watched.CheckedUse.{CheckedUse as ShownUse}
-use Rattle.oat_watch.specs.declared.window.Window.{Window}
+use Rattle.oat_attest.specs.{Image, MonitorCall, cells_of, start_cells, Entry, CheckedUse, Held, uses_behind, executed_path, made_call, returns_of_run}
+use Rattle.oat_device.specs.{Advancing.ShowsEntry, declared.entry.Entry.Entry as ShownEntry}
+use Rattle.oat_watch.specs.{declared.watched.CheckedUse.CheckedUse as ShownUse, declared.window.Window.Window}
 
 abbrev pub use_of : ShownUse → CheckedUse
 use_of used = record { cell = used.cell; found = used.found; defined = used.defined }

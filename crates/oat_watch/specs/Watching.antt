@@ -1,28 +1,9 @@
 -- The run beside its verdict: what is shown of each window of a run that sealed, and what the verdict on its blob says of it (docs/DEFINITIONS.md, "The run beside its verdict").
-use Rattle.std.specs.Prelude.{◌≡◌, ℕ, List, Option, Some, None, map, slice_get}
-use Rattle.std.specs.List.{All}
-use Rattle.oat_blob.specs.Body.{Body}
-use Rattle.oat_case.specs.declared.case.Case.{Case}
-use Rattle.oat_case.specs.declared.case.Session.{Session}
-use Rattle.oat_chain.specs.Clash.{bytes_of}
-use Rattle.oat_chain.specs.declared.message.Clash.{Clash}
-use Rattle.oat_image.specs.declared.image.Image.{Image}
-use Rattle.oat_map.specs.declared.edge.Edge.{Edge}
-use Rattle.oat_map.specs.Rows.{BeginsAt}
-use Rattle.oat_map.specs.Walk.{returns_of}
+use Rattle.std.specs.{Prelude.◌≡◌, Prelude.ℕ, Prelude.List, Prelude.Option, Prelude.Some, Prelude.None, Prelude.map, Prelude.slice_get, List.All}
+use Rattle.oat_attest.specs.{Body, Case, Session, bytes_of, Clash, Image, Edge, BeginsAt, returns_of, Opening, serial_of, Run, dev, opening_of, uses_of, window_of, AreGiven, executed_path}
+use Rattle.oat_attest.specs.{returns_of_run, Verdict, Accept, Refuse, IsVerdict, head_of, subject_of, Headline.Clashes, Headline.IsReported}
 use Rattle.oat_device.specs.DeviceRun.{DeviceRun}
-use Rattle.oat_measure.specs.declared.opening.Opening.{Opening}
-use Rattle.oat_measure.specs.Shelving.{serial_of}
-use Rattle.oat_journal.specs.Measured.{Run, dev, opening_of, uses_of, window_of}
-use Rattle.oat_journal.specs.Run.{AreGiven}
-use Rattle.oat_journal.specs.Window.{executed_path, returns_of_run}
-use Rattle.oat_verify.specs.declared.verdict.Verdict.{Verdict}
-use Rattle.oat_verify.specs.declared.verdict.Verdict.TheVariants.{Accept, Refuse}
-use Rattle.oat_verify.specs.Verdict.{IsVerdict, head_of, subject_of}
-use Rattle.oat_attest.specs.Headline.{Clashes, IsReported}
-use Rattle.oat_watch.specs.declared.watched.CheckedUse.{CheckedUse as ShownUse}
-use Rattle.oat_watch.specs.declared.watched.WatchedWindow.{WatchedWindow}
-use Rattle.oat_watch.specs.Shown.{use_of}
+use Rattle.oat_watch.specs.{declared.watched.CheckedUse.CheckedUse as ShownUse, declared.watched.WatchedWindow.WatchedWindow, Shown.use_of}
 
 -- the run of a case on an image, whose windows open there
 abbrev pub watched_run : Image → Case → ℕ → Run

@@ -1,12 +1,8 @@
 //! What the critical cells were last defined as.
 ghost use Rattle.std.specs.Prelude.{◌≡◌, ◌≤◌, length, IfOk};
-ghost use Rattle.oat_events.specs.Cells.{defined};
-ghost use Rattle.oat_image.specs.Grammar.{IsWellFormedImage};
-ghost use Rattle.oat_journal.specs.Measured.{start_cells};
-ghost use Rattle.oat_measure.specs.Monitored.{cells_of};
+ghost use Rattle.oat_attest.specs.{defined, IsWellFormedImage, start_cells, cells_of};
 
-use oat_device::first_words;
-use oat_image::Image;
+use oat_device::{Image, first_words};
 use std::alloc::{AllocError, Global};
 
 /// The words that the cells of an image were last defined as.

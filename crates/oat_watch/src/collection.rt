@@ -1,24 +1,27 @@
 //! The windows of a run, collected instruction by instruction.
 ghost use Rattle.std.specs.Prelude.{◌≡◌, ◌++◌, ◌∷◌, ◌↔◌, ◌≤◌, List, [], Option, Some, IfOk, IsTrue, Ok, OnOk, length, map};
-ghost use Rattle.oat_events.specs.Cells.{Cells};
-ghost use Rattle.oat_image.specs.Grammar.{IsWellFormedImage};
-ghost use Rattle.oat_journal.specs.Measured.{start_cells};
-ghost use Rattle.oat_journal.specs.Run.{Entry as JournalEntry};
-ghost use Rattle.oat_journal.specs.Uses.{Held};
-ghost use Rattle.oat_journal.specs.Window.{made_call};
+ghost use Rattle.oat_attest.specs.{
+  Cells,
+  IsWellFormedImage,
+  start_cells,
+  Entry as JournalEntry,
+  Held,
+  made_call,
+  MonitorCall as Call,
+  Opening,
+  measuring,
+  cells_of,
+  Measurements,
+  at_start,
+  measured_on,
+  IsLaid,
+};
 ghost use Rattle.oat_device.specs.Advancing.{ShowsEntry};
-ghost use Rattle.oat_measure.specs.declared.call.MonitorCall.{MonitorCall as Call};
-ghost use Rattle.oat_measure.specs.declared.opening.Opening.{Opening};
-ghost use Rattle.oat_measure.specs.Measurement.{measuring};
-ghost use Rattle.oat_measure.specs.Monitored.{cells_of};
-ghost use Rattle.oat_measure.specs.Shelving.{Measurements, at_start, measured_on};
-ghost use Rattle.oat_shape.specs.Laid.{IsLaid};
 ghost use Rattle.oat_watch.specs.Collecting.{Collects, CollectsEntry};
 
 use crate::cells::CellTable;
 use crate::window::Window;
-use oat_device::{Entry, MonitorCall};
-use oat_image::Image;
+use oat_device::{Entry, Image, MonitorCall};
 use std::alloc::{AllocError, Global};
 use std::mem;
 

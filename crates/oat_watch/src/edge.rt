@@ -1,17 +1,10 @@
 //! What an instruction of a window shows of the executed path.
 ghost use Rattle.std.specs.Prelude.{◌≡◌, ℕ, Some};
-ghost use Rattle.oat_a64.specs.Kinds.{is_transfer};
-ghost use Rattle.oat_journal.specs.Run.{Entry as JournalEntry};
-ghost use Rattle.oat_journal.specs.Window.{edge_over, shown_edge};
-ghost use Rattle.oat_map.specs.declared.map.Map.{Map as ItsMap};
-ghost use Rattle.oat_map.specs.declared.row.Row.TheVariants.{Branch};
-ghost use Rattle.oat_shape.specs.Laid.{IsLaid};
+ghost use Rattle.oat_attest.specs.{is_transfer, Entry as JournalEntry, edge_over, shown_edge, Map as ItsMap, Branch, IsLaid};
 ghost use Rattle.oat_device.specs.Advancing.{ShowsEntry};
 
 use crate::rows::{is_return_site, row_over};
-use oat_a64::{Inst, decode};
-use oat_device::{Entry, MonitorCall};
-use oat_image::Image;
+use oat_device::{Entry, Image, Inst, MonitorCall, decode};
 use oat_map::{Edge, Row};
 
 fn is_transfer(inst: &Inst) -> bool

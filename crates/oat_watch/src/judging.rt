@@ -1,11 +1,8 @@
 //! The verdict on a window of a run, and where the run parts from it.
 ghost use Rattle.std.specs.Prelude.{◌≡◌, ◌<◌, List, IfOk, length};
 ghost use Rattle.std.specs.Option.{option_map};
-ghost use Rattle.oat_chain.specs.Chain.{chain};
+ghost use Rattle.oat_attest.specs.{chain, Edge as ItsEdge, return_of, returns_of, Accept};
 ghost use Rattle.oat_device.specs.DeviceRun.{bodies_so_far};
-ghost use Rattle.oat_map.specs.declared.edge.Edge.{Edge as ItsEdge};
-ghost use Rattle.oat_map.specs.Walk.{return_of, returns_of};
-ghost use Rattle.oat_verify.specs.declared.verdict.Verdict.TheVariants.{Accept};
 ghost use Rattle.oat_watch.specs.Collecting.{HoldsThere};
 ghost use Rattle.oat_watch.specs.Watching.{IsWatched, HasWholeRun, PartsFrom};
 

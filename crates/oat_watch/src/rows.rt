@@ -1,10 +1,9 @@
 //! Which row of an image's map an address belongs to.
 ghost use Rattle.std.specs.Prelude.{◌≡◌, ◌↔◌, IsTrue, Some};
 ghost use Rattle.std.specs.List.{list_any};
-ghost use Rattle.oat_map.specs.Rows.{is_call, is_over, is_returned_to, row_over};
-ghost use Rattle.oat_shape.specs.Laid.{IsLaid};
+ghost use Rattle.oat_attest.specs.{is_call, is_over, is_returned_to, row_over, IsLaid};
 
-use oat_image::Image;
+use oat_device::Image;
 use oat_map::Row;
 
 fn is_over(row: &Row, address: u64) -> bool

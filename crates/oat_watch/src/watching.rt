@@ -1,10 +1,6 @@
 ghost use Rattle.std.specs.Prelude.{◌≡◌, IfOk, length};
-ghost use Rattle.oat_case.specs.Limits.{IsWellFormedCase};
+ghost use Rattle.oat_attest.specs.{IsWellFormedCase, end_of, AreGiven, IsOperation, sealed_bodies};
 ghost use Rattle.oat_device.specs.DeviceRun.{bodies_so_far, run_so_far, window_opening};
-ghost use Rattle.oat_journal.specs.Measured.{end_of};
-ghost use Rattle.oat_journal.specs.Run.{AreGiven};
-ghost use Rattle.oat_map.specs.Rows.{IsOperation};
-ghost use Rattle.oat_measure.specs.Shelving.{sealed_bodies};
 ghost use Rattle.oat_watch.specs.Collecting.{AreWindows};
 ghost use Rattle.oat_watch.specs.Watching.{AgreesWithVerdict, HasItsVerdict, IsWatched, HasWholeRun, OfEach, OfItsRun, Parts, ShowsWindow};
 

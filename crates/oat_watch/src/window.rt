@@ -2,21 +2,13 @@
 ghost use Rattle.std.specs.Prelude.{◌≡◌, ◌++◌, ◌≤◌, ℕ, List, [], Option, Some, OnOk, length};
 ghost use Rattle.std.specs.List.{cons_option};
 ghost use Rattle.std.specs.Option.{option_map};
-ghost use Rattle.oat_events.specs.Cells.{Cells};
-ghost use Rattle.oat_image.specs.declared.image.Image.{Image as OfImage};
-ghost use Rattle.oat_journal.specs.Uses.{Held, use_behind};
-ghost use Rattle.oat_journal.specs.Window.{returned};
-ghost use Rattle.oat_measure.specs.declared.call.MonitorCall.{MonitorCall as Call};
-ghost use Rattle.oat_measure.specs.declared.call.MonitorCall.TheVariants.{Use};
-ghost use Rattle.oat_measure.specs.Monitored.{cells_of};
-ghost use Rattle.oat_shape.specs.Laid.{IsLaid};
+ghost use Rattle.oat_attest.specs.{Cells, Image as OfImage, Held, use_behind, returned, MonitorCall as Call, Use, cells_of, IsLaid};
 ghost use Rattle.oat_watch.specs.Shown.{AddsEntry, Holds, use_of};
 
 use crate::cells::CellTable;
 use crate::edge::shown_edge;
 use crate::watched::CheckedUse;
-use oat_device::{Entry, MonitorCall};
-use oat_image::Image;
+use oat_device::{Entry, Image, MonitorCall};
 use oat_map::Edge;
 use std::alloc::{AllocError, Global};
 

@@ -1,16 +1,14 @@
 //! The windows of the run of a case.
 ghost use Rattle.std.specs.Prelude.{◌≡◌, ◌+◌, ◌≤◌, ℕ, IfOk, None, OnOk, length};
-ghost use Rattle.oat_case.specs.Limits.{IsWellFormedCase};
+ghost use Rattle.oat_attest.specs.{IsWellFormedCase, IsLaid};
 ghost use Rattle.oat_device.specs.Advancing.{end_by_now};
 ghost use Rattle.oat_device.specs.DeviceRun.{IsAtStart, run_so_far, window_opening};
-ghost use Rattle.oat_shape.specs.Laid.{IsLaid};
 ghost use Rattle.oat_watch.specs.Collecting.{AreWindows, IsCollected};
 
 use crate::collection::Collection;
 use crate::window::Window;
 use oat_case::Case;
-use oat_device::Device;
-use oat_image::Image;
+use oat_device::{Device, Image};
 use oat_shape::Shaped;
 use std::alloc::{AllocError, Global};
 

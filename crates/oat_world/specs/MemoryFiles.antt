@@ -1,9 +1,6 @@
 -- What files in memory hold: of two files with one name the first counts (docs/DEFINITIONS.md).
-use Rattle.std.specs.Prelude.{ℕ, nat_eq, List, find}
-use Rattle.std.specs.Option.{option_map}
-use Rattle.std.specs.Cmp.Lexicographic.{pointwise}
-use Rattle.oat_world.specs.Outside.{Contents}
-use Rattle.oat_world.specs.FailingCalls.{Calls}
+use Rattle.std.specs.{Prelude.ℕ, Prelude.nat_eq, Prelude.List, Prelude.find, Option.option_map, Cmp.Lexicographic.pointwise}
+use Rattle.oat_world.specs.{Outside.Contents, FailingCalls.Calls}
 
 -- a file's name and its bytes
 pub record HeldFile : Type 0 where

@@ -1,6 +1,5 @@
 -- What a sink in memory holds (docs/DEFINITIONS.md).
-use Rattle.std.specs.Prelude.{ℕ, List}
-use Rattle.std.specs.declared.alloc.Global.{Global}
+use Rattle.std.specs.{Prelude.ℕ, Prelude.List, declared.alloc.Global.Global}
 use Rattle.oat_world.specs.FailingCalls.{Calls}
 
 -- the bytes put and their allocator, the most that a put takes, the puts that fail, and the count of faults

@@ -1,11 +1,9 @@
 -- What files and sinks mean to a caller: contents by name, bytes put, and counts that never fall (docs/DEFINITIONS.md).
-use Rattle.std.specs.Prelude.{◌≡◌, ◌≤◌, ◌<◌, ◌+◌, ◌-◌, ◌^◌, ◌⊎◌, ◌++◌, ℕ, min, List, length, take, Option, Some, None, Result, Ok, Err, IsSome, IsSomeAnd}
-use Rattle.std.specs.Option.{option_map}
-use Rattle.std.specs.declared.vec.Vec.{Vec}
-use Rattle.std.specs.declared.alloc.Global.{Global}
-use Rattle.oat_world.specs.declared.files.LoadFault.{LoadFault}
+use Rattle.std.specs.{Prelude.◌≡◌, Prelude.◌≤◌, Prelude.◌<◌, Prelude.◌+◌, Prelude.◌-◌, Prelude.◌^◌, Prelude.◌⊎◌, Prelude.◌++◌, Prelude.ℕ, Prelude.min, Prelude.List, Prelude.length, Prelude.take}
+use Rattle.std.specs.{Prelude.Option, Prelude.Some, Prelude.None, Prelude.Result, Prelude.Ok, Prelude.Err, Prelude.IsSome, Prelude.IsSomeAnd, Option.option_map, declared.vec.Vec.Vec}
+use Rattle.std.specs.{declared.alloc.Global.Global}
+use Rattle.oat_world.specs.{declared.files.LoadFault.LoadFault, declared.sink.SinkFault.SinkFault}
 use Rattle.oat_world.specs.declared.files.LoadFault.TheVariants as load
-use Rattle.oat_world.specs.declared.sink.SinkFault.{SinkFault}
 use Rattle.oat_world.specs.declared.sink.SinkFault.TheVariants as sink
 
 -- what each name holds; None where no file has the name

@@ -1,6 +1,5 @@
 use Rattle.std.proofs.Common.{◌≡◌, ◌^◌, ◌<◌, ◌*◌, nat_lt, true, arith}
-use Rattle.std.proofs.lemmas.Bool.{lt-ltb}
-use Rattle.std.proofs.lemmas.Int.{ints}
+use Rattle.std.proofs.lemmas.{Bool.lt-ltb, Int.ints}
 use Rattle.oat_a64.proofs.Offsets.{lower_half}
 use Rattle.oat_a64.proofs.places.from_twos_complement.Goals as goal
 

@@ -1,8 +1,6 @@
 use Rattle.std.proofs.Common.{◌≡◌, ℕ, ap, sym, ◌∙◌, Option, Some, None, IfSome}
 use Rattle.std.specs.List.{find}
-use Rattle.oat_a64.specs.declared.inst.Inst.{Inst}
-use Rattle.oat_a64.specs.Table.{Word}
-use Rattle.oat_a64.specs.Fetch.{is_word, inst_of}
+use Rattle.oat_a64.specs.{declared.inst.Inst.Inst, Table.Word, Fetch.is_word, Fetch.inst_of}
 use Rattle.oat_a64.proofs.FetchLemmas.{word_from_inst, inst_from_word}
 use Rattle.oat_a64.proofs.words.decode.Goals as goal
 

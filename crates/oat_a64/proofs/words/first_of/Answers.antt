@@ -1,6 +1,5 @@
 use Rattle.std.proofs.Common.{rules, tests, ◌∙◌}
-use Rattle.std.proofs.lemmas.Iterator.{YieldsList-from_slice}
-use Rattle.std.proofs.lemmas.Iterator.Search.{find_from_yields_List}
+use Rattle.std.proofs.lemmas.{Iterator.YieldsList-from_slice, Iterator.Search.find_from_yields_List}
 use Rattle.oat_a64.specs.Fetch.{is_word}
 use Rattle.oat_a64.proofs.words.first_of.Goals as goal
 

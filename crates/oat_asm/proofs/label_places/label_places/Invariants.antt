@@ -1,6 +1,5 @@
 use Rattle.std.proofs.Common.{◌≡◌, ◌+◌, ℕ, drop, None}
-use Rattle.std.specs.Ordering.{nat_cmp}
-use Rattle.std.specs.BTreeMap.{get}
+use Rattle.std.specs.{Ordering.nat_cmp, BTreeMap.get}
 use Rattle.oat_asm.specs.Items.{words_needed}
 use Rattle.oat_asm.proofs.Seen.{seen}
 use Rattle.oat_asm.proofs.label_places.label_places.Given as goal

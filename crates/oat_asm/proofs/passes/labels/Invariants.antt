@@ -1,6 +1,5 @@
 use Rattle.std.proofs.Common.{◌≡◌, ◌+◌, ◌++◌, drop}
-use Rattle.oat_asm.specs.Items.{words_needed}
-use Rattle.oat_asm.specs.Layout.{labels_of_item, items_give}
+use Rattle.oat_asm.specs.{Items.words_needed, Layout.labels_of_item, Layout.items_give}
 use Rattle.oat_asm.proofs.passes.labels.Given as goal
 
 abbrev pub invariant-loop-item : goal.invariant-loop-item

@@ -1,6 +1,5 @@
 use Rattle.std.proofs.Common.{◌≡◌, ◌+◌, ◌++◌, drop}
-use Rattle.oat_asm.specs.Items.{words_needed}
-use Rattle.oat_asm.specs.Layout.{notes_of_item, items_give}
+use Rattle.oat_asm.specs.{Items.words_needed, Layout.notes_of_item, Layout.items_give}
 use Rattle.oat_asm.proofs.passes.notes.Given as goal
 
 abbrev pub invariant-loop-item : goal.invariant-loop-item

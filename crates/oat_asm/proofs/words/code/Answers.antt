@@ -1,9 +1,7 @@
 use Rattle.std.proofs.Common.{◌++◌, ap, ◌∙◌}
 use Rattle.std.proofs.lemmas.List.Elements.{Contains-get_or}
-use Rattle.oat_asm.specs.Items.{label_place}
-use Rattle.oat_asm.specs.Layout.{words_of_item}
-use Rattle.oat_asm.proofs.Loops.{words_on, gives_on}
-use Rattle.oat_asm.proofs.ItemWords.{has_words, same_words}
+use Rattle.oat_asm.specs.{Items.label_place, Layout.words_of_item}
+use Rattle.oat_asm.proofs.{Loops.words_on, Loops.gives_on, ItemWords.has_words, ItemWords.same_words}
 use Rattle.oat_asm.proofs.words.code.Goals as goal
 
 pub push_words-requires-clause-item : goal.push_words-requires-clause-item

@@ -1,6 +1,5 @@
 use Rattle.std.proofs.Common.{◌≡◌, ◌+◌, ◌++◌, drop}
-use Rattle.oat_asm.specs.Items.{words_needed, label_place}
-use Rattle.oat_asm.specs.Layout.{words_of_item, items_give}
+use Rattle.oat_asm.specs.{Items.words_needed, Items.label_place, Layout.words_of_item, Layout.items_give}
 use Rattle.oat_asm.proofs.words.code.Given as goal
 
 abbrev pub invariant-loop-item : goal.invariant-loop-item

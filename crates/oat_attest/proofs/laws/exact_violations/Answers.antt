@@ -1,5 +1,5 @@
-use Rattle.oat_journal.proofs.RunLaws.{bodies_tell_windows}
 use Rattle.oat_journal.specs.Measured.{opening_of}
+use Rattle.oat_journal.proofs.RunLaws.{bodies_tell_windows}
 use Rattle.oat_attest.proofs.laws.exact_violations.Goals as goal
 
 pub returns : goal.returns

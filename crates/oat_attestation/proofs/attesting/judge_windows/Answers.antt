@@ -1,9 +1,8 @@
 use Rattle.std.proofs.Common.{◌+◌, ◌++◌, [], ◌∷◌, ℕ, List, take, sym, ap, subst, ◌∙◌, arith}
 use Rattle.std.specs.List.{AllZip}
-use Rattle.oat_blob.specs.Body.{Body}
-use Rattle.oat_blob.specs.Layout.{IsBlobOf}
+use Rattle.oat_build.specs.{Body, IsBlobOf}
+use Rattle.oat_attest.specs.{IsVerdict, subject_of}
 use Rattle.oat_device.specs.DeviceRun.{bodies_so_far}
-use Rattle.oat_verify.specs.Verdict.{IsVerdict, subject_of}
 use Rattle.oat_attestation.proofs.Places.{zip_more, zip_up_to}
 use Rattle.oat_attestation.proofs.attesting.judge_windows.Goals as goal
 

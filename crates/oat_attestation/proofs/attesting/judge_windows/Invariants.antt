@@ -1,8 +1,8 @@
 use Rattle.std.proofs.Common.{take}
 use Rattle.std.specs.List.{AllZip}
-use Rattle.oat_blob.specs.Layout.{IsBlobOf}
+use Rattle.oat_build.specs.{IsBlobOf}
+use Rattle.oat_attest.specs.{IsVerdict, subject_of}
 use Rattle.oat_device.specs.DeviceRun.{bodies_so_far}
-use Rattle.oat_verify.specs.Verdict.{IsVerdict, subject_of}
 use Rattle.oat_attestation.proofs.attesting.judge_windows.Given as goal
 
 abbrev pub invariant-loop-serial : goal.invariant-loop-serial

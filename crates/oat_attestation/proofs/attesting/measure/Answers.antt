@@ -1,12 +1,8 @@
 use Rattle.std.proofs.Common.{ℕ, List, sym, ap, subst, ◌∙◌}
 use Rattle.std.specs.List.{AllZip}
-use Rattle.oat_blob.specs.Body.{Body}
-use Rattle.oat_blob.specs.Layout.{IsBlobOf}
-use Rattle.oat_case.specs.declared.case.Case.{Case}
-use Rattle.oat_measure.specs.Shelving.{sealed_bodies}
-use Rattle.oat_journal.specs.Measured.{Run, end_of}
+use Rattle.oat_build.specs.{Body, IsBlobOf, Case, sealed_bodies, Run, end_of}
+use Rattle.oat_attest.specs.{IsVerdict, subject_of}
 use Rattle.oat_device.specs.DeviceRun.{DeviceRun, bodies_so_far}
-use Rattle.oat_verify.specs.Verdict.{IsVerdict, subject_of}
 use Rattle.oat_attestation.proofs.attesting.measure.Goals as goal
 
 pub returns-clause-tells : goal.returns-clause-tells

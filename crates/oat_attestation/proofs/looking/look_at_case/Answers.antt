@@ -1,7 +1,6 @@
 use Rattle.std.proofs.Common.{◌<◌, FitsSigned, subst}
-use Rattle.std.specs.Int.{w64}
-use Rattle.std.specs.List.{All}
-use Rattle.oat_case.specs.declared.case.Write.{Write}
+use Rattle.std.specs.{Int.w64, List.All}
+use Rattle.oat_build.specs.{Write}
 use Rattle.oat_attestation.proofs.Given.{can_be_given}
 use Rattle.oat_attestation.proofs.looking.look_at_case.Goals as goal
 

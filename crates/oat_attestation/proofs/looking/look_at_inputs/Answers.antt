@@ -1,9 +1,6 @@
 use Rattle.std.proofs.Common.{rules, FitsSigned, ℤ, pos, get_or, subst, ◌≡◌, sym, arith}
-use Rattle.std.specs.Int.{w64}
-use Rattle.std.specs.List.{All}
-use Rattle.std.proofs.lemmas.Int.{ints, to_z-of_z}
-use Rattle.std.proofs.lemmas.List.{take_all}
-use Rattle.std.proofs.lemmas.List.Elements.{All-more}
+use Rattle.std.specs.{Int.w64, List.All}
+use Rattle.std.proofs.lemmas.{Int.ints, Int.to_z-of_z, List.take_all, List.Elements.All-more}
 use Rattle.oat_attestation.proofs.looking.look_at_inputs.Goals as goal
 
 pub loop-input-preserved : goal.loop-input-preserved

@@ -1,6 +1,5 @@
 use Rattle.std.proofs.Common.{FitsSigned, take}
-use Rattle.std.specs.Int.{w64}
-use Rattle.std.specs.List.{All}
+use Rattle.std.specs.{Int.w64, List.All}
 use Rattle.oat_attestation.proofs.looking.look_at_inputs.Given as goal
 
 abbrev pub invariant-loop-input : goal.invariant-loop-input

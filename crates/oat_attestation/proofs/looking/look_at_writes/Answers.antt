@@ -1,8 +1,7 @@
 use Rattle.std.proofs.Common.{◌<◌, ℕ, List, get_or, take, sym, subst, ◌∙◌}
 use Rattle.std.specs.List.{All}
-use Rattle.std.proofs.lemmas.List.{take_all}
-use Rattle.std.proofs.lemmas.List.Elements.{All-more}
-use Rattle.oat_case.specs.declared.case.Write.{Write}
+use Rattle.std.proofs.lemmas.{List.take_all, List.Elements.All-more}
+use Rattle.oat_build.specs.{Write}
 use Rattle.oat_attestation.proofs.looking.look_at_writes.Goals as goal
 
 pub loop-write-preserved : goal.loop-write-preserved

@@ -1,6 +1,6 @@
 use Rattle.std.proofs.Common.{◌<◌, take}
 use Rattle.std.specs.List.{All}
-use Rattle.oat_case.specs.declared.case.Write.{Write}
+use Rattle.oat_build.specs.{Write}
 use Rattle.oat_attestation.proofs.looking.look_at_writes.Given as goal
 
 abbrev pub invariant-loop-write : goal.invariant-loop-write

@@ -1,8 +1,7 @@
 use Rattle.std.proofs.Common.{◌≡◌, ◌<◌, ◌%◌, ◌/◌, ◌+◌, ◌-◌, ◌^◌, ℕ, List, [], ◌∷◌, ◌++◌, length, pos_of_ne-zero, get_or, ap, sym, ◌∙◌, arith, refl}
 use Rattle.std.specs.Prelude.{if◌then◌else◌}
 use Rattle.std.proofs.lemmas.List.{get_or_default}
-use Rattle.oat_bits.specs.Packed.{packed}
-use Rattle.oat_bits.specs.Bits.{bits_in}
+use Rattle.oat_bits.specs.{Packed.packed, Bits.bits_in}
 use Rattle.oat_bits.proofs.PackedForm.{length-bits_in, length-packed, packed-open, packed-fill, packed-fill-fits}
 use Rattle.oat_bits.proofs.packed_bits.push_bit.Goals as goal
 

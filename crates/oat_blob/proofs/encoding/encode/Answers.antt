@@ -1,8 +1,7 @@
 use Rattle.std.proofs.Common.{◌≡◌, ◌<◌, ◌^◌, ◌++◌, [], ◌∙◌, ap, arith}
 use Rattle.std.proofs.lemmas.List.Elements.{All-from_get_or}
 use Rattle.oat_hmac.specs.Hmac.{hmac}
-use Rattle.oat_blob.specs.Layout.{bits_part, targets_part}
-use Rattle.oat_blob.specs.Parts.{head_part}
+use Rattle.oat_blob.specs.{Layout.bits_part, Layout.targets_part, Parts.head_part}
 use Rattle.oat_blob.proofs.Sealed.{is_sealed}
 use Rattle.oat_blob.proofs.encoding.encode.Goals as goal
 

@@ -1,6 +1,5 @@
 use Rattle.std.proofs.Common.{◌≡◌, ◌++◌, take}
-use Rattle.std.specs.Int.{w64, to_be_bytes}
-use Rattle.std.specs.List.{flat_map}
+use Rattle.std.specs.{Int.w64, Int.to_be_bytes, List.flat_map}
 use Rattle.oat_blob.proofs.encoding.put_targets.Given as goal
 
 abbrev pub invariant-loop-target : goal.invariant-loop-target

@@ -1,7 +1,6 @@
 use Rattle.std.proofs.Common.{◌*◌}
 use Rattle.std.proofs.lemmas.Result.{MatchResult-weaker}
-use Rattle.oat_blob.proofs.Counted.{addresses_front, addresses_wanting}
-use Rattle.oat_blob.proofs.Fixed.{all_bytes, cut_bytes}
+use Rattle.oat_blob.proofs.{Counted.addresses_front, Counted.addresses_wanting, Fixed.all_bytes, Fixed.cut_bytes}
 use Rattle.oat_blob.proofs.reader.addresses.Goals as goal
 
 pub returns-clause-read : goal.returns-clause-read

@@ -1,8 +1,7 @@
 use Rattle.std.proofs.Common.{length}
 use Rattle.std.proofs.lemmas.Result.{err_from_is_err_and}
-use Rattle.oat_bits.specs.Packed.{packed}
+use Rattle.oat_bits.specs.{Packed.packed, Bits.bits_in}
 use Rattle.oat_blob.specs.Parts.{AreFewBits, AreBits}
-use Rattle.oat_bits.specs.Bits.{bits_in}
 use Rattle.oat_blob.proofs.Counted.{block_stops, count_stops, counted_front, few_bits}
 use Rattle.oat_blob.proofs.reader.bits.Goals as goal
 

@@ -1,5 +1,6 @@
 use Rattle.std.proofs.lemmas.Result.{err_from_is_err_and}
-use Rattle.oat_blob.proofs.Form.{at_digest, at_hash, at_nonce, at_op, at_opening, at_serial, at_version, behind_digest, behind_hash, behind_nonce, behind_op, behind_opening, behind_serial, behind_version, head_front}
+use Rattle.oat_blob.proofs.Form.{at_digest, at_hash, at_nonce, at_op, at_opening, at_serial, at_version, behind_digest, behind_hash, behind_nonce, behind_op, behind_opening, behind_serial}
+use Rattle.oat_blob.proofs.Form.{behind_version, head_front}
 use Rattle.oat_blob.proofs.reader.head.Goals as goal
 
 pub returns-in_err-rest : goal.returns-in_err-rest

@@ -1,7 +1,6 @@
 use Rattle.std.proofs.Common.{ap, arith, length}
-use Rattle.oat_blob.proofs.Fixed.{opening_front, opening_more, opening_stops}
+use Rattle.oat_blob.proofs.{Fixed.opening_front, Fixed.opening_more, Fixed.opening_stops, reader.magic.Goals.in_default-via-in-Some+else-byte-letter, reader.magic.Goals.in_default-via-in_default}
 use Rattle.oat_blob.proofs.reader.magic.Goals as goal
-use Rattle.oat_blob.proofs.reader.magic.Goals.{in_default-via-in-Some+else-byte-letter, in_default-via-in_default}
 
 pub returns-in_default : goal.returns-in_default
 returns-in_default c =

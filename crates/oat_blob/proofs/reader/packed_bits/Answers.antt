@@ -1,8 +1,6 @@
 use Rattle.std.proofs.Common.{◌≡◌, ◌+◌, ◌/◌, ◌<◌, length, refl, ◌∙◌, arith}
-use Rattle.std.proofs.lemmas.Bool.{false≢true}
-use Rattle.std.proofs.lemmas.Result.{err_from_is_err_and}
-use Rattle.oat_blob.proofs.Counted.{packed_front, packed_wanting, packed_wrong}
-use Rattle.oat_blob.proofs.Fixed.{all_bytes, cut_bytes}
+use Rattle.std.proofs.lemmas.{Bool.false≢true, Result.err_from_is_err_and}
+use Rattle.oat_blob.proofs.{Counted.packed_front, Counted.packed_wanting, Counted.packed_wrong, Fixed.all_bytes, Fixed.cut_bytes}
 use Rattle.oat_blob.proofs.reader.packed_bits.Goals as goal
 
 pub returns-in_err-bits-clause-read : goal.returns-in_err-bits-clause-read

@@ -1,7 +1,6 @@
 use Rattle.std.proofs.Common.{Bool, subst, sym}
 use Rattle.std.proofs.lemmas.Result.{err_from_is_err_and}
-use Rattle.oat_blob.specs.Layout.{serial_part}
-use Rattle.oat_blob.specs.Parts.{Breaks, IsSerial}
+use Rattle.oat_blob.specs.{Layout.serial_part, Parts.Breaks, Parts.IsSerial}
 use Rattle.oat_blob.proofs.Fixed.{serial_stops}
 use Rattle.oat_blob.proofs.reader.serial.Goals as goal
 

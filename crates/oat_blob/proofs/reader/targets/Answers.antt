@@ -1,7 +1,6 @@
 use Rattle.std.proofs.Common.{length}
 use Rattle.std.proofs.lemmas.Result.{err_from_is_err_and}
-use Rattle.oat_blob.specs.Parts.{AreFewTargets, AreTargets, addresses_part}
-use Rattle.oat_blob.specs.Shown.{targets_in}
+use Rattle.oat_blob.specs.{Parts.AreFewTargets, Parts.AreTargets, Parts.addresses_part, Shown.targets_in}
 use Rattle.oat_blob.proofs.Counted.{block_stops, count_stops, counted_front, few_targets}
 use Rattle.oat_blob.proofs.reader.targets.Goals as goal
 

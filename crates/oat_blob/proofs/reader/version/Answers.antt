@@ -1,7 +1,6 @@
 use Rattle.std.proofs.Common.{ap, arith, length}
-use Rattle.oat_blob.proofs.Fixed.{version_stops}
+use Rattle.oat_blob.proofs.{Fixed.version_stops, reader.version.Goals.in_default-via-in-Some-2+else-version-eq2, reader.version.Goals.in_default-via-in_default}
 use Rattle.oat_blob.proofs.reader.version.Goals as goal
-use Rattle.oat_blob.proofs.reader.version.Goals.{in_default-via-in-Some-2+else-version-eq2, in_default-via-in_default}
 
 pub returns-in_default : goal.returns-in_default
 returns-in_default c = elim c.in_default.branch [

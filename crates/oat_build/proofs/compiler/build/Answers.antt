@@ -1,14 +1,7 @@
 use Rattle.std.proofs.Common.{◌≡◌, ◌≤◌, ℕ, List, ap, subst, sym, ◌∙◌, arith}
-use Rattle.oat_asm.specs.declared.item.Item.{Item}
-use Rattle.oat_asm.specs.Expansion.{expansion}
-use Rattle.oat_asm.specs.Items.{words_needed, code_limit, AddressesHaveRegisters, BranchesAreInRange, NoMarkIsLeft}
-use Rattle.oat_asm.specs.StandingLaws.{CanBeAssembled, LabelsStandOnce}
-use Rattle.oat_ir.specs.declared.program.Program.{Program}
-use Rattle.oat_check.specs.Rules.{IsChecked}
-use Rattle.oat_symbols.specs.Programs.{HasValidNames}
+use Rattle.oat_match.specs.{Item, expansion, words_needed, code_limit, AddressesHaveRegisters, BranchesAreInRange, NoMarkIsLeft, CanBeAssembled, LabelsStandOnce, Program, IsChecked, HasValidNames}
 use Rattle.oat_gen.specs.Code.{program_items}
-use Rattle.oat_build.proofs.Faulting.{assembler_fault}
-use Rattle.oat_build.proofs.Promising.{can_be_assembled}
+use Rattle.oat_build.proofs.{Faulting.assembler_fault, Promising.can_be_assembled}
 use Rattle.oat_build.proofs.compiler.build.Goals as goal
 
 pub assemble-requires-clause-marks : goal.assemble-requires-clause-marks

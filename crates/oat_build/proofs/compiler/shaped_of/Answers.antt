@@ -1,7 +1,5 @@
 use Rattle.std.proofs.Common.{subst}
-use Rattle.oat_image.specs.declared.image.Image.{Image}
-use Rattle.oat_shape.specs.declared.fault.ShapeFault.{ShapeFault}
-use Rattle.oat_shape.specs.Refusal.{IsFault}
+use Rattle.oat_match.specs.{Image, ShapeFault, IsFault}
 use Rattle.oat_build.proofs.compiler.shaped_of.Goals as goal
 
 pub unreachable-requires : goal.unreachable-requires

@@ -1,5 +1,5 @@
 use Rattle.std.proofs.Common.{◌≡◌, ◌∷◌, ◌+◌, drop}
-use Rattle.oat_check.specs.Globals.{cell_words}
+use Rattle.oat_match.specs.{cell_words}
 use Rattle.oat_build.proofs.DataLists.{drop_next, cells_step, words_left}
 use Rattle.oat_build.proofs.data.cell_words.Goals as goal
 

@@ -1,6 +1,6 @@
 use Rattle.std.proofs.Common.{◌≡◌, ◌+◌, ◌≤◌, ◌++◌, drop, map, ℕ}
 use Rattle.std.specs.List.{sum_by}
-use Rattle.oat_check.specs.Globals.{cell_words, size_in_words}
+use Rattle.oat_match.specs.{cell_words, size_in_words}
 use Rattle.oat_build.proofs.data.cell_words.Given as goal
 
 abbrev pub invariant-loop-item : goal.invariant-loop-item

@@ -1,7 +1,6 @@
 use Rattle.std.proofs.Common.{◌≡◌, ◌+◌, ◌≤◌, ◌++◌, drop}
 use Rattle.std.specs.List.{sum_by}
-use Rattle.oat_check.specs.Globals.{size_in_words}
-use Rattle.oat_symbols.specs.Programs.{words_from}
+use Rattle.oat_match.specs.{size_in_words, words_from}
 use Rattle.oat_build.proofs.data.words_at_start.Given as goal
 
 abbrev pub invariant-loop-item : goal.invariant-loop-item

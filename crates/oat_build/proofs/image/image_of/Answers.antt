@@ -1,9 +1,5 @@
 use Rattle.std.proofs.Common.{◌≡◌, map, ap, ◌∙◌, List}
-use Rattle.oat_ir.specs.declared.program.GlobalItem.{GlobalItem}
-use Rattle.oat_asm.specs.declared.assembled.NoteAt.{NoteAt}
-use Rattle.oat_asm.specs.NoteRows.{row_of}
-use Rattle.oat_check.specs.Globals.{cell_words}
-use Rattle.oat_symbols.specs.Programs.{symbols_of, words_from}
+use Rattle.oat_match.specs.{GlobalItem, NoteAt, row_of, cell_words, symbols_of, words_from}
 use Rattle.oat_build.specs.Addresses.{address_in}
 use Rattle.oat_build.proofs.Imaging.{whole_image}
 use Rattle.oat_build.proofs.image.image_of.Goals as goal

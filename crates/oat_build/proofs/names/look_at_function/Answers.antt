@@ -1,7 +1,6 @@
 use Rattle.std.proofs.Common.{List, sym, subst}
-use Rattle.oat_ir.specs.declared.func.BlockIr.{BlockIr}
-use Rattle.oat_map.specs.Name.{IsName}
 use Rattle.std.specs.Prelude.{Contains}
+use Rattle.oat_match.specs.{BlockIr, IsName}
 use Rattle.oat_build.proofs.Imaging.{all_more, all_through}
 use Rattle.oat_build.proofs.names.look_at_function.Goals as goal
 

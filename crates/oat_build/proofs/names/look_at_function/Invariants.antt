@@ -1,6 +1,5 @@
 use Rattle.std.specs.Prelude.{◌<◌, ℕ, Contains, take}
-use Rattle.oat_ir.specs.declared.func.BlockIr.{BlockIr}
-use Rattle.oat_map.specs.Name.{IsName}
+use Rattle.oat_match.specs.{BlockIr, IsName}
 use Rattle.oat_build.proofs.names.look_at_function.Given as goal
 
 abbrev pub invariant-loop-block : goal.invariant-loop-block

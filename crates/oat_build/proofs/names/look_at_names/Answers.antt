@@ -1,6 +1,6 @@
 use Rattle.std.proofs.Common.{List, sym, subst}
 use Rattle.std.specs.Prelude.{Contains}
-use Rattle.oat_ir.specs.declared.func.Func.{Func}
+use Rattle.oat_match.specs.{Func}
 use Rattle.oat_build.specs.Naming.{HasNames}
 use Rattle.oat_build.proofs.Imaging.{all_more, all_through}
 use Rattle.oat_build.proofs.names.look_at_names.Goals as goal

@@ -1,5 +1,5 @@
 use Rattle.std.specs.Prelude.{Contains, take}
-use Rattle.oat_ir.specs.declared.func.Func.{Func}
+use Rattle.oat_match.specs.{Func}
 use Rattle.oat_build.specs.Naming.{HasNames}
 use Rattle.oat_build.proofs.names.look_at_names.Given as goal
 

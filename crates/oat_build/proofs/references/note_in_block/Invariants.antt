@@ -1,6 +1,6 @@
 use Rattle.std.proofs.Common.{◌≡◌, ◌<◌, ◌||◌, ℕ, false, length, get_or, take}
 use Rattle.std.specs.List.{list_any}
-use Rattle.oat_check.specs.Keeping.{refers_to}
+use Rattle.oat_match.specs.{refers_to}
 use Rattle.oat_build.proofs.references.note_in_block.Given as goal
 
 abbrev pub invariant-loop-instr : goal.invariant-loop-instr

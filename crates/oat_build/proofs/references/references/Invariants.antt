@@ -1,8 +1,6 @@
 use Rattle.std.proofs.Common.{◌≡◌, ◌<◌, ℕ, false, length, get_or, take}
 use Rattle.std.specs.List.{list_any}
-use Rattle.oat_check.specs.Keeping.{refers_to}
-use Rattle.oat_ir.specs.declared.func.Func.{Func}
-use Rattle.oat_ir.specs.declared.func.BlockIr.{BlockIr}
+use Rattle.oat_match.specs.{refers_to, Func, BlockIr}
 use Rattle.oat_build.proofs.references.references.Given as goal
 
 abbrev pub invariant-loop-func : goal.invariant-loop-func

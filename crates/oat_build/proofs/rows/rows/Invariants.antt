@@ -1,6 +1,5 @@
 use Rattle.std.proofs.Common.{◌≡◌, take, map}
-use Rattle.oat_asm.specs.declared.assembled.NoteAt.{NoteAt}
-use Rattle.oat_asm.specs.NoteRows.{row_of}
+use Rattle.oat_match.specs.{NoteAt, row_of}
 use Rattle.oat_build.specs.Addresses.{address_in}
 use Rattle.oat_build.proofs.rows.rows.Given as goal
 

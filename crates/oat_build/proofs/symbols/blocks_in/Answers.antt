@@ -1,6 +1,6 @@
 use Rattle.std.proofs.Common.{◌≡◌, ◌+◌, length, take, arith}
 use Rattle.std.specs.List.{flat_map}
-use Rattle.oat_symbols.specs.Programs.{block_names}
+use Rattle.oat_match.specs.{block_names}
 use Rattle.oat_build.proofs.SymbolLists.{count_more, count_least}
 use Rattle.oat_build.proofs.symbols.blocks_in.Goals as goal
 

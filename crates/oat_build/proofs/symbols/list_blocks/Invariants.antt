@@ -1,6 +1,5 @@
 use Rattle.std.proofs.Common.{◌≡◌, ◌+◌, ◌++◌, map, take}
-use Rattle.oat_ir.specs.declared.func.BlockIr.{BlockIr}
-use Rattle.oat_parts.specs.Symbols.{blocks_from}
+use Rattle.oat_match.specs.{BlockIr, blocks_from}
 use Rattle.oat_build.specs.Addresses.{address_in}
 use Rattle.oat_build.proofs.symbols.list_blocks.Given as goal
 

@@ -1,10 +1,8 @@
 use Rattle.std.proofs.Common.{Bool, ◌≡◌, ◌+◌, ◌<◌, ◌≤◌, ℕ, List, length, get_or, false, ap, subst, sym, ◌∙◌, arith}
 use Rattle.std.specs.Prelude.{is_some}
-use Rattle.oat_ir.specs.declared.func.Func.{Func}
-use Rattle.oat_parts.specs.Symbols.{functions_of, blocks_of}
+use Rattle.oat_match.specs.{Func, functions_of, blocks_of}
 use Rattle.oat_build.specs.Addresses.{address_in}
-use Rattle.oat_build.proofs.Mains.{found_main, labels_fit, main_there}
-use Rattle.oat_build.proofs.SymbolLists.{count_least, functions_join, all_blocks_join, listed_whole}
+use Rattle.oat_build.proofs.{Mains.found_main, Mains.labels_fit, Mains.main_there, SymbolLists.count_least, SymbolLists.functions_join, SymbolLists.all_blocks_join, SymbolLists.listed_whole}
 use Rattle.oat_build.proofs.symbols.list_symbols.Goals as goal
 
 pub unwrap-main-requires : goal.unwrap-main-requires

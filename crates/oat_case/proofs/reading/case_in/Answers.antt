@@ -1,8 +1,6 @@
 use Rattle.std.proofs.Common.{refl, sym, ◌∙◌, arith}
-use Rattle.std.proofs.lemmas.Bool.{eqb-true}
-use Rattle.std.proofs.lemmas.Result.{err_from_is_err_and}
-use Rattle.oat_case.specs.Draft.{gathered}
-use Rattle.oat_case.specs.Reading.{case_of}
+use Rattle.std.proofs.lemmas.{Bool.eqb-true, Result.err_from_is_err_and}
+use Rattle.oat_case.specs.{Draft.gathered, Reading.case_of}
 use Rattle.oat_case.proofs.Loop.{next_line, stops, is_done}
 use Rattle.oat_case.proofs.reading.case_in.Goals as goal
 

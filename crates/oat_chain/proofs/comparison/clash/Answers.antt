@@ -1,10 +1,6 @@
 use Rattle.std.proofs.Common.{rules, ◌≡◌, ℕ, ◌+◌, ◌-◌, ◌<◌, ◌^◌, All, min, List, [], ◌∷◌, ◌++◌, length, take, sym, ap, subst, ◌∙◌, arith, length-append, length-drop, Bor}
-use Rattle.std.proofs.lemmas.List.{take_all, length-take}
-use Rattle.std.proofs.lemmas.List.Elements.{All-from_get_or}
-use Rattle.std.proofs.lemmas.Slice.Zip.{zip_turn, zip_end}
-use Rattle.oat_chain.specs.declared.comparison.Comparison.{Comparison}
-use Rattle.oat_chain.specs.Clash.{IsLastClash}
-use Rattle.oat_chain.specs.Standing.{Compares}
+use Rattle.std.proofs.lemmas.{List.take_all, List.length-take, List.Elements.All-from_get_or, Slice.Zip.zip_turn, Slice.Zip.zip_end}
+use Rattle.oat_chain.specs.{declared.comparison.Comparison.Comparison, Clash.IsLastClash, Standing.Compares}
 use Rattle.oat_chain.proofs.Comparing.{first-clash, none-when-same, place-of, digest-of, comes-more}
 use Rattle.oat_chain.proofs.comparison.clash.Goals as goal
 

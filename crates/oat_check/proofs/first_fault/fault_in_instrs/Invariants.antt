@@ -1,5 +1,4 @@
-use Rattle.oat_check.specs.Lines.{instruction}
-use Rattle.oat_check.specs.Rules.{fault_in_line}
+use Rattle.oat_check.specs.{Lines.instruction, Rules.fault_in_line}
 use Rattle.oat_check.proofs.FirstIn.{NoneBefore}
 use Rattle.oat_check.proofs.first_fault.fault_in_instrs.Given as goal
 

@@ -1,7 +1,6 @@
 use Rattle.std.proofs.Common.{refl, sym, ap, ◌∙◌}
 use Rattle.oat_cpu.specs.Processor.{regs_of}
-use Rattle.oat_journal.specs.Progress.{call_told}
-use Rattle.oat_a64.specs.declared.event.Event.{Event}
+use Rattle.oat_journal.specs.{Progress.call_told, Event}
 use Rattle.oat_device.proofs.course.call_told.Goals as goal
 
 pub returns-in-Svc : goal.returns-in-Svc

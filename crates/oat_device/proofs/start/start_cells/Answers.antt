@@ -1,9 +1,6 @@
 use Rattle.std.proofs.Common.{rules, ◌≡◌, ◌+◌, ◌≤◌, ◌<◌, ℕ, List, ◌∷◌, [], ◌++◌, take, length, get_or, sym, ap, subst, ◌∙◌, arith}
-use Rattle.std.proofs.lemmas.List.{map_more, take_all}
-use Rattle.std.proofs.lemmas.List.Elements.{All-from_recursion}
-use Rattle.oat_image.specs.Grammar.{IsIndex}
-use Rattle.oat_mem.specs.DataMemory.{word_in, global_address}
-use Rattle.oat_journal.specs.Run.{start_memory}
+use Rattle.std.proofs.lemmas.{List.map_more, List.take_all, List.Elements.All-from_recursion}
+use Rattle.oat_journal.specs.{IsIndex, word_in, global_address, Run.start_memory}
 use Rattle.oat_device.proofs.Starting.{words_of, access, read, read-value, cells-are}
 use Rattle.oat_device.proofs.start.start_cells.Goals as goal
 

@@ -1,7 +1,6 @@
 use Rattle.std.proofs.Common.{◌+◌, List, drop, sym, ap, ◌∙◌, arith}
 use Rattle.std.proofs.lemmas.List.{at_drop_more, at_drop_all}
-use Rattle.oat_image.specs.declared.image.InitWord.{InitWord}
-use Rattle.oat_mem.specs.DataMemory.{byte_at}
+use Rattle.oat_journal.specs.{InitWord, byte_at}
 use Rattle.oat_device.proofs.Starting.{laid}
 use Rattle.oat_device.proofs.start.start_memory.Goals as goal
 

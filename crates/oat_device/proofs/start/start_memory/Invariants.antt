@@ -1,7 +1,6 @@
 use Rattle.std.proofs.Common.{◌≡◌, drop}
-use Rattle.oat_mem.specs.DataMemory.{byte_at}
+use Rattle.oat_journal.specs.{byte_at, Run.start_memory}
 use Rattle.oat_device.proofs.Starting.{laid}
-use Rattle.oat_journal.specs.Run.{start_memory}
 use Rattle.oat_device.proofs.start.start_memory.Given as goal
 
 -- the words that are left lead to what all of them do

@@ -1,8 +1,6 @@
 use Rattle.std.proofs.Common.{rules, ◌≡◌, ◌+◌, ◌<◌, ℕ, List, [], ◌∷◌, drop, length, get_or, sym, ap, subst, ◌∙◌, arith}
 use Rattle.std.proofs.lemmas.List.{drop_more, drop_all, take_rest}
-use Rattle.oat_case.specs.declared.case.Write.{Write}
-use Rattle.oat_case.specs.Limits.{RisesFrom}
-use Rattle.oat_mem.specs.DataMemory.{byte_at}
+use Rattle.oat_journal.specs.{Write, RisesFrom, byte_at}
 use Rattle.oat_device.specs.Bare.{DoesFrom}
 use Rattle.oat_device.proofs.WritesDue.{IsDue, Done, due-first, due-next, due-done, due-all}
 use Rattle.oat_device.proofs.writes.make_due.Goals as goal

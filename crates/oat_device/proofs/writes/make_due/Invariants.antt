@@ -1,5 +1,5 @@
 use Rattle.std.proofs.Common.{drop}
-use Rattle.oat_mem.specs.DataMemory.{byte_at}
+use Rattle.oat_journal.specs.{byte_at}
 use Rattle.oat_device.proofs.WritesDue.{IsDue}
 use Rattle.oat_device.proofs.writes.make_due.Given as goal
 

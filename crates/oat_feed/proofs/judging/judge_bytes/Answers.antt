@@ -1,6 +1,5 @@
 use Rattle.std.proofs.Common.{ap, refl}
-use Rattle.oat_blob.specs.declared.body.BodyHead.{BodyHead}
-use Rattle.oat_verify.specs.Verdict.{blob, form, carried}
+use Rattle.oat_verify.specs.{BodyHead, Verdict.blob, Verdict.form, Verdict.carried}
 use Rattle.oat_feed.specs.Verdict.{of_blob, of_none}
 use Rattle.oat_feed.proofs.PlacesAre.{has_records, none_kept}
 use Rattle.oat_feed.proofs.judging.judge_bytes.Goals as goal

@@ -1,12 +1,8 @@
 use Rattle.std.proofs.Common.{◌+◌, ◌++◌, ◌∷◌, [], ℕ, List, refl, sym, ap, subst, ◌∙◌, length-append}
-use Rattle.oat_chain.specs.declared.Chain.{Chain}
-use Rattle.oat_chain.specs.Standing.{StandsFor}
-use Rattle.oat_map.specs.Walk.{moved, passed, path_of, returns_of}
 use Rattle.oat_shape.proofs.Laid.{laid}
-use Rattle.oat_verify.specs.Verdict.{head_of, stuck, subject_of, walked}
-use Rattle.oat_feed.proofs.Replaying.{returns-done, returns-moved, returns-passed}
+use Rattle.oat_verify.specs.{Chain, StandsFor, moved, passed, path_of, returns_of, Verdict.head_of, Verdict.stuck, Verdict.subject_of, Verdict.walked}
+use Rattle.oat_feed.proofs.{Replaying.returns-done, Replaying.returns-moved, Replaying.returns-passed, judging.replay.Goals.in-Moved, judging.replay.Goals.in-Passed}
 use Rattle.oat_feed.proofs.judging.replay.Goals as goal
-use Rattle.oat_feed.proofs.judging.replay.Goals.{in-Moved, in-Passed}
 
 pub new-requires-clause-ordered : goal.new-requires-clause-ordered
 new-requires-clause-ordered c =

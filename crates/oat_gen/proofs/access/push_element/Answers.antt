@@ -1,8 +1,6 @@
 use Rattle.std.proofs.Common.{[], ◌∷◌, ◌++◌, ℕ, ap, ◌∙◌}
 use Rattle.std.proofs.lemmas.Result.{on_ok_weaker}
-use Rattle.oat_asm.specs.declared.item.Item.{Item}
-use Rattle.oat_frames.specs.Frames.{home_of}
-use Rattle.oat_globals.specs.Code.{number_code}
+use Rattle.oat_globals.specs.{Item, home_of, Code.number_code}
 use Rattle.oat_gen.proofs.Loops.{element_written}
 use Rattle.oat_gen.proofs.access.push_element.Goals as goal
 

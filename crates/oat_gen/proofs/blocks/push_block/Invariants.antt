@@ -1,6 +1,5 @@
 use Rattle.std.proofs.Common.{◌≡◌, ◌++◌, ◌∷◌, [], drop, map}
-use Rattle.oat_check.specs.Lines.{instruction, terminator}
-use Rattle.oat_frames.specs.Lines.{lines_code}
+use Rattle.oat_globals.specs.{instruction, terminator, lines_code}
 use Rattle.oat_gen.specs.Code.{line_code}
 use Rattle.oat_gen.proofs.blocks.push_block.Given as goal
 

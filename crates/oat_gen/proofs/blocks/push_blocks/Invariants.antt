@@ -1,5 +1,5 @@
 use Rattle.std.proofs.Common.{◌≡◌, ◌+◌, ◌++◌, drop, map}
-use Rattle.oat_parts.specs.Making.{blocks_code}
+use Rattle.oat_symbols.specs.{blocks_code}
 use Rattle.oat_gen.specs.Code.{block_code}
 use Rattle.oat_gen.proofs.blocks.push_blocks.Given as goal
 

@@ -1,5 +1,5 @@
 use Rattle.std.proofs.Common.{◌≡◌, ◌++◌, drop}
-use Rattle.oat_frames.specs.Code.{argument_loads}
+use Rattle.oat_globals.specs.{argument_loads}
 use Rattle.oat_gen.proofs.calls.push_argument_loads.Given as goal
 
 abbrev pub invariant-loop-register : goal.invariant-loop-register

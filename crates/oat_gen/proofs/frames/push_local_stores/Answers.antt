@@ -1,7 +1,5 @@
 use Rattle.std.proofs.Common.{[], ◌∷◌, ◌++◌, ℕ, ap, ◌∙◌}
-use Rattle.oat_asm.specs.declared.item.Item.{Item}
-use Rattle.oat_frames.specs.Frames.{home_of}
-use Rattle.oat_frames.specs.Code.{home_store}
+use Rattle.oat_globals.specs.{Item, home_of, home_store}
 use Rattle.oat_gen.proofs.Loops.{stores_on}
 use Rattle.oat_gen.proofs.frames.push_local_stores.Goals as goal
 

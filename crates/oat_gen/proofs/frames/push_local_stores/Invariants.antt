@@ -1,5 +1,5 @@
 use Rattle.std.proofs.Common.{◌≡◌, ◌++◌, ◌-◌}
-use Rattle.oat_frames.specs.Code.{local_stores}
+use Rattle.oat_globals.specs.{local_stores}
 use Rattle.oat_gen.proofs.frames.push_local_stores.Given as goal
 
 abbrev pub invariant-loop-local : goal.invariant-loop-local

@@ -1,5 +1,5 @@
 use Rattle.std.proofs.Common.{List, ap, arith}
-use Rattle.oat_ir.specs.declared.func.Func.{Func}
+use Rattle.oat_globals.specs.{Func}
 use Rattle.oat_gen.specs.Steps.{block_total}
 use Rattle.oat_gen.proofs.Bounds.{labels_are_few, labels_on, blocks_before}
 use Rattle.oat_gen.proofs.generation.first_label.Goals as goal

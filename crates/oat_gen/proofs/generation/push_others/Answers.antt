@@ -1,5 +1,5 @@
 use Rattle.std.proofs.Common.{List, length, ap, arith}
-use Rattle.oat_ir.specs.declared.func.Func.{Func}
+use Rattle.oat_globals.specs.{Func}
 use Rattle.oat_gen.proofs.Bounds.{labels_are_few, labels_within, func_among, got}
 use Rattle.oat_gen.proofs.generation.push_others.Goals as goal
 

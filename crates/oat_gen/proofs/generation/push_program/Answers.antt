@@ -1,10 +1,7 @@
 use Rattle.std.proofs.Common.{◌<◌, ◌∙◌, ◌++◌, List, length, ap, subst, sym, arith}
 use Rattle.std.proofs.lemmas.Result.{on_ok_weaker}
-use Rattle.oat_asm.specs.declared.item.Item.{Item}
-use Rattle.oat_ir.specs.declared.func.Func.{Func}
-use Rattle.oat_gen.proofs.Bounds.{func_among, got, own_labels}
-use Rattle.oat_gen.proofs.Laying.{laid_by}
-use Rattle.oat_gen.proofs.Loops.{both}
+use Rattle.oat_globals.specs.{Item, Func}
+use Rattle.oat_gen.proofs.{Bounds.func_among, Bounds.got, Bounds.own_labels, Laying.laid_by, Loops.both}
 use Rattle.oat_gen.proofs.generation.push_program.Goals as goal
 
 pub push_function-requires-clause-func : goal.push_function-requires-clause-func

@@ -1,6 +1,6 @@
 use Rattle.std.proofs.Common.{◌≡◌, ◌++◌, ◌+◌, ◌≤◌, drop}
 use Rattle.std.specs.List.{sum_by}
-use Rattle.oat_check.specs.Globals.{size_in_words}
+use Rattle.oat_globals.specs.{size_in_words}
 use Rattle.oat_gen.specs.GlobalPlaces.{places_from}
 use Rattle.oat_gen.proofs.globals.global_places.Given as goal
 

@@ -1,7 +1,6 @@
 use Rattle.std.proofs.Common.{◌++◌, subst}
 use Rattle.oat_lines.specs.Fields.{ended}
-use Rattle.oat_image.specs.Grammar.{has_elements, version_line}
-use Rattle.oat_image.specs.Printing.{memory_text, map_text}
+use Rattle.oat_image.specs.{Grammar.has_elements, Grammar.version_line, Printing.memory_text, Printing.map_text}
 use Rattle.oat_image.proofs.Texts.{joined}
 use Rattle.oat_image.proofs.printing.put_image.Goals as goal
 

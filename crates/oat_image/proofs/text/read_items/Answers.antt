@@ -1,7 +1,6 @@
 use Rattle.std.proofs.Common.{None}
 use Rattle.std.proofs.lemmas.Result.{err_from_is_err_and}
-use Rattle.oat_image.specs.Reading.{items_at}
-use Rattle.oat_image.specs.Seen.{seen}
+use Rattle.oat_image.specs.{Reading.items_at, Seen.seen}
 use Rattle.oat_image.proofs.Loop.{goes_on, ends, is_done}
 use Rattle.oat_image.proofs.text.read_items.Goals as goal
 

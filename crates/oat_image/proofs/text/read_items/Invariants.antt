@@ -1,6 +1,5 @@
 use Rattle.std.proofs.Common.{◌≡◌, ◌-◌, None}
-use Rattle.oat_image.specs.Reading.{items_at}
-use Rattle.oat_image.specs.Seen.{seen}
+use Rattle.oat_image.specs.{Reading.items_at, Seen.seen}
 use Rattle.oat_image.proofs.Loop.{with_front}
 use Rattle.oat_image.proofs.text.read_items.Given as goal
 

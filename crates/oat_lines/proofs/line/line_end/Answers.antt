@@ -1,6 +1,5 @@
 use Rattle.std.proofs.Common.{sym, arith}
-use Rattle.std.proofs.lemmas.List.Sums.{position_or_len_is}
-use Rattle.std.proofs.lemmas.Bool.{eq-eqb}
+use Rattle.std.proofs.lemmas.{List.Sums.position_or_len_is, Bool.eq-eqb}
 use Rattle.oat_lines.specs.Lines.{is_line_feed}
 use Rattle.oat_lines.proofs.line.line_end.Goals as goal
 

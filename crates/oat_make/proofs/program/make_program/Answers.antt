@@ -1,8 +1,7 @@
 use Rattle.std.proofs.Common.{◌≡◌, ◌+◌, ◌/◌, ◌%◌, ◌^◌, ◌++◌, pos, suc, ap, ◌∙◌, arith, List, ℕ}
 use Rattle.std.specs.List.{flat_map}
-use Rattle.oat_lines.specs.Fields.{ended}
-use Rattle.oat_make.specs.Drill.{drill_state, stirred}
-use Rattle.oat_make.specs.Text.{helper_lines}
+use Rattle.oat_text.specs.{ended}
+use Rattle.oat_make.specs.{Drill.drill_state, Drill.stirred, Text.helper_lines}
 use Rattle.oat_make.proofs.Made.{so_far, so_far_more, all_made, rest_bytes}
 use Rattle.oat_make.proofs.program.make_program.Goals as goal
 

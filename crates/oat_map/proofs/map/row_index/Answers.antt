@@ -1,6 +1,6 @@
 use Rattle.std.proofs.Common.{of_calls, rules}
-use Rattle.std.proofs.lemmas.List.Sorted.{IsPartitionPoint-from_clause}
 use Rattle.std.specs.Prelude.{nat_lt}
+use Rattle.std.proofs.lemmas.List.Sorted.{IsPartitionPoint-from_clause}
 use Rattle.oat_map.specs.Rows.{address_of}
 use Rattle.oat_map.proofs.RowLemmas.{rows_parted, found_at_point, none_at_point}
 use Rattle.oat_map.proofs.map.row_index.Goals as goal

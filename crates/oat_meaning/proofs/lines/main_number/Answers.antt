@@ -1,5 +1,5 @@
 use Rattle.std.proofs.Common.{◌<◌, ◌∙◌, List, ap, get_or, length, subst, sym}
-use Rattle.oat_ir.specs.declared.func.Func.{Func}
+use Rattle.oat_check.specs.{Func}
 use Rattle.oat_meaning.proofs.MainNumber.{main_found}
 use Rattle.oat_meaning.proofs.lines.main_number.Goals as goal
 

@@ -1,6 +1,5 @@
 use Rattle.std.proofs.Common.{◌≡◌, ◌+◌, ◌++◌, [], ◌∷◌, slice_range, ap, sym, ◌∙◌, append_assoc, arith}
-use Rattle.std.proofs.lemmas.List.Edits.{between_more}
-use Rattle.std.proofs.lemmas.Option.{get_or_from_slice_get}
+use Rattle.std.proofs.lemmas.{List.Edits.between_more, Option.get_or_from_slice_get}
 use Rattle.oat_measure.proofs.shelf.copy_bits.Goals as goal
 
 pub loop-i-preserved : goal.loop-i-preserved

@@ -1,7 +1,6 @@
 use Rattle.std.proofs.Common.{refl, subst, sym, ◌∙◌}
 use Rattle.std.specs.Prelude.{IsTrue}
-use Rattle.oat_measure.specs.declared.opening.Opening.{Opening}
-use Rattle.oat_measure.specs.Shelving.{is_due}
+use Rattle.oat_measure.specs.{declared.opening.Opening.Opening, Shelving.is_due}
 use Rattle.oat_measure.proofs.tests.calls_of_two_windows.Goals as goal
 
 pub next_window-requires : goal.next_window-requires

@@ -1,6 +1,5 @@
+use Rattle.std.proofs.Common.{nat_eq, ◌≡◌, ◌+◌, ◌++◌, ◌∷◌, [], List, ℕ, false, drop, sym, subst}
 use Rattle.std.specs.List.{list_any}
-use Rattle.std.proofs.Common.{nat_eq}
-use Rattle.std.proofs.Common.{◌≡◌, ◌+◌, ◌++◌, ◌∷◌, [], List, ℕ, false, drop, sym, subst}
 use Rattle.oat_owner.specs.Ledger.{repeated_id, repeated_behind, ids_of}
 use Rattle.oat_owner.proofs.Tabling.{was_there, was_new, repeats, goes_on, ids_grow, ids_so_far}
 use Rattle.oat_owner.proofs.device.ids_of.Goals as goal

@@ -1,5 +1,4 @@
-use Rattle.oat_policy.proofs.Spacing.{words_make_the_line}
-use Rattle.oat_policy.proofs.SplitLines.{words_split_the_line}
+use Rattle.oat_policy.proofs.{Spacing.words_make_the_line, SplitLines.words_split_the_line}
 use Rattle.oat_policy.proofs.laws.words_of_lines.Goals as goal
 
 pub returns-clause-made : goal.returns-clause-made

@@ -1,8 +1,7 @@
 use Rattle.std.proofs.Common.{◌<◌, ◌≤◌, List, map, length, ap, sym, ◌∙◌, arith}
 use Rattle.std.proofs.lemmas.List.{length-map}
-use Rattle.oat_lines.specs.Lines.{TextWord}
-use Rattle.oat_policy.specs.EdgeWords.{meets_each}
-use Rattle.oat_policy.specs.Pieces.{path_word}
+use Rattle.oat_report.specs.{TextWord}
+use Rattle.oat_policy.specs.{EdgeWords.meets_each, Pieces.path_word}
 use Rattle.oat_policy.proofs.Meeting.{not_as_many, one_met, one_not_met, all_met}
 use Rattle.oat_policy.proofs.matching.meets_each.Goals as goal
 

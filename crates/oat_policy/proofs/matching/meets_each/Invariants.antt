@@ -1,6 +1,5 @@
 use Rattle.std.proofs.Common.{◌≡◌, map, drop}
-use Rattle.oat_policy.specs.EdgeWords.{meets_each}
-use Rattle.oat_policy.specs.Pieces.{path_word}
+use Rattle.oat_policy.specs.{EdgeWords.meets_each, Pieces.path_word}
 use Rattle.oat_policy.proofs.matching.meets_each.Given as goal
 
 abbrev pub invariant-loop-i : goal.invariant-loop-i

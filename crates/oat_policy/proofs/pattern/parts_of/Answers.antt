@@ -1,5 +1,5 @@
 use Rattle.std.proofs.Common.{List, [], ◌∷◌, ◌++◌, sym, ap, ◌∙◌}
-use Rattle.oat_lines.specs.Lines.{TextWord}
+use Rattle.oat_report.specs.{TextWord}
 use Rattle.oat_policy.specs.Reading.{parts_of}
 use Rattle.oat_policy.proofs.Loop.{shorter, part_taken, last_part}
 use Rattle.oat_policy.proofs.pattern.parts_of.Goals as goal

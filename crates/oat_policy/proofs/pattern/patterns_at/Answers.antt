@@ -1,6 +1,6 @@
 use Rattle.std.proofs.Common.{List, ap, ◌∙◌}
 use Rattle.std.proofs.lemmas.Result.{err_from_is_err_and}
-use Rattle.oat_lines.specs.Lines.{TextWord, words_of}
+use Rattle.oat_report.specs.{TextWord, words_of}
 use Rattle.oat_policy.specs.Reading.{patterns_at}
 use Rattle.oat_policy.proofs.Loop.{onto, pattern_taken, pattern_fails, all_taken}
 use Rattle.oat_policy.proofs.pattern.patterns_at.Goals as goal

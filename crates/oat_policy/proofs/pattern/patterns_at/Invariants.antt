@@ -1,5 +1,5 @@
 use Rattle.std.proofs.Common.{◌≡◌, length}
-use Rattle.oat_lines.specs.Lines.{words_of}
+use Rattle.oat_report.specs.{words_of}
 use Rattle.oat_policy.specs.Reading.{patterns_at}
 use Rattle.oat_policy.proofs.Loop.{onto}
 use Rattle.oat_policy.proofs.pattern.patterns_at.Given as goal

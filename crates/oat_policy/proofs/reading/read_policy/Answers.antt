@@ -1,8 +1,6 @@
 use Rattle.std.proofs.Common.{List, Ok, ap, sym, ◌∙◌, arith}
-use Rattle.std.proofs.lemmas.Bool.{eqb-true}
-use Rattle.std.proofs.lemmas.Result.{err_from_is_err_and}
-use Rattle.oat_policy.specs.declared.policy.PolicyRule.{PolicyRule}
-use Rattle.oat_policy.specs.Reading.{policy_of}
+use Rattle.std.proofs.lemmas.{Bool.eqb-true, Result.err_from_is_err_and}
+use Rattle.oat_policy.specs.{declared.policy.PolicyRule.PolicyRule, Reading.policy_of}
 use Rattle.oat_policy.proofs.Loop.{next_line, stops, is_done}
 use Rattle.oat_policy.proofs.reading.read_policy.Goals as goal
 

@@ -1,6 +1,5 @@
 use Rattle.std.proofs.Common.{◌≡◌, length, map, take}
-use Rattle.oat_policy.specs.EdgeWords.{meets_each}
-use Rattle.oat_policy.specs.Pieces.{path_word}
+use Rattle.oat_policy.specs.{EdgeWords.meets_each, Pieces.path_word}
 use Rattle.oat_policy.proofs.recent.meet.Given as goal
 
 abbrev pub invariant-loop-i : goal.invariant-loop-i

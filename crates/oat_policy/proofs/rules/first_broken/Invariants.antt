@@ -1,8 +1,6 @@
 use Rattle.std.proofs.Common.{◌≡◌, List, length, drop}
-use Rattle.oat_map.specs.declared.edge.Edge.{Edge}
-use Rattle.oat_map.specs.declared.map.Map.{Map}
-use Rattle.oat_policy.specs.Standing.{standings}
-use Rattle.oat_policy.specs.Verdict.{verdict_of}
+use Rattle.oat_report.specs.{Edge, Map}
+use Rattle.oat_policy.specs.{Standing.standings, Verdict.verdict_of}
 use Rattle.oat_policy.proofs.rules.first_broken.Given as goal
 
 abbrev pub invariant-loop-i : goal.invariant-loop-i

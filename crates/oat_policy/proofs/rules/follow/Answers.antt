@@ -1,10 +1,7 @@
 use Rattle.std.proofs.Common.{◌≡◌, ◌<◌, ◌+◌, ◌++◌, List, length, drop, get_or, ap, ◌∙◌, arith}
 use Rattle.std.proofs.lemmas.List.{drop_more}
-use Rattle.oat_policy.specs.declared.policy.PolicyRule.{PolicyRule}
-use Rattle.oat_policy.specs.EdgeWords.{edge_words}
-use Rattle.oat_policy.specs.Standing.{all_patterns, met_of, patterns_of}
-use Rattle.oat_policy.proofs.Standings.{stands_there, one_followed}
-use Rattle.oat_policy.proofs.Parting.{parted, enough}
+use Rattle.oat_policy.specs.{declared.policy.PolicyRule.PolicyRule, EdgeWords.edge_words, Standing.all_patterns, Standing.met_of, Standing.patterns_of}
+use Rattle.oat_policy.proofs.{Standings.stands_there, Standings.one_followed, Parting.parted, Parting.enough}
 use Rattle.oat_policy.proofs.rules.follow.Goals as goal
 
 pub loop-i-preserved : goal.loop-i-preserved

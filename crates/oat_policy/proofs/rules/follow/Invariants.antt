@@ -1,8 +1,6 @@
 use Rattle.std.proofs.Common.{◌≡◌, List, drop}
-use Rattle.oat_map.specs.declared.map.Map.{Map}
-use Rattle.oat_map.specs.declared.edge.Edge.{Edge}
-use Rattle.oat_policy.specs.EdgeWords.{edge_words}
-use Rattle.oat_policy.specs.Standing.{standings, all_patterns, met_of, ComesNext}
+use Rattle.oat_report.specs.{Map, Edge}
+use Rattle.oat_policy.specs.{EdgeWords.edge_words, Standing.standings, Standing.all_patterns, Standing.met_of, Standing.ComesNext}
 use Rattle.oat_policy.proofs.Standings.{Followed}
 use Rattle.oat_policy.proofs.rules.follow.Given as goal
 

@@ -1,10 +1,9 @@
 use Rattle.std.proofs.Common.{◌≡◌, ◌+◌, ◌++◌, ◌∷◌, [], true, refl, sym, ap, ◌∙◌, arith, length-append}
 use Rattle.std.specs.Prelude.{is_ok}
 use Rattle.oat_map.specs.Walk.{path_of, passed, moved}
+use Rattle.oat_replay.proofs.{WalkSoFar.path-push, WalkSoFar.path-pass, path.walk.Goals.in-Moved+else-is_err, path.walk.Goals.in-Passed}
 use Rattle.oat_replay.proofs.ReplayLemmas as lemmas
-use Rattle.oat_replay.proofs.WalkSoFar.{path-push, path-pass}
 use Rattle.oat_replay.proofs.path.walk.Goals as goal
-use Rattle.oat_replay.proofs.path.walk.Goals.{in-Moved+else-is_err, in-Passed}
 
 pub loop-turn-init : goal.loop-turn-init
 loop-turn-init g c = record { steps = []; behind = c.in-Ok.ensures _ _; path_is = c.new-path.ensures.items; turn_is = refl }

@@ -1,6 +1,5 @@
 use Rattle.std.proofs.Common.{ℕ, List, ◌++◌, ap, subst, sym, ◌∙◌}
-use Rattle.oat_report.specs.VerdictLine.{cause_text}
-use Rattle.oat_report.specs.JsonLine.{IsPlainText}
+use Rattle.oat_report.specs.{VerdictLine.cause_text, JsonLine.IsPlainText}
 use Rattle.oat_report.proofs.PlainTexts.{cause_is_plain}
 use Rattle.oat_report.proofs.json_report.cause_value.Goals as goal
 

@@ -1,6 +1,5 @@
 use Rattle.std.proofs.Common.{◌∙◌, ap}
-use Rattle.serde_json.specs.Data.{object}
-use Rattle.serde_json.specs.Written.{has_float, compact_text}
+use Rattle.serde_json.specs.{Data.object, Written.has_float, Written.compact_text}
 use Rattle.serde_json.proofs.Views.{view-Object}
 use Rattle.oat_report.proofs.JsonTexts.{report_said, report_whole}
 use Rattle.oat_report.proofs.json_report.json_line.Goals as goal

@@ -1,7 +1,6 @@
-use Rattle.std.proofs.lemmas.Int.{to_z-of_z}
 use Rattle.std.proofs.Common.{rules, w64, get_or, ◌≡◌, ◌∙◌, ◌+◌, pos, List, map, take, ap, sym, subst}
-use Rattle.serde_json.specs.View.{view}
-use Rattle.serde_json.specs.declared.value.Value.{Value}
+use Rattle.std.proofs.lemmas.Int.{to_z-of_z}
+use Rattle.serde_json.specs.{View.view, declared.value.Value.Value}
 use Rattle.oat_report.specs.JsonData.{number_data}
 use Rattle.oat_report.proofs.JsonTexts.{value_more, values_all}
 use Rattle.oat_report.proofs.json_report.outputs_value.Goals as goal

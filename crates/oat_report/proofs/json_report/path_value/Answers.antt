@@ -1,8 +1,6 @@
 use Rattle.std.proofs.Common.{◌≡◌, ◌∙◌, ◌+◌, List, map, take, ap, sym, subst}
-use Rattle.serde_json.specs.Data.{string}
+use Rattle.serde_json.specs.{Data.string, View.view, declared.value.Value.Value}
 use Rattle.oat_report.specs.JsonLine.{IsPlainText}
-use Rattle.serde_json.specs.View.{view}
-use Rattle.serde_json.specs.declared.value.Value.{Value}
 use Rattle.oat_report.proofs.JsonTexts.{plain_at, value_more, values_all}
 use Rattle.oat_report.proofs.json_report.path_value.Goals as goal
 

@@ -1,6 +1,5 @@
 use Rattle.std.proofs.Common.{◌≡◌, filter, fold, drop, nat_le, None}
-use Rattle.oat_map.specs.Rows.{entries_of}
-use Rattle.oat_map.specs.EdgeName.{later_of}
+use Rattle.oat_verify.specs.{entries_of, later_of}
 use Rattle.oat_report.proofs.place.greatest_entry.Given as goal
 
 abbrev pub invariant-loop-function : goal.invariant-loop-function

@@ -1,6 +1,5 @@
 use Rattle.std.proofs.Common.{◌≡◌, filter, fold, drop, nat_le}
-use Rattle.oat_map.specs.Rows.{starts_of}
-use Rattle.oat_map.specs.EdgeName.{later_of}
+use Rattle.oat_verify.specs.{starts_of, later_of}
 use Rattle.oat_report.proofs.place.greatest_start.Given as goal
 
 abbrev pub invariant-loop-block : goal.invariant-loop-block

@@ -1,7 +1,6 @@
 use Rattle.std.proofs.Common.{take}
 use Rattle.std.specs.List.{All}
-use Rattle.oat_map.specs.Name.{IsName}
-use Rattle.oat_map.specs.declared.map.Block.{Block}
+use Rattle.oat_verify.specs.{IsName, Block}
 use Rattle.oat_report.proofs.typed.look_at_blocks.Given as goal
 
 abbrev pub invariant-loop-block : goal.invariant-loop-block

@@ -1,9 +1,7 @@
 use Rattle.std.proofs.Common.{subst}
 use Rattle.std.specs.List.{All}
-use Rattle.std.proofs.lemmas.List.{take_all}
-use Rattle.std.proofs.lemmas.List.Elements.{All-more}
-use Rattle.oat_map.specs.Name.{IsName}
-use Rattle.oat_map.specs.declared.map.Function.{Function}
+use Rattle.std.proofs.lemmas.{List.take_all, List.Elements.All-more}
+use Rattle.oat_verify.specs.{IsName, Function}
 use Rattle.oat_report.proofs.typed.look_at_functions.Goals as goal
 
 abbrev HasFunctionName : Function → Type 0

@@ -1,7 +1,6 @@
 use Rattle.std.proofs.Common.{take}
 use Rattle.std.specs.List.{All}
-use Rattle.oat_map.specs.Name.{IsName}
-use Rattle.oat_map.specs.declared.map.Function.{Function}
+use Rattle.oat_verify.specs.{IsName, Function}
 use Rattle.oat_report.proofs.typed.look_at_functions.Given as goal
 
 abbrev pub invariant-loop-function : goal.invariant-loop-function

@@ -1,9 +1,6 @@
 use Rattle.std.proofs.Common.{◌<◌, ◌^◌, length, List, subst}
 use Rattle.std.specs.List.{All}
-use Rattle.oat_map.specs.Name.{IsName}
-use Rattle.oat_map.specs.declared.map.Block.{Block}
-use Rattle.oat_map.specs.declared.map.Function.{Function}
-use Rattle.oat_map.specs.declared.row.Row.{Row}
+use Rattle.oat_verify.specs.{IsName, Block, Function, Row}
 use Rattle.oat_report.specs.SameLines.{BeginsShort}
 use Rattle.oat_report.proofs.typed.look_at_map.Goals as goal
 

@@ -1,8 +1,7 @@
 use Rattle.std.proofs.Common.{get_or, subst}
 use Rattle.std.specs.List.{All}
-use Rattle.std.proofs.lemmas.List.{take_all}
-use Rattle.std.proofs.lemmas.List.Elements.{All-more}
-use Rattle.oat_map.specs.declared.row.Row.TheVariants.{Jump}
+use Rattle.std.proofs.lemmas.{List.take_all, List.Elements.All-more}
+use Rattle.oat_verify.specs.{Jump}
 use Rattle.oat_report.specs.SameLines.{BeginsShort}
 use Rattle.oat_report.proofs.typed.look_at_rows.Goals as goal
 

@@ -1,8 +1,6 @@
 use Rattle.std.proofs.Common.{refl, sym, ◌∙◌, arith}
-use Rattle.std.proofs.lemmas.Bool.{eqb-true}
-use Rattle.std.proofs.lemmas.Result.{err_from_is_err_and}
-use Rattle.oat_script.specs.Draft.{read_so_far}
-use Rattle.oat_script.specs.Reading.{script_of}
+use Rattle.std.proofs.lemmas.{Bool.eqb-true, Result.err_from_is_err_and}
+use Rattle.oat_script.specs.{Draft.read_so_far, Reading.script_of}
 use Rattle.oat_script.proofs.Loop.{next_line, stops, is_done}
 use Rattle.oat_script.proofs.reading.read_script.Goals as goal
 

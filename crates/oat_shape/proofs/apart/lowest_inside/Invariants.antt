@@ -1,5 +1,4 @@
-use Rattle.oat_shape.specs.Shape.{CutsNoGroup}
-use Rattle.oat_shape.specs.Lowest.{Lowest, EachBelow}
+use Rattle.oat_shape.specs.{Shape.CutsNoGroup, Lowest.Lowest, Lowest.EachBelow}
 use Rattle.oat_shape.proofs.apart.lowest_inside.Given as goal
 
 abbrev pub invariant-loop-place : goal.invariant-loop-place

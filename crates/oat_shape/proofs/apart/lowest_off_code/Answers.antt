@@ -1,6 +1,6 @@
 use Rattle.std.proofs.Common.{get_or, refl}
-use Rattle.std.proofs.lemmas.Option.{slice_get-get_or}
 use Rattle.std.specs.Option.{IsSome}
+use Rattle.std.proofs.lemmas.Option.{slice_get-get_or}
 use Rattle.oat_a64.specs.Step.{word_at}
 use Rattle.oat_shape.proofs.Scans.{scan_none, scan_noted, scan_all}
 use Rattle.oat_shape.proofs.apart.lowest_off_code.Goals as goal

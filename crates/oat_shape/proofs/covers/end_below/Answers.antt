@@ -1,7 +1,7 @@
 use Rattle.std.proofs.Common.{arith, rules}
 use Rattle.std.proofs.Math.Dec.{ltb}
 use Rattle.std.proofs.lemmas.List.Sorted.{IsPartitionPoint-from_clause, IsPartitionedBy-ltb}
-use Rattle.oat_map.specs.Rows.{address_of}
+use Rattle.oat_image.specs.{address_of}
 use Rattle.oat_shape.proofs.LastGroups.{rows_rise, ends_none, ends_some}
 use Rattle.oat_shape.proofs.covers.end_below.Goals as goal
 

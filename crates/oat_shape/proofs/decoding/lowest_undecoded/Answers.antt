@@ -1,8 +1,7 @@
 use Rattle.std.proofs.Common.{◌+◌, ◌*◌, get_or, arith}
 use Rattle.std.specs.Option.{IsSome}
 use Rattle.std.proofs.lemmas.Option.{slice_get-get_or}
-use Rattle.oat_a64.specs.Fetch.{inst_of}
-use Rattle.oat_a64.specs.Step.{code_base}
+use Rattle.oat_a64.specs.{Fetch.inst_of, Step.code_base}
 use Rattle.oat_shape.proofs.Scans.{scan_none, scan_noted, scan_all}
 use Rattle.oat_shape.proofs.decoding.lowest_undecoded.Goals as goal
 

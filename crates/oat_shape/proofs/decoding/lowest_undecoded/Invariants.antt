@@ -1,7 +1,6 @@
 use Rattle.std.proofs.Common.{◌≡◌, ◌+◌, ◌*◌}
 use Rattle.std.specs.Option.{IsSome}
-use Rattle.oat_a64.specs.Fetch.{inst_of}
-use Rattle.oat_a64.specs.Step.{code_base}
+use Rattle.oat_a64.specs.{Fetch.inst_of, Step.code_base}
 use Rattle.oat_shape.specs.Lowest.{Lowest, EachBelow}
 use Rattle.oat_shape.proofs.decoding.lowest_undecoded.Given as goal
 

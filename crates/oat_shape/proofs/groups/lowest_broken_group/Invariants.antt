@@ -1,6 +1,5 @@
-use Rattle.oat_map.specs.Rows.{address_of}
-use Rattle.oat_shape.specs.Lowest.{Lowest, EachBelow}
-use Rattle.oat_shape.specs.Groups.{IsGroup}
+use Rattle.oat_image.specs.{address_of}
+use Rattle.oat_shape.specs.{Lowest.Lowest, Lowest.EachBelow, Groups.IsGroup}
 use Rattle.oat_shape.proofs.groups.lowest_broken_group.Given as goal
 
 abbrev pub invariant-loop-row : goal.invariant-loop-row

@@ -1,7 +1,6 @@
 use Rattle.std.proofs.Common.{get_or}
 use Rattle.std.proofs.lemmas.Option.{slice_get-get_or}
-use Rattle.oat_map.specs.declared.row.Row.TheVariants.{Jump}
-use Rattle.oat_map.specs.Rows.{address_of}
+use Rattle.oat_image.specs.{Jump, address_of}
 use Rattle.oat_shape.specs.MapRules.{LeadsToPlaces}
 use Rattle.oat_shape.proofs.Scans.{scan_none, scan_noted, scan_all}
 use Rattle.oat_shape.proofs.leads.lowest_misled.Goals as goal

@@ -1,6 +1,5 @@
-use Rattle.oat_map.specs.Rows.{address_of}
-use Rattle.oat_shape.specs.Lowest.{Lowest, EachBelow}
-use Rattle.oat_shape.specs.MapRules.{LeadsToPlaces}
+use Rattle.oat_image.specs.{address_of}
+use Rattle.oat_shape.specs.{Lowest.Lowest, Lowest.EachBelow, MapRules.LeadsToPlaces}
 use Rattle.oat_shape.proofs.leads.lowest_misled.Given as goal
 
 abbrev pub invariant-loop-row : goal.invariant-loop-row

@@ -1,10 +1,9 @@
 use Rattle.std.proofs.Common.{refl, arith}
 use Rattle.std.proofs.lemmas.Option.{slice_get_read}
-use Rattle.oat_map.specs.declared.map.Block.{Block}
+use Rattle.oat_image.specs.{Block}
 use Rattle.oat_shape.specs.Parts.{HaveOneLabel, IsFirst, LiesInFunction}
-use Rattle.oat_shape.proofs.Loops.{Seen-none, Seen-more, added_key, fresh_iff}
-use Rattle.oat_shape.proofs.NameRules.{label_cmp, is_label_key, label_at_key, key_at_label, key_of_label}
-use Rattle.oat_shape.proofs.Scans.{scan_none, scan_noted_both, scan_all}
+use Rattle.oat_shape.proofs.{Loops.Seen-none, Loops.Seen-more, Loops.added_key, Loops.fresh_iff, NameRules.label_cmp, NameRules.is_label_key, NameRules.label_at_key, NameRules.key_at_label}
+use Rattle.oat_shape.proofs.{NameRules.key_of_label, Scans.scan_none, Scans.scan_noted_both, Scans.scan_all}
 use Rattle.oat_shape.proofs.named.lowest_misplaced.Goals as goal
 
 pub loop-block-init : goal.loop-block-init

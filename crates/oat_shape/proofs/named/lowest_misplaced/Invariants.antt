@@ -1,7 +1,5 @@
-use Rattle.oat_shape.specs.Lowest.{Lowest, EachBelow}
-use Rattle.oat_shape.specs.Parts.{HaveOneLabel, IsFirst, LiesInFunction}
-use Rattle.oat_shape.proofs.Loops.{Seen}
-use Rattle.oat_shape.proofs.NameRules.{label_cmp, is_label_key}
+use Rattle.oat_shape.specs.{Lowest.Lowest, Lowest.EachBelow, Parts.HaveOneLabel, Parts.IsFirst, Parts.LiesInFunction}
+use Rattle.oat_shape.proofs.{Loops.Seen, NameRules.label_cmp, NameRules.is_label_key}
 use Rattle.oat_shape.proofs.named.lowest_misplaced.Given as goal
 
 abbrev pub invariant-loop-block : goal.invariant-loop-block

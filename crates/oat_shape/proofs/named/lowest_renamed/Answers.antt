@@ -1,10 +1,9 @@
 use Rattle.std.proofs.Common.{refl, arith}
 use Rattle.std.proofs.lemmas.Option.{slice_get_read}
-use Rattle.oat_map.specs.declared.map.Function.{Function}
+use Rattle.oat_image.specs.{Function}
 use Rattle.oat_shape.specs.Parts.{HaveOneName, IsFirst}
-use Rattle.oat_shape.proofs.Loops.{Seen-none, Seen-more, added_key, fresh_iff}
-use Rattle.oat_shape.proofs.NameRules.{text_cmp, is_key_of, name_at_key, key_at_name, key_of_name}
-use Rattle.oat_shape.proofs.Scans.{scan_none, scan_noted, scan_all}
+use Rattle.oat_shape.proofs.{Loops.Seen-none, Loops.Seen-more, Loops.added_key, Loops.fresh_iff, NameRules.text_cmp, NameRules.is_key_of, NameRules.name_at_key, NameRules.key_at_name}
+use Rattle.oat_shape.proofs.{NameRules.key_of_name, Scans.scan_none, Scans.scan_noted, Scans.scan_all}
 use Rattle.oat_shape.proofs.named.lowest_renamed.Goals as goal
 
 pub loop-function-init : goal.loop-function-init

@@ -1,7 +1,5 @@
-use Rattle.oat_shape.specs.Lowest.{Lowest, EachBelow}
-use Rattle.oat_shape.specs.Parts.{HaveOneName, IsFirst}
-use Rattle.oat_shape.proofs.Loops.{Seen}
-use Rattle.oat_shape.proofs.NameRules.{text_cmp, is_key_of}
+use Rattle.oat_shape.specs.{Lowest.Lowest, Lowest.EachBelow, Parts.HaveOneName, Parts.IsFirst}
+use Rattle.oat_shape.proofs.{Loops.Seen, NameRules.text_cmp, NameRules.is_key_of}
 use Rattle.oat_shape.proofs.named.lowest_renamed.Given as goal
 
 abbrev pub invariant-loop-function : goal.invariant-loop-function

@@ -1,11 +1,8 @@
 use Rattle.std.proofs.Common.{get_or, arith, nat_cmp}
 use Rattle.std.proofs.lemmas.Option.{slice_get-get_or}
-use Rattle.oat_map.specs.declared.row.Row.TheVariants.{Jump}
-use Rattle.oat_map.specs.Rows.{address_of, begins}
+use Rattle.oat_image.specs.{Jump, address_of, begins}
 use Rattle.oat_shape.specs.Parts.{BeginsFirst, EndIsBegun}
-use Rattle.oat_shape.proofs.Loops.{Seen-none, Seen-more}
-use Rattle.oat_shape.proofs.RowRules.{first_iff, end_iff}
-use Rattle.oat_shape.proofs.Scans.{scan_none, scan_noted_both, scan_all}
+use Rattle.oat_shape.proofs.{Loops.Seen-none, Loops.Seen-more, RowRules.first_iff, RowRules.end_iff, Scans.scan_none, Scans.scan_noted_both, Scans.scan_all}
 use Rattle.oat_shape.proofs.paired.lowest_unpaired.Goals as goal
 
 pub loop-row-init : goal.loop-row-init

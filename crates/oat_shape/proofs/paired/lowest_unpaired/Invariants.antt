@@ -1,7 +1,6 @@
 use Rattle.std.specs.Ordering.{nat_cmp}
-use Rattle.oat_map.specs.Rows.{address_of, begins}
-use Rattle.oat_shape.specs.Lowest.{Lowest, EachBelow}
-use Rattle.oat_shape.specs.Parts.{BeginsFirst, EndIsBegun}
+use Rattle.oat_image.specs.{address_of, begins}
+use Rattle.oat_shape.specs.{Lowest.Lowest, Lowest.EachBelow, Parts.BeginsFirst, Parts.EndIsBegun}
 use Rattle.oat_shape.proofs.Loops.{Seen}
 use Rattle.oat_shape.proofs.paired.lowest_unpaired.Given as goal
 

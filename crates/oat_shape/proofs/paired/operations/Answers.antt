@@ -1,9 +1,7 @@
 use Rattle.std.proofs.Common.{ap, ◌∙◌, nat_cmp}
 use Rattle.std.specs.List.{list_any}
-use Rattle.std.proofs.lemmas.List.{take_all}
-use Rattle.std.proofs.lemmas.Option.{slice_get-get_or}
-use Rattle.oat_map.specs.declared.row.Row.TheVariants.{Jump}
-use Rattle.oat_map.specs.Rows.{begins}
+use Rattle.std.proofs.lemmas.{List.take_all, Option.slice_get-get_or}
+use Rattle.oat_image.specs.{Jump, begins}
 use Rattle.oat_shape.proofs.Loops.{Seen-none, Seen-more}
 use Rattle.oat_shape.proofs.paired.operations.Goals as goal
 

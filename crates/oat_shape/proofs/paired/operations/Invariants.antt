@@ -1,5 +1,5 @@
 use Rattle.std.specs.Ordering.{nat_cmp}
-use Rattle.oat_map.specs.Rows.{begins}
+use Rattle.oat_image.specs.{begins}
 use Rattle.oat_shape.proofs.Loops.{Seen}
 use Rattle.oat_shape.proofs.paired.operations.Given as goal
 

@@ -1,10 +1,8 @@
 use Rattle.std.proofs.Common.{get_or}
 use Rattle.std.proofs.lemmas.Option.{slice_get-get_or}
-use Rattle.oat_map.specs.declared.row.Row.TheVariants.{Jump}
-use Rattle.oat_map.specs.Rows.{address_of}
+use Rattle.oat_image.specs.{Jump, address_of}
 use Rattle.oat_shape.specs.Parts.{IsBehind}
-use Rattle.oat_shape.proofs.RowRules.{ends_at_first, ends_at_next, behind_iff}
-use Rattle.oat_shape.proofs.Scans.{scan_none, scan_noted, scan_all}
+use Rattle.oat_shape.proofs.{RowRules.ends_at_first, RowRules.ends_at_next, RowRules.behind_iff, Scans.scan_none, Scans.scan_noted, Scans.scan_all}
 use Rattle.oat_shape.proofs.rises.lowest_overlap.Goals as goal
 
 pub loop-row-init : goal.loop-row-init

@@ -1,6 +1,5 @@
-use Rattle.oat_map.specs.Rows.{address_of}
-use Rattle.oat_shape.specs.Lowest.{Lowest, EachBelow}
-use Rattle.oat_shape.specs.Parts.{IsBehind}
+use Rattle.oat_image.specs.{address_of}
+use Rattle.oat_shape.specs.{Lowest.Lowest, Lowest.EachBelow, Parts.IsBehind}
 use Rattle.oat_shape.proofs.RowRules.{EndsBefore}
 use Rattle.oat_shape.proofs.rises.lowest_overlap.Given as goal
 

@@ -1,5 +1,4 @@
-use Rattle.oat_shape.specs.MapRules.{S2, S4}
-use Rattle.oat_shape.specs.Shape.{S1, S3}
+use Rattle.oat_shape.specs.{MapRules.S2, MapRules.S4, Shape.S1, Shape.S3}
 use Rattle.oat_shape.proofs.BrokenRules.{here, later, others_decide}
 use Rattle.oat_shape.proofs.rules.first_broken.Goals as goal
 

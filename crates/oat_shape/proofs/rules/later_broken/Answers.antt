@@ -1,5 +1,4 @@
-use Rattle.oat_shape.specs.MapRules.{S7, S8}
-use Rattle.oat_shape.specs.Shape.{S5, S6}
+use Rattle.oat_shape.specs.{MapRules.S7, MapRules.S8, Shape.S5, Shape.S6}
 use Rattle.oat_shape.proofs.BrokenRules.{here, later}
 use Rattle.oat_shape.proofs.rules.later_broken.Goals as goal
 

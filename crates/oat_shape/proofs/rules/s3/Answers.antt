@@ -1,6 +1,5 @@
 use Rattle.std.proofs.Common.{Option, ℕ, sym, subst}
-use Rattle.oat_shape.specs.Lowest.{Lowest}
-use Rattle.oat_shape.specs.Shape.{S3}
+use Rattle.oat_shape.specs.{Lowest.Lowest, Shape.S3}
 use Rattle.oat_shape.proofs.PlaceRules.{are_apart, s3_from}
 use Rattle.oat_shape.proofs.rules.s3.Goals as goal
 

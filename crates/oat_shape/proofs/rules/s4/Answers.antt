@@ -1,5 +1,5 @@
 use Rattle.std.proofs.Common.{◌∙◌, ap}
-use Rattle.oat_map.specs.Rows.{entries_of, starts_of}
+use Rattle.oat_image.specs.{entries_of, starts_of}
 use Rattle.oat_shape.proofs.RowRules.{s4_from}
 use Rattle.oat_shape.proofs.rules.s4.Goals as goal
 

@@ -1,9 +1,6 @@
 use Rattle.std.proofs.Common.{ℕ, List, Option, sym, ◌∙◌, ap, subst}
-use Rattle.oat_map.specs.declared.row.Row.{Row}
-use Rattle.oat_map.specs.Rows.{entries_of, starts_of}
-use Rattle.oat_shape.specs.Lowest.{Lowest, EachAt, lower}
-use Rattle.oat_shape.specs.Shape.{CutsNoGroup}
-use Rattle.oat_shape.specs.Shape.{S5}
+use Rattle.oat_image.specs.{Row, entries_of, starts_of}
+use Rattle.oat_shape.specs.{Lowest.Lowest, Lowest.EachAt, Lowest.lower, Shape.CutsNoGroup, Shape.S5}
 use Rattle.oat_shape.proofs.PlaceRules.{are_apart, places_from}
 use Rattle.oat_shape.proofs.rules.s5.Goals as goal
 

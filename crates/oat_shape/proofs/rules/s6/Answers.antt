@@ -1,9 +1,8 @@
 use Rattle.std.proofs.Common.{ℕ, List, Option, sym, ◌∙◌, ap, subst}
 use Rattle.std.specs.Option.{IsSome}
 use Rattle.oat_a64.specs.Step.{word_at}
-use Rattle.oat_map.specs.Rows.{entries_of, starts_of}
-use Rattle.oat_shape.specs.Lowest.{Lowest, EachAt, lower}
-use Rattle.oat_shape.specs.Shape.{S6}
+use Rattle.oat_image.specs.{entries_of, starts_of}
+use Rattle.oat_shape.specs.{Lowest.Lowest, Lowest.EachAt, Lowest.lower, Shape.S6}
 use Rattle.oat_shape.proofs.PlaceRules.{places_from}
 use Rattle.oat_shape.proofs.rules.s6.Goals as goal
 

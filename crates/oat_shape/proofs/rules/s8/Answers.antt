@@ -1,8 +1,7 @@
 use Rattle.std.proofs.Common.{sym, ◌∙◌, ap, subst}
 use Rattle.std.specs.List.Sorted.{IsStrictlyIncreasing}
-use Rattle.oat_map.specs.Rows.{entries_of}
-use Rattle.oat_shape.specs.Lowest.{Lowest}
-use Rattle.oat_shape.specs.MapRules.{S8}
+use Rattle.oat_image.specs.{entries_of}
+use Rattle.oat_shape.specs.{Lowest.Lowest, MapRules.S8}
 use Rattle.oat_shape.proofs.NameRules.{s8_from}
 use Rattle.oat_shape.proofs.rules.s8.Goals as goal
 

@@ -1,7 +1,6 @@
 use Rattle.std.proofs.Common.{◌≡◌, ◌+◌, ◌*◌}
 use Rattle.oat_a64.specs.Step.{code_base}
-use Rattle.oat_shape.specs.Lowest.{Lowest, EachBelow}
-use Rattle.oat_shape.specs.Parts.{StandsInGroup}
+use Rattle.oat_shape.specs.{Lowest.Lowest, Lowest.EachBelow, Parts.StandsInGroup}
 use Rattle.oat_shape.proofs.transfers.lowest_loose_transfer.Given as goal
 
 abbrev pub invariant-loop-word : goal.invariant-loop-word

@@ -1,6 +1,5 @@
 use Rattle.std.proofs.Common.{sym, ◌∙◌}
-use Rattle.std.proofs.lemmas.Bool.{eqb-true}
-use Rattle.std.proofs.lemmas.Result.{err_from_is_err_and}
+use Rattle.std.proofs.lemmas.{Bool.eqb-true, Result.err_from_is_err_and}
 use Rattle.oat_text.proofs.Passing.{next_line, stops, ended}
 use Rattle.oat_text.proofs.pass.go_over.Goals as goal
 

@@ -1,6 +1,5 @@
 use Rattle.std.proofs.Common.{◌≡◌, ◌++◌, take}
-use Rattle.oat_text.specs.Grammar.{local_at}
-use Rattle.oat_text.specs.Printing.{words_behind}
+use Rattle.oat_text.specs.{Grammar.local_at, Printing.words_behind}
 use Rattle.oat_text.proofs.printing.put_arguments.Given as goal
 
 abbrev pub invariant-loop-arg : goal.invariant-loop-arg

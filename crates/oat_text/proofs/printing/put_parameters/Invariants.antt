@@ -1,6 +1,5 @@
 use Rattle.std.proofs.Common.{◌≡◌, ◌++◌, take}
-use Rattle.oat_text.specs.Grammar.{parameter}
-use Rattle.oat_text.specs.Printing.{words_behind}
+use Rattle.oat_text.specs.{Grammar.parameter, Printing.words_behind}
 use Rattle.oat_text.proofs.printing.put_parameters.Given as goal
 
 abbrev pub invariant-loop-local : goal.invariant-loop-local

@@ -2,8 +2,7 @@ use Rattle.std.proofs.Common.{refl}
 use Rattle.std.proofs.lemmas.Result.{err_from_is_err_and}
 use Rattle.oat_lines.specs.Lines.{lines_of}
 use Rattle.oat_lines.proofs.Steps.{fails_as}
-use Rattle.oat_text.specs.Passes.{numbered, over}
-use Rattle.oat_text.specs.Outline.{nothing, outline_line, outline_of}
+use Rattle.oat_text.specs.{Passes.numbered, Passes.over, Outline.nothing, Outline.outline_line, Outline.outline_of}
 use Rattle.oat_text.proofs.reading.outline_in.Goals as goal
 
 pub returns-in_err-end : goal.returns-in_err-end

@@ -1,5 +1,4 @@
-use Rattle.oat_text.proofs.ReadBack.{is_only}
-use Rattle.oat_text.proofs.ReadTexts.{is_found}
+use Rattle.oat_text.proofs.{ReadBack.is_only, ReadTexts.is_found}
 use Rattle.oat_text.proofs.reading.read_program.Goals as goal
 
 pub returns-clause-found : goal.returns-clause-found

@@ -1,6 +1,6 @@
 use Rattle.std.proofs.Common.{List, ℕ, sym, subst, take}
+use Rattle.oat_shape.specs.{returns_of}
 use Rattle.oat_chain.specs.Standing.{StandsFor}
-use Rattle.oat_map.specs.Walk.{returns_of}
 use Rattle.oat_verify.proofs.Returns.{returns_of_more}
 use Rattle.oat_verify.proofs.judging.hash_of.Goals as goal
 

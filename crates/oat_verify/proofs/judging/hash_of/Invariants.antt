@@ -1,6 +1,6 @@
 use Rattle.std.proofs.Common.{take}
+use Rattle.oat_shape.specs.{returns_of}
 use Rattle.oat_chain.specs.Standing.{StandsFor}
-use Rattle.oat_map.specs.Walk.{returns_of}
 use Rattle.oat_verify.proofs.judging.hash_of.Given as goal
 
 abbrev pub invariant-loop-edge : goal.invariant-loop-edge

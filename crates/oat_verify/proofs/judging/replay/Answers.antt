@@ -1,6 +1,6 @@
 use Rattle.std.proofs.Common.{refl, subst, List, ℕ}
-use Rattle.oat_verify.specs.Verdict.{stuck, walked, JudgesPath}
 use Rattle.oat_shape.proofs.Laid.{laid, starts}
+use Rattle.oat_verify.specs.Verdict.{stuck, walked, JudgesPath}
 use Rattle.oat_verify.proofs.judging.replay.Goals as goal
 
 pub walk-requires-clause-ordered : goal.walk-requires-clause-ordered

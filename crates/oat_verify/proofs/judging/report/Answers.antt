@@ -1,15 +1,9 @@
 use Rattle.std.proofs.Common.{rules, ◌≡◌, List, ℕ, MatchOption, ap, sym, subst, ◌∙◌}
-use Rattle.oat_blob.specs.declared.body.BodyHead.{BodyHead}
-use Rattle.oat_blob.specs.declared.body.Violation.{Violation}
-use Rattle.oat_blob.specs.Body.{Body}
+use Rattle.oat_shape.specs.{Edge, returns_of, passes}
 use Rattle.oat_chain.specs.Chain.{chain}
-use Rattle.oat_map.specs.declared.edge.Edge.{Edge}
-use Rattle.oat_map.specs.Walk.{returns_of}
-use Rattle.oat_first.specs.First.{passes}
+use Rattle.oat_replay.specs.{BodyHead, Violation, Body}
+use Rattle.oat_verify.specs.{declared.verdict.Verdict.Verdict, declared.verdict.Verdict.TheVariants.Accept, declared.verdict.Verdict.TheVariants.Refuse, Verdict.JudgesPath}
 use Rattle.oat_verify.specs.declared.verdict.Cause.TheVariants as causes
-use Rattle.oat_verify.specs.declared.verdict.Verdict.{Verdict}
-use Rattle.oat_verify.specs.declared.verdict.Verdict.TheVariants.{Accept, Refuse}
-use Rattle.oat_verify.specs.Verdict.{JudgesPath}
 use Rattle.oat_verify.proofs.judging.report.Goals as goal
 
 -- a path whose returns have the hash is judged by the report

@@ -1,10 +1,8 @@
 use Rattle.std.proofs.Common.{rules, ◌≡◌, ◌∙◌, refl}
 use Rattle.sha2.specs.Sha256.{sha256}
-use Rattle.oat_image.specs.Grammar.{image_text}
-use Rattle.oat_hmac.specs.Hmac.{hmac}
-use Rattle.oat_blob.specs.Layout.{covered_of}
+use Rattle.oat_shape.specs.{image_text, fails, passes}
+use Rattle.oat_replay.specs.{hmac, covered_of}
 use Rattle.oat_verify.specs.Verdict.{FitsSession}
-use Rattle.oat_first.specs.First.{fails, passes}
 use Rattle.oat_verify.proofs.judging.screen.Goals as goal
 
 pub returns : goal.returns

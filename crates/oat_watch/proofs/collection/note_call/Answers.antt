@@ -1,8 +1,6 @@
 use Rattle.std.proofs.Common.{◌++◌, ◌∷◌, [], Option, None, refl, sym, subst}
 use Rattle.oat_journal.proofs.RunLaws.{held_other}
-use Rattle.oat_journal.specs.Uses.{Held}
-use Rattle.oat_measure.specs.declared.call.MonitorCall.{MonitorCall}
-use Rattle.oat_measure.specs.Monitored.{cells_of}
+use Rattle.oat_attest.specs.{Held, MonitorCall, cells_of}
 use Rattle.oat_watch.proofs.collection.note_call.Goals as goal
 
 pub returns-in-None-clause-held : goal.returns-in-None-clause-held

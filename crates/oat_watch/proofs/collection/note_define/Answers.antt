@@ -1,11 +1,8 @@
 use Rattle.std.proofs.Common.{◌++◌, ◌∷◌, [], Some, refl, sym, subst}
-use Rattle.oat_events.specs.Cells.{Cells}
 use Rattle.oat_journal.proofs.RunLaws.{held_define, held_other}
-use Rattle.oat_journal.specs.Uses.{Held}
-use Rattle.oat_measure.specs.declared.call.MonitorCall.{MonitorCall}
-use Rattle.oat_measure.specs.declared.call.MonitorCall.TheVariants as svc
-use Rattle.oat_measure.specs.Monitored.{cells_of}
+use Rattle.oat_attest.specs.{Cells, Held, MonitorCall, cells_of}
 use Rattle.oat_watch.proofs.Using.{no-define}
+use Rattle.oat_attest.specs.svc as svc
 use Rattle.oat_watch.proofs.collection.note_define.Goals as goal
 
 pub returns-in-Define-clause-held : goal.returns-in-Define-clause-held

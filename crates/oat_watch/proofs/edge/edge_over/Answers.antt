@@ -1,8 +1,7 @@
 use Rattle.std.proofs.Common.{◌≡◌, ◌∙◌, Bool, true, false, cond, Some, sym, ap}
-use Rattle.oat_map.specs.declared.edge.Edge.TheVariants as edges
-use Rattle.oat_map.specs.declared.row.Row.{Row}
-use Rattle.oat_journal.specs.Window.{edge_over}
+use Rattle.oat_attest.specs.{Row, edge_over}
 use Rattle.oat_watch.proofs.Targets.{no-target}
+use Rattle.oat_map.specs.declared.edge.Edge.TheVariants as edges
 use Rattle.oat_watch.proofs.edge.edge_over.Goals as goal
 
 pub returns-in-Branch : goal.returns-in-Branch

@@ -1,13 +1,6 @@
 use Rattle.std.proofs.Common.{◌≡◌, ◌∙◌, ℕ, List, sym, ap, subst}
-use Rattle.oat_blob.specs.Layout.{IsBlobOf}
-use Rattle.oat_case.specs.declared.case.Case.{Case}
-use Rattle.oat_chain.specs.Chain.{chain, window_head}
-use Rattle.oat_map.specs.Walk.{returns_of}
-use Rattle.oat_journal.specs.Measured.{opening_of, window_of}
-use Rattle.oat_journal.specs.Window.{returns_of_run}
-use Rattle.oat_measure.specs.Shelving.{serial_of}
 use Rattle.oat_verify.proofs.OneVerdict.{acceptance_at_once}
-use Rattle.oat_verify.specs.Verdict.{IsVerdict, head_of, subject_of}
+use Rattle.oat_attest.specs.{IsBlobOf, Case, chain, window_head, returns_of, opening_of, window_of, returns_of_run, serial_of, IsVerdict, head_of, subject_of}
 use Rattle.oat_watch.specs.Watching.{PartsFrom, watched_run}
 use Rattle.oat_watch.proofs.Verdicts.{body-of, body-there, holds-there, is-watched, number-is, one-chain}
 use Rattle.oat_watch.proofs.judging.judged.Goals as goal

@@ -1,6 +1,5 @@
 use Rattle.std.proofs.Common.{◌≡◌, ◌∙◌, sym, subst}
-use Rattle.oat_map.specs.Walk.{returns_of}
-use Rattle.oat_verify.specs.declared.verdict.Verdict.{Verdict}
+use Rattle.oat_attest.specs.{returns_of, Verdict}
 use Rattle.oat_watch.specs.Watching.{PartsFrom}
 use Rattle.oat_watch.proofs.Verdicts.{parts-from}
 use Rattle.oat_watch.proofs.judging.parting.Goals as goal

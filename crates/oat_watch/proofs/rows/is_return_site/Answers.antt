@@ -1,6 +1,6 @@
 use Rattle.std.proofs.Common.{◌≡◌, ◌-◌, Bool, eqb, ℕ, sym, ap, ◌∙◌, None, Some, arith}
 use Rattle.std.specs.Prelude.{◌&&◌}
-use Rattle.oat_map.specs.Rows.{after, row_over}
+use Rattle.oat_attest.specs.{after, row_over}
 use Rattle.oat_watch.proofs.Overs.{site-is, site-low, site-none}
 use Rattle.oat_watch.proofs.rows.is_return_site.Goals as goal
 

@@ -1,12 +1,8 @@
 use Rattle.std.proofs.Common.{◌≡◌, ◌+◌, ◌-◌, ◌<◌, ◌≤◌, ℕ, false, true, List, length, Some, refl, sym, subst, ◌∙◌, of_calls, rules, arith}
-use Rattle.std.specs.Prelude.{nat_lt, slice_get}
-use Rattle.std.specs.List.Sorted.{IsPartitionPoint}
-use Rattle.std.proofs.lemmas.Bool.{ltb-true}
-use Rattle.std.proofs.lemmas.List.Sorted.{IsPartitionPoint-from_clause}
-use Rattle.std.proofs.lemmas.Option.{slice_get_read}
+use Rattle.std.specs.{Prelude.nat_lt, Prelude.slice_get, List.Sorted.IsPartitionPoint}
+use Rattle.std.proofs.lemmas.{Bool.ltb-true, List.Sorted.IsPartitionPoint-from_clause, Option.slice_get_read}
 use Rattle.oat_map.proofs.RowLemmas.{rows_parted}
-use Rattle.oat_map.specs.declared.row.Row.{Row}
-use Rattle.oat_map.specs.Rows.{IsOrdered, address_of}
+use Rattle.oat_attest.specs.{Row, IsOrdered, address_of}
 use Rattle.oat_watch.proofs.Overs.{over-none, over-other, over-some}
 use Rattle.oat_watch.proofs.rows.row_over.Goals as goal
 

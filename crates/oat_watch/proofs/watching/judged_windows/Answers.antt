@@ -1,12 +1,8 @@
 use Rattle.std.proofs.Common.{◌≡◌, ◌∙◌, ◌+◌, ◌<◌, ◌∷◌, [], ℕ, List, Some, length, length-append, slice_get, refl, sym, ap, subst, arith}
 use Rattle.std.proofs.lemmas.Option.{slice_get_read}
-use Rattle.oat_attest.specs.Headline.{calls_before}
-use Rattle.oat_case.specs.declared.case.Case.{Case}
+use Rattle.oat_attest.specs.{Headline.calls_before, Case, window_of}
 use Rattle.oat_device.specs.DeviceRun.{run_so_far, window_opening}
-use Rattle.oat_journal.specs.Measured.{window_of}
-use Rattle.oat_watch.specs.declared.watched.WatchedWindow.{WatchedWindow}
-use Rattle.oat_watch.specs.Shown.{Holds}
-use Rattle.oat_watch.specs.Watching.{IsWatched, OfEach}
+use Rattle.oat_watch.specs.{declared.watched.WatchedWindow.WatchedWindow, Shown.Holds, Watching.IsWatched, Watching.OfEach}
 use Rattle.oat_watch.proofs.Verdicts.{each-more}
 use Rattle.oat_watch.proofs.watching.judged_windows.Goals as goal
 

@@ -1,6 +1,5 @@
 use Rattle.std.proofs.Common.{◌∙◌, ℕ, List, length, ap, subst}
-use Rattle.oat_blob.specs.Body.{Body}
-use Rattle.oat_journal.specs.Measured.{Run, end_of, opening_of}
+use Rattle.oat_attest.specs.{Body, Run, end_of, opening_of}
 use Rattle.oat_watch.specs.Watching.{HasItsVerdict, HasWholeRun, Parts, ShowsWindow, watched_run}
 use Rattle.oat_watch.proofs.Verdicts.{bodies-are, made-whole, opens-there, run-is}
 use Rattle.oat_watch.proofs.watching.watch.Goals as goal

@@ -1,5 +1,5 @@
 use Rattle.std.proofs.Common.{◌∙◌, option_map, sym, ap, arith}
-use Rattle.oat_measure.specs.Monitored.{cells_of}
+use Rattle.oat_attest.specs.{cells_of}
 use Rattle.oat_watch.proofs.Using.{is-cell, is-used, used-as}
 use Rattle.oat_watch.proofs.window.use_found.Goals as goal
 

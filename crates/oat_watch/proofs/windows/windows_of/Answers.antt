@@ -1,12 +1,7 @@
 use Rattle.std.proofs.Common.{◌+◌, [], refl, sym, ap, subst, ◌∙◌}
-use Rattle.oat_case.specs.declared.case.Case.{Case}
-use Rattle.oat_device.specs.DeviceRun.{DeviceRun}
-use Rattle.oat_image.specs.declared.image.Image.{Image}
-use Rattle.oat_journal.specs.Measured.{start_cells}
-use Rattle.oat_measure.specs.declared.opening.Opening.{Opening}
-use Rattle.oat_measure.specs.Shelving.{at_start}
 use Rattle.oat_shape.proofs.Laid.{laid}
-use Rattle.oat_shape.specs.Laid.{IsLaid}
+use Rattle.oat_attest.specs.{Case, Image, start_cells, Opening, at_start, IsLaid}
+use Rattle.oat_device.specs.DeviceRun.{DeviceRun}
 use Rattle.oat_watch.specs.Collecting.{Collects, IsCollected}
 use Rattle.oat_watch.proofs.Whole.{all-windows, at-first}
 use Rattle.oat_watch.proofs.windows.windows_of.Goals as goal

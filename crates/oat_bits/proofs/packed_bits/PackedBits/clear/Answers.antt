@@ -1,6 +1,5 @@
 use Rattle.std.proofs.Common.{refl, sym, arith}
-use Rattle.oat_bits.specs.Packed.{octets, packed}
-use Rattle.oat_bits.specs.Bits.{bits_in}
+use Rattle.oat_bits.specs.{Packed.octets, Packed.packed, Bits.bits_in}
 use Rattle.oat_bits.proofs.PackedForm.{length-bits_in}
 use Rattle.oat_bits.proofs.packed_bits.PackedBits.clear.Goals as goal
 

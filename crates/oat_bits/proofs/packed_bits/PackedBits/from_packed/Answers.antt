@@ -1,15 +1,11 @@
 use Rattle.std.proofs.Common.{◌≡◌, ◌+◌, ◌-◌, ◌/◌, ◌%◌, ◌^◌, ℕ, Bool, true, List, get_or, length, arith}
-use Rattle.std.proofs.lemmas.List.{get_or_default}
+use Rattle.std.specs.Prelude.{slice_index}
+use Rattle.std.proofs.lemmas.{List.get_or_default, Grind.div_ceil_times, Result.err_from_is_err_and}
+use Rattle.oat_bits.specs.{Packed.packed, Bits.IsPackedForm, Bits.bits_in}
+use Rattle.oat_bits.proofs.{PackedForm.length-bits_in, Filling.packed-bits_in, Filling.packed-filled}
+use Rattle.oat_bits.proofs.packed_bits.PackedBits.from_packed.Goals as goal
 use mir.Val.{Fits}
 use mir.Syntax.{w8}
-use Rattle.oat_bits.specs.Packed.{packed}
-use Rattle.std.proofs.lemmas.Grind.{div_ceil_times}
-use Rattle.std.proofs.lemmas.Result.{err_from_is_err_and}
-use Rattle.std.specs.Prelude.{slice_index}
-use Rattle.oat_bits.specs.Bits.{IsPackedForm, bits_in}
-use Rattle.oat_bits.proofs.PackedForm.{length-bits_in}
-use Rattle.oat_bits.proofs.Filling.{packed-bits_in, packed-filled}
-use Rattle.oat_bits.proofs.packed_bits.PackedBits.from_packed.Goals as goal
 
 form : (count : ℕ) (bytes : List ℕ) → ((i : ℕ) → Fits w8 (get_or bytes i 0)) → length bytes ≡ (count + 7) / 8 → slice_index bytes (count / 8) % 2 ^ (8 - count % 8) ≡ 0 → packed (bits_in count bytes) ≡ bytes
 form count bytes fit long filled = packed-bits_in count bytes long (λ k d within. rw (get_or_default bytes k d 0 within) (let byte = fit k in omega arith)) filled

@@ -1,7 +1,6 @@
 use Rattle.std.proofs.Common.{◌≡◌, ◌≤◌, ◌+◌, ℕ, Bool, List, ◌++◌, ◌∷◌, [], length, subst, ap, sym, ◌∙◌, arith}
 use Rattle.std.proofs.lemmas.List.{length-append}
-use Rattle.oat_bits.specs.Packed.{packed}
-use Rattle.oat_bits.specs.Bits.{BitList, bits_in}
+use Rattle.oat_bits.specs.{Packed.packed, Bits.BitList, Bits.bits_in}
 use Rattle.oat_bits.proofs.PackedForm.{length-bits_in, bits_in-packed}
 use Rattle.oat_bits.proofs.packed_bits.PackedBits.push.Goals as goal
 

@@ -1,7 +1,6 @@
 use Rattle.std.proofs.Common.{refl, sym, arith}
 use Rattle.std.proofs.lemmas.Grind.{div_ceil_times}
-use Rattle.oat_bits.specs.Packed.{octets, packed}
-use Rattle.oat_bits.specs.Bits.{bits_in}
+use Rattle.oat_bits.specs.{Packed.octets, Packed.packed, Bits.bits_in}
 use Rattle.oat_bits.proofs.packed_bits.PackedBits.with_room.Goals as goal
 
 pub invariant_of-result : goal.invariant_of-result

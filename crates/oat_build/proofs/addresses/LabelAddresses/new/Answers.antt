@@ -1,12 +1,7 @@
 use Rattle.std.proofs.Common.{◌≡◌, ◌+◌, ◌*◌, ◌≤◌, ℕ, length, subst, sym, ap, ◌∙◌, arith, drop, List, None}
-use Rattle.std.specs.Ordering.{nat_cmp}
-use Rattle.std.specs.BTreeMap.{get}
-use Rattle.oat_a64.specs.Step.{code_base}
-use Rattle.oat_asm.specs.declared.assembled.Assembled.{Assembled}
-use Rattle.oat_asm.specs.declared.assembled.LabelAt.{LabelAt}
-use Rattle.oat_asm.specs.Items.{address, words_needed}
-use Rattle.oat_asm.specs.Layout.{layout}
+use Rattle.std.specs.{Ordering.nat_cmp, BTreeMap.get}
 use Rattle.oat_asm.proofs.StandingItems.{laid_words_encode}
+use Rattle.oat_match.specs.{code_base, Assembled, LabelAt, address, words_needed, layout}
 use Rattle.oat_build.proofs.Labels.{addresses_known, last_known}
 use Rattle.oat_build.proofs.addresses.LabelAddresses.new.Goals as goal
 

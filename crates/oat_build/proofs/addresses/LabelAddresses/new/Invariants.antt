@@ -1,6 +1,5 @@
 use Rattle.std.proofs.Common.{◌≡◌, ℕ, drop, None}
-use Rattle.std.specs.Ordering.{nat_cmp}
-use Rattle.std.specs.BTreeMap.{get}
+use Rattle.std.specs.{Ordering.nat_cmp, BTreeMap.get}
 use Rattle.oat_build.proofs.Labels.{last_known}
 use Rattle.oat_build.proofs.addresses.LabelAddresses.new.Given as goal
 

@@ -1,7 +1,6 @@
 use Rattle.std.proofs.Common.{◌≡◌, ◌+◌, ◌-◌, length, take, drop, arith, sym, ap, List}
 use Rattle.std.specs.List.{flat_map}
-use Rattle.oat_ir.specs.declared.func.Func.{Func}
-use Rattle.oat_symbols.specs.Programs.{block_names}
+use Rattle.oat_match.specs.{Func, block_names}
 use Rattle.oat_build.specs.Addresses.{address_in}
 use Rattle.oat_build.proofs.SymbolLists.{count_more, count_least, functions_more, all_blocks_more}
 use Rattle.oat_build.proofs.symbols.Lister.list.Goals as goal

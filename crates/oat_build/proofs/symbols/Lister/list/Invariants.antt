@@ -1,7 +1,6 @@
 use Rattle.std.proofs.Common.{◌≡◌, ◌+◌, ◌++◌, length, take}
 use Rattle.std.specs.List.{flat_map}
-use Rattle.oat_parts.specs.Symbols.{blocks_of, functions_of}
-use Rattle.oat_symbols.specs.Programs.{block_names, symbols_from}
+use Rattle.oat_match.specs.{blocks_of, functions_of, block_names, symbols_from}
 use Rattle.oat_build.specs.Addresses.{address_in}
 use Rattle.oat_build.proofs.symbols.Lister.list.Given as goal
 

@@ -1,6 +1,5 @@
 use Rattle.std.proofs.Common.{ℕ, List, [], ◌∷◌, ◌++◌, sym, ap, subst, ◌∙◌}
-use Rattle.oat_chain.specs.Chain.{link}
-use Rattle.oat_chain.specs.Clash.{IsLastMessage}
+use Rattle.oat_chain.specs.{Chain.link, Clash.IsLastMessage}
 use Rattle.oat_chain.proofs.Messages.{last-push}
 use Rattle.oat_chain.proofs.comparison.Chained.absorb.Goals as goal
 

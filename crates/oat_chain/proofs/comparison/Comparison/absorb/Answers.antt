@@ -1,6 +1,5 @@
 use Rattle.std.proofs.Common.{[], ◌∷◌, ◌++◌, Option, sym, subst}
-use Rattle.oat_chain.specs.declared.message.Clash.{Clash}
-use Rattle.oat_chain.specs.Clash.{IsLastClash}
+use Rattle.oat_chain.specs.{declared.message.Clash.Clash, Clash.IsLastClash}
 use Rattle.oat_chain.proofs.Comparing.{later-clash}
 use Rattle.oat_chain.proofs.comparison.Comparison.absorb.Goals as goal
 

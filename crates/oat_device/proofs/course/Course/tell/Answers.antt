@@ -1,13 +1,7 @@
 use Rattle.std.proofs.Common.{◌≡◌, Option, Some, sym, ap, subst, ◌∙◌}
-use Rattle.oat_measure.specs.declared.engine.Engine.{Engine}
-use Rattle.oat_measure.specs.Shelving.{measured_on}
-use Rattle.oat_measure.specs.Transitions.{engine_shown}
-use Rattle.oat_device.specs.declared.course.Course.{Course}
-use Rattle.oat_device.specs.Bare.{running_of}
-use Rattle.oat_device.specs.Records.{bits_taken, targets_taken}
-use Rattle.oat_device.specs.Standing.{LeavesRoom, engine_opening, progress_of}
-use Rattle.oat_device.specs.Telling.{unnumbered}
-use Rattle.oat_journal.specs.Progress.{Progress, with_measurement}
+use Rattle.oat_journal.specs.{Engine, measured_on, engine_shown, Progress.Progress, Progress.with_measurement}
+use Rattle.oat_device.specs.{declared.course.Course.Course, Bare.running_of, Records.bits_taken, Records.targets_taken, Standing.LeavesRoom, Standing.engine_opening, Standing.progress_of}
+use Rattle.oat_device.specs.{Telling.unnumbered}
 use Rattle.oat_device.proofs.Telling.{told-fits, told-known, told-leaves, told-on}
 use Rattle.oat_device.proofs.course.Course.tell.Goals as goal
 

@@ -1,7 +1,5 @@
 use Rattle.std.proofs.Common.{◌-◌, refl, inl, arith}
-use Rattle.oat_device.specs.Bare.{running_of}
-use Rattle.oat_device.specs.Records.{bits_taken, targets_taken}
-use Rattle.oat_device.specs.Standing.{shelf_bits, shelf_targets, spare_bits, spare_targets}
+use Rattle.oat_device.specs.{Bare.running_of, Records.bits_taken, Records.targets_taken, Standing.shelf_bits, Standing.shelf_targets, Standing.spare_bits, Standing.spare_targets}
 use Rattle.oat_device.proofs.Rooms.{Takes, room-for, turn-takes, ready-next}
 use Rattle.oat_device.proofs.course.Course.turn.Goals as goal
 

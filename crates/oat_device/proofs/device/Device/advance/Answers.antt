@@ -1,9 +1,8 @@
 use Rattle.std.proofs.Common.{◌≡◌, None, sym, ap, subst, ◌∙◌}
 use Rattle.std.specs.Prelude.{IsSome}
-use Rattle.oat_device.specs.Advancing.{HasEntry, HasNoEntry, end_by_now, run_after_next}
-use Rattle.oat_device.specs.DeviceRun.{DeviceRun}
-use Rattle.oat_device.proofs.Advancing.{device_of, goes-on, has-entry, has-no-entry, has-word, makes-one, shown}
-use Rattle.oat_device.proofs.Runs.{Turned, is-none, made-next}
+use Rattle.oat_device.specs.{Advancing.HasEntry, Advancing.HasNoEntry, Advancing.end_by_now, Advancing.run_after_next, DeviceRun.DeviceRun}
+use Rattle.oat_device.proofs.{Advancing.device_of, Advancing.goes-on, Advancing.has-entry, Advancing.has-no-entry, Advancing.has-word, Advancing.makes-one, Advancing.shown, Runs.Turned, Runs.is-none}
+use Rattle.oat_device.proofs.{Runs.made-next}
 use Rattle.oat_device.proofs.device.Device.advance.Goals as goal
 
 pub invariant_of-self : goal.invariant_of-self

@@ -1,9 +1,7 @@
 use Rattle.std.proofs.Common.{◌≡◌, ◌<◌, ℕ, List, Option, Some, length, refl, sym, ap, subst, ◌∙◌, arith}
 use Rattle.std.specs.Prelude.{MatchOption, slice_get}
 use Rattle.std.proofs.lemmas.Result.{IfOk-weaker}
-use Rattle.oat_blob.specs.Body.{Body}
-use Rattle.oat_blob.specs.Layout.{IsBlobOf}
-use Rattle.oat_measure.specs.Monitored.{Monitored}
+use Rattle.oat_journal.specs.{Body, IsBlobOf, Monitored}
 use Rattle.oat_device.specs.DeviceRun.{DeviceRun, IsSealed, ReportsItsBody, reported, run_so_far}
 use Rattle.oat_device.proofs.Bodies.{Keeps, holds-within, keeps, last-is, last-sealed, on-shelf}
 use Rattle.oat_device.proofs.device.Device.blob.Goals as goal

@@ -1,23 +1,9 @@
 use Rattle.std.proofs.Common.{◌≡◌, ◌≤◌, ◌*◌, ℕ, List, Some, length, refl, sym, ap, subst, ◌∙◌, inl, arith}
-use Rattle.std.specs.Prelude.{nat_le}
-use Rattle.std.specs.List.{AllByRecursion}
+use Rattle.std.specs.{Prelude.nat_le, List.AllByRecursion}
 use Rattle.std.proofs.lemmas.Bool.{and_parts, leb-true}
-use Rattle.oat_case.specs.declared.case.Write.{Write}
-use Rattle.oat_case.specs.Limits.{IsInLimits, RisesFrom}
-use Rattle.oat_image.specs.declared.image.Image.{Image}
-use Rattle.oat_blob.specs.Body.{Body}
-use Rattle.oat_measure.specs.Measurement.{State, booted}
-use Rattle.oat_measure.specs.Monitored.{cells_of}
-use Rattle.oat_mem.specs.DataMemory.{byte_at}
-use Rattle.oat_journal.specs.Run.{poked, start_memory}
-use Rattle.oat_journal.specs.Measured.{opening_of, start_cells}
-use Rattle.oat_device.specs.Standing.{IsSpaced}
-use Rattle.oat_device.specs.Telling.{unnumbered}
-use Rattle.oat_measure.specs.declared.opening.Opening.{Opening}
-use Rattle.oat_device.proofs.Bodies.{calls-few}
-use Rattle.oat_device.proofs.Runs.{starts, first-run}
-use Rattle.oat_device.proofs.Telling.{windows-few}
-use Rattle.oat_device.proofs.Spacing.{bits_spaced, targets_spaced}
+use Rattle.oat_journal.specs.{Write, IsInLimits, RisesFrom, Image, Body, State, booted, cells_of, byte_at, Run.poked, Run.start_memory, Measured.opening_of, Measured.start_cells, Opening}
+use Rattle.oat_device.specs.{Standing.IsSpaced, Telling.unnumbered}
+use Rattle.oat_device.proofs.{Bodies.calls-few, Runs.starts, Runs.first-run, Telling.windows-few, Spacing.bits_spaced, Spacing.targets_spaced}
 use Rattle.oat_device.proofs.device.Device.boot.Goals as goal
 
 pub invariant_of-result : goal.invariant_of-result

@@ -1,15 +1,11 @@
 use Rattle.std.proofs.Common.{◌≡◌, ◌+◌, ℕ, None, sym, ap, ◌∙◌, arith}
 use Rattle.std.specs.Option.{is_some}
 use Rattle.std.proofs.lemmas.Bool.{false≢true}
-use Rattle.oat_case.specs.declared.case.Case.{Case}
-use Rattle.oat_journal.specs.Measured.{dev, opening_of}
-use Rattle.oat_journal.specs.Progress.{Progress}
+use Rattle.oat_journal.specs.{Case, Measured.dev, Measured.opening_of, Progress.Progress}
 use Rattle.oat_journal.proofs.RunLaws.{bodies_tell_windows, no_violation_means_sound}
-use Rattle.oat_device.specs.DeviceRun.{DeviceRun}
-use Rattle.oat_device.specs.Standing.{turns_of}
-use Rattle.oat_device.proofs.Runs.{Turned, all-made, end-is, is-none, made-next}
+use Rattle.oat_device.specs.{DeviceRun.DeviceRun, Standing.turns_of}
+use Rattle.oat_device.proofs.{Runs.Turned, Runs.all-made, Runs.end-is, Runs.is-none, Runs.made-next, device.Device.run.Goals.else-loop-test, device.Device.run.Goals.then-loop-test+then-is_some}
 use Rattle.oat_device.proofs.device.Device.run.Goals as goal
-use Rattle.oat_device.proofs.device.Device.run.Goals.{else-loop-test, then-loop-test+then-is_some}
 
 pub turn-requires-clause-left : goal.turn-requires-clause-left
 turn-requires-clause-left c =

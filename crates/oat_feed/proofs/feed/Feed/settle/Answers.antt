@@ -1,12 +1,8 @@
 use Rattle.std.proofs.Common.{◌∙◌, ap, sym, subst, refl}
 use Rattle.std.specs.Prelude.{vec_capacity}
 use Rattle.oat_verify.specs.Verdict.{form, no_blob}
-use Rattle.oat_feed.specs.declared.intake.State.{State}
-use Rattle.oat_feed.specs.RecordPlaces.{kept_bits, kept_targets}
-use Rattle.oat_feed.specs.Standing.{KeepsFront}
-use Rattle.oat_feed.specs.Verdict.{of_none}
-use Rattle.oat_feed.proofs.PlacesAre.{none_kept}
-use Rattle.oat_feed.proofs.Settling.{broken_form, same_records}
+use Rattle.oat_feed.specs.{declared.intake.State.State, RecordPlaces.kept_bits, RecordPlaces.kept_targets, Standing.KeepsFront, Verdict.of_none}
+use Rattle.oat_feed.proofs.{PlacesAre.none_kept, Settling.broken_form, Settling.same_records}
 use Rattle.oat_feed.proofs.feed.Feed.settle.Goals as goal
 
 pub returns-in_ok-judged-in-Open-clause-kept : goal.returns-in_ok-judged-in-Open-clause-kept

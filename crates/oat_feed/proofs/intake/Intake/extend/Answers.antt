@@ -1,15 +1,9 @@
 use Rattle.std.proofs.Common.{◌≡◌, ◌+◌, ◌*◌, ◌/◌, ◌<◌, ◌++◌, List, ℕ, length, take, suc, arith, sym, ap, subst, ◌∙◌}
-use Rattle.std.proofs.lemmas.Result.{on_err_weaker, on_ok_weaker}
 use Rattle.std.specs.Prelude.{vec_capacity}
-use Rattle.oat_blob.specs.Body.{Body}
-use Rattle.oat_blob.specs.Faults.{BeginsBlob}
-use Rattle.oat_blob.specs.Layout.{IsBlob}
-use Rattle.oat_feed.specs.declared.intake.State.{State}
-use Rattle.oat_feed.specs.declared.intake.State.TheVariants.{Open}
-use Rattle.oat_feed.specs.RecordPlaces.{in_part, records_before}
-use Rattle.oat_feed.specs.Standing.{KeepsFront}
-use Rattle.oat_feed.proofs.RoomLeft.{records_are}
-use Rattle.oat_feed.proofs.Extending.{breaks, extends, has_room, starves}
+use Rattle.std.proofs.lemmas.Result.{on_err_weaker, on_ok_weaker}
+use Rattle.oat_verify.specs.{Body, BeginsBlob, IsBlob}
+use Rattle.oat_feed.specs.{declared.intake.State.State, declared.intake.State.TheVariants.Open, RecordPlaces.in_part, RecordPlaces.records_before, Standing.KeepsFront}
+use Rattle.oat_feed.proofs.{RoomLeft.records_are, Extending.breaks, Extending.extends, Extending.has_room, Extending.starves}
 use Rattle.oat_feed.proofs.intake.Intake.extend.Goals as goal
 
 pub returns-in_err-extend_from_slice-clause-starved : goal.returns-in_err-extend_from_slice-clause-starved

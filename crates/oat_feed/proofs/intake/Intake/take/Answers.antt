@@ -1,8 +1,6 @@
 use Rattle.std.proofs.Common.{rules, ◌≡◌, ◌++◌, subst, sym}
 use Rattle.std.specs.Prelude.{vec_capacity}
-use Rattle.oat_feed.specs.declared.intake.State.{State}
-use Rattle.oat_feed.specs.declared.intake.State.TheVariants.{Broken}
-use Rattle.oat_feed.specs.Standing.{KeepsFront}
+use Rattle.oat_feed.specs.{declared.intake.State.State, declared.intake.State.TheVariants.Broken, Standing.KeepsFront}
 use Rattle.oat_feed.proofs.Extending.{broken_more}
 use Rattle.oat_feed.proofs.intake.Intake.take.Goals as goal
 

@@ -1,7 +1,7 @@
 use Rattle.std.proofs.Common.{◌≡◌, ◌∙◌, ◌<◌, ◌+◌, ◌-◌, ◌/◌, ◌%◌, ◌^◌, List, ℕ, Some, ap, arith, length, sym, take, drop, bit_and}
 use Rattle.std.specs.Prelude.{slice_get, slice_index, ◌==◌}
-use Rattle.oat_bits.specs.Bits.{bits_in}
 use Rattle.oat_bits.proofs.PackedForm.{length-bits_in, slice_get-bits_in}
+use Rattle.oat_verify.specs.{bits_in}
 use Rattle.oat_feed.proofs.kept.KeptRecords.bit.Goals as goal
 
 bit_read : (count i : ℕ) (held bytes : List ℕ) → held ≡ bytes → i < count → slice_get (bits_in count bytes) i ≡ Some (bit_and (slice_index held (i / 8) / 2 ^ (7 - i % 8)) 1 == 1)

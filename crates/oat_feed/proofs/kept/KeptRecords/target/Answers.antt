@@ -1,6 +1,5 @@
 use Rattle.std.proofs.Common.{◌≡◌, ◌∙◌, ◌<◌, ◌+◌, ◌*◌, ℕ, List, Option, None, Some, ap, arith, length, refl, subst, sym, take, drop}
-use Rattle.std.specs.Prelude.{slice_get, MatchOption, IsSome}
-use Rattle.std.specs.Int.{w64, from_be_bytes}
+use Rattle.std.specs.{Prelude.slice_get, Prelude.MatchOption, Prelude.IsSome, Int.w64, Int.from_be_bytes}
 use Rattle.std.proofs.lemmas.List.{drop-drop}
 use Rattle.oat_feed.proofs.PlacesAre.{length-targets_in, slice_get-targets_in}
 use Rattle.oat_feed.proofs.kept.KeptRecords.target.Goals as goal

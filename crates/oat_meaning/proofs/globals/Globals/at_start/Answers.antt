@@ -1,13 +1,9 @@
 use Rattle.std.proofs.Common.{◌≡◌, ◌<◌, ◌≤◌, ℕ, ◌+◌, length, List, [], ◌∷◌, ◌++◌, take, map, replicate, get_or, sym, ap, ◌∙◌, subst, arith}
 use Rattle.std.specs.List.{sum_by}
 use Rattle.std.proofs.Math.Seq.{take-length}
-use Rattle.std.proofs.lemmas.List.{map-append, map_more}
-use Rattle.std.proofs.lemmas.List.Sums.{sum_by_more}
-use Rattle.oat_check.specs.Globals.{first_values, size_in_cells, size_in_words}
-use Rattle.oat_ir.specs.declared.program.GlobalItem.{GlobalItem}
-use Rattle.oat_ir.specs.declared.program.Program.{Program}
-use Rattle.oat_meaning.specs.declared.globals.Slot.{Slot}
-use Rattle.oat_meaning.specs.Globals.{AreSlotsOf, slot_words}
+use Rattle.std.proofs.lemmas.{List.map-append, List.map_more, List.Sums.sum_by_more}
+use Rattle.oat_check.specs.{Globals.first_values, Globals.size_in_cells, Globals.size_in_words, GlobalItem, Program}
+use Rattle.oat_meaning.specs.{declared.globals.Slot.Slot, Globals.AreSlotsOf, Globals.slot_words}
 use Rattle.oat_meaning.proofs.Slots.{HaveSlots, cells_are_few, first_words, held, held_first, slot_pushed}
 use Rattle.oat_meaning.proofs.globals.Globals.at_start.Goals as goal
 

@@ -1,9 +1,7 @@
 use Rattle.std.proofs.Common.{◌≡◌, ◌<◌, ◌≤◌, ℕ, length, map, take, get_or, vec_len, vec_capacity}
 use Rattle.std.specs.List.{sum_by}
-use Rattle.oat_ir.specs.declared.program.GlobalItem.{GlobalItem}
-use Rattle.oat_check.specs.Globals.{size_in_cells}
-use Rattle.oat_meaning.specs.declared.globals.Slot.{Slot}
-use Rattle.oat_meaning.specs.Globals.{IsSlotOf, slot_words}
+use Rattle.oat_check.specs.{GlobalItem, Globals.size_in_cells}
+use Rattle.oat_meaning.specs.{declared.globals.Slot.Slot, Globals.IsSlotOf, Globals.slot_words}
 use Rattle.oat_meaning.proofs.Slots.{first_words}
 use Rattle.oat_meaning.proofs.globals.Globals.at_start.Given as goal
 

@@ -1,7 +1,6 @@
 use Rattle.std.proofs.Common.{◌<◌, length, refl, sym, ap, ◌∙◌, subst, length-set}
 use Rattle.oat_check.specs.Globals.{first_values, length_at, put}
-use Rattle.oat_meaning.specs.declared.globals.Slot.{Slot}
-use Rattle.oat_meaning.specs.Globals.{Stored, values_of}
+use Rattle.oat_meaning.specs.{declared.globals.Slot.Slot, Globals.Stored, Globals.values_of}
 use Rattle.oat_meaning.proofs.Slots.{slot_put, slot_set, slot_there}
 use Rattle.oat_meaning.proofs.globals.Globals.put.Goals as goal
 

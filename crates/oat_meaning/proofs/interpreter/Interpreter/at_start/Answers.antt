@@ -1,6 +1,5 @@
 use Rattle.std.proofs.Common.{refl, replicate}
-use Rattle.oat_check.proofs.Checking.{keeps_rules}
-use Rattle.oat_check.proofs.Numbers.{has_funcs}
+use Rattle.oat_check.proofs.{Checking.keeps_rules, Numbers.has_funcs}
 use Rattle.oat_meaning.proofs.Making.{first_stands}
 use Rattle.oat_meaning.proofs.interpreter.Interpreter.at_start.Goals as goal
 

@@ -1,6 +1,5 @@
 use Rattle.std.proofs.Common.{◌∙◌}
-use Rattle.oat_ir.specs.declared.source.SourceEdge.TheVariants.{Branch}
-use Rattle.oat_check.specs.Steps.{branches, line_place}
+use Rattle.oat_check.specs.{Branch, Steps.branches, Steps.line_place}
 use Rattle.oat_meaning.specs.Activations.{frame_of}
 use Rattle.oat_meaning.proofs.interpreter.Interpreter.branch.Goals as goal
 

@@ -1,10 +1,8 @@
 use Rattle.std.proofs.Common.{◌-◌, ◌∙◌, cond, sym, subst}
 use Rattle.std.proofs.lemmas.Bool.{ne_eqb}
 use Rattle.oat_ir.specs.declared.source.SourceEdge.TheVariants.{ICall}
-use Rattle.oat_map.specs.declared.trap.TrapKind.TheVariants.{NullCall}
-use Rattle.oat_check.specs.Steps.{icalls, line_place, runs, traps_by}
-use Rattle.oat_meaning.specs.Activations.{frame_of}
-use Rattle.oat_meaning.specs.Standing.{HasStepped, source_state_of}
+use Rattle.oat_check.specs.{NullCall, Steps.icalls, Steps.line_place, Steps.runs, Steps.traps_by}
+use Rattle.oat_meaning.specs.{Activations.frame_of, Standing.HasStepped, Standing.source_state_of}
 use Rattle.oat_meaning.proofs.interpreter.Interpreter.call_through.Goals as goal
 
 pub returns : goal.returns

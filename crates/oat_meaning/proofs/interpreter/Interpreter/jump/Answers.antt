@@ -1,6 +1,5 @@
 use Rattle.std.proofs.Common.{◌∙◌}
-use Rattle.oat_ir.specs.declared.source.SourceEdge.TheVariants.{Jump}
-use Rattle.oat_check.specs.Steps.{jumps, line_place}
+use Rattle.oat_check.specs.{Jump, Steps.jumps, Steps.line_place}
 use Rattle.oat_meaning.specs.Activations.{frame_of}
 use Rattle.oat_meaning.proofs.interpreter.Interpreter.jump.Goals as goal
 

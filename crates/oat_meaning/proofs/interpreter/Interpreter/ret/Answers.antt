@@ -1,9 +1,7 @@
 use Rattle.std.proofs.Common.{◌∙◌, ◌+◌, ap, refl, subst, ℕ}
 use Rattle.std.specs.List.{AllByRecursion}
-use Rattle.oat_ir.specs.declared.source.SourceEdge.TheVariants.{Ret}
-use Rattle.oat_check.specs.Steps.{assigned}
-use Rattle.oat_meaning.specs.Activations.{CountsCalls, frame_of, locals_of}
-use Rattle.oat_meaning.specs.Standing.{CanResume}
+use Rattle.oat_check.specs.{Ret, Steps.assigned}
+use Rattle.oat_meaning.specs.{Activations.CountsCalls, Activations.frame_of, Activations.locals_of, Standing.CanResume}
 use Rattle.oat_meaning.proofs.Returning.{returned}
 use Rattle.oat_meaning.proofs.interpreter.Interpreter.ret.Goals as goal
 

@@ -1,9 +1,7 @@
 use Rattle.std.proofs.Common.{length}
 use Rattle.oat_check.specs.Lines.{instruction, terminator}
 use Rattle.oat_check.proofs.Frames.{instr_is}
-use Rattle.oat_meaning.proofs.Allowed.{allows, can_resume, instr_found, no_instr_found}
-use Rattle.oat_meaning.proofs.Slots.{none_past}
-use Rattle.oat_meaning.proofs.Stepping.{step_made}
+use Rattle.oat_meaning.proofs.{Allowed.allows, Allowed.can_resume, Allowed.instr_found, Allowed.no_instr_found, Slots.none_past, Stepping.step_made}
 use Rattle.oat_meaning.proofs.interpreter.Interpreter.step.Goals as goal
 
 pub execute-requires-clause-allows : goal.execute-requires-clause-allows

@@ -1,7 +1,6 @@
 use Rattle.std.proofs.Common.{◌<◌, ◌∙◌, ap, subst, sym}
 use Rattle.oat_meaning.specs.SourceRun.{SourceRun, calls_so_far, loads_so_far}
-use Rattle.oat_meaning.proofs.CallItems.{part_at}
-use Rattle.oat_meaning.proofs.Told.{loads_told}
+use Rattle.oat_meaning.proofs.{CallItems.part_at, Told.loads_told}
 use Rattle.oat_meaning.proofs.source.Source.loads_of.Goals as goal
 
 pub part-requires-clause-ordered : goal.part-requires-clause-ordered

@@ -1,7 +1,7 @@
 use Rattle.std.proofs.Common.{◌∙◌, sym, arith, inl, inr}
-use Rattle.oat_meaning.proofs.Making.{end_is, finished, stands_consistent, step_follows}
+use Rattle.oat_meaning.proofs.{Making.end_is, Making.finished, Making.stands_consistent, Making.step_follows, source.Source.run.Goals.else-loop-test}
+use Rattle.oat_meaning.proofs.{source.Source.run.Goals.then-loop-test+then-has_ended}
 use Rattle.oat_meaning.proofs.source.Source.run.Goals as goal
-use Rattle.oat_meaning.proofs.source.Source.run.Goals.{else-loop-test, then-loop-test+then-has_ended}
 
 pub step-requires-clause-left : goal.step-requires-clause-left
 step-requires-clause-left c =

@@ -1,7 +1,6 @@
 use Rattle.std.proofs.Common.{subst}
-use Rattle.oat_ir.specs.declared.program.Program.{Program}
-use Rattle.oat_meaning.specs.Made.{HasReached}
-use Rattle.oat_meaning.specs.SourceRun.{first_run}
+use Rattle.oat_check.specs.{Program}
+use Rattle.oat_meaning.specs.{Made.HasReached, SourceRun.first_run}
 use Rattle.oat_meaning.proofs.source.Source.start.Goals as goal
 
 pub invariant_of-result : goal.invariant_of-result

@@ -1,6 +1,5 @@
 use Rattle.std.proofs.Common.{◌≡◌, ◌++◌, slice_range, length, ap, refl, ◌∙◌, arith}
-use Rattle.std.proofs.lemmas.List.{take_all}
-use Rattle.std.proofs.lemmas.Slice.{between_from_start}
+use Rattle.std.proofs.lemmas.{List.take_all, Slice.between_from_start}
 use Rattle.oat_measure.specs.declared.shelf.Filed.{Filed}
 use Rattle.oat_measure.proofs.Filing.{filed-push}
 use Rattle.oat_measure.proofs.shelf.Shelf.put.Goals as goal

@@ -1,5 +1,5 @@
 use Rattle.std.proofs.Common.{◌<◌, length, refl, sym, arith}
-use Rattle.oat_first.specs.First.{fails, passes}
+use Rattle.oat_verify.specs.{fails, passes}
 use Rattle.oat_owner.proofs.Keeping.{kept_more, begun_operation}
 use Rattle.oat_owner.proofs.owner.Owner.issue.Goals as goal
 

@@ -1,7 +1,6 @@
 use Rattle.std.proofs.Common.{refl, sym}
-use Rattle.oat_first.specs.First.{fails, passes}
-use Rattle.oat_owner.proofs.Keeping.{kept_operation}
-use Rattle.oat_owner.proofs.Tabling.{asked_is}
+use Rattle.oat_verify.specs.{fails, passes}
+use Rattle.oat_owner.proofs.{Keeping.kept_operation, Tabling.asked_is}
 use Rattle.oat_owner.proofs.owner.Owner.reply.Goals as goal
 
 pub returns-in_default : goal.returns-in_default

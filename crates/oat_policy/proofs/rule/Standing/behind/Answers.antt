@@ -1,9 +1,6 @@
 use Rattle.std.proofs.Common.{◌≡◌, ℕ, ◌+◌, Bool, Some, None, ap, ◌∙◌, arith}
-use Rattle.std.specs.Prelude.{if◌then◌else◌}
-use Rattle.std.specs.Option.{option_or}
-use Rattle.oat_policy.specs.declared.rule.Standing.{Standing}
-use Rattle.oat_policy.specs.EdgeWords.{edge_words}
-use Rattle.oat_policy.specs.Standing.{counted, forbids_behind}
+use Rattle.std.specs.{Prelude.if◌then◌else◌, Option.option_or}
+use Rattle.oat_policy.specs.{declared.rule.Standing.Standing, EdgeWords.edge_words, Standing.counted, Standing.forbids_behind}
 use Rattle.oat_policy.proofs.Following.{next_standing, counted_bound}
 use Rattle.oat_policy.proofs.rule.Standing.behind.Goals as goal
 

@@ -1,11 +1,8 @@
 use Rattle.std.proofs.Common.{◌≡◌, ℕ, length, map, replicate, None, refl, sym, ap, ◌∙◌, subst, arith}
-use Rattle.std.proofs.lemmas.List.Elements.{All-weaker}
-use Rattle.std.proofs.lemmas.List.{length-map}
 use Rattle.std.specs.Prelude.{IfSome, Option}
-use Rattle.oat_map.specs.declared.edge.Edge.{Edge}
-use Rattle.oat_policy.specs.declared.recent.RecentEdge.{RecentEdge}
-use Rattle.oat_policy.specs.EdgeWords.{edge_words}
-use Rattle.oat_policy.specs.Standing.{all_patterns, met_of, IsRecent}
+use Rattle.std.proofs.lemmas.{List.Elements.All-weaker, List.length-map}
+use Rattle.oat_report.specs.{Edge}
+use Rattle.oat_policy.specs.{declared.recent.RecentEdge.RecentEdge, EdgeWords.edge_words, Standing.all_patterns, Standing.met_of, Standing.IsRecent}
 use Rattle.oat_policy.proofs.Standings.{begun, all_start}
 use Rattle.oat_policy.proofs.watch.Watch.new.Goals as goal
 

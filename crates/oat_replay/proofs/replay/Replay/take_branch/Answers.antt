@@ -1,12 +1,11 @@
 use Rattle.std.proofs.Common.{◌≡◌, refl, cond, Some}
-use Rattle.oat_map.specs.declared.row.Row.TheVariants.{Branch}
-use Rattle.oat_map.specs.declared.edge.Edge.TheVariants as edges
-use Rattle.oat_map.specs.Walk.{moved}
+use Rattle.oat_map.specs.{declared.row.Row.TheVariants.Branch, Walk.moved}
 use Rattle.oat_map.proofs.StackLemmas.{IsStack-branch}
 use Rattle.oat_replay.specs.declared.cause.ReplayCause.TheVariants.{BitsEnd}
-use Rattle.oat_replay.proofs.TurnLemmas.{stuck_at, no_bits, next_bit, branch_goes, plus_none, StandsBehind-step}
+use Rattle.oat_replay.proofs.{TurnLemmas.stuck_at, TurnLemmas.no_bits, TurnLemmas.next_bit, TurnLemmas.branch_goes, TurnLemmas.plus_none, TurnLemmas.StandsBehind-step}
+use Rattle.oat_replay.proofs.{replay.Replay.take_branch.Goals.then-bit, replay.Replay.take_branch.Goals.else-bit}
+use Rattle.oat_map.specs.declared.edge.Edge.TheVariants as edges
 use Rattle.oat_replay.proofs.replay.Replay.take_branch.Goals as goal
-use Rattle.oat_replay.proofs.replay.Replay.take_branch.Goals.{then-bit, else-bit}
 
 pub returns-then-self-bit_count : goal.returns-then-self-bit_count
 returns-then-self-bit_count g c = λ flow op steps behind here. (

@@ -1,9 +1,8 @@
 use Rattle.std.proofs.Common.{refl}
-use Rattle.oat_map.specs.declared.row.Row.TheVariants.{Call}
-use Rattle.oat_map.specs.declared.edge.Edge.TheVariants as edges
-use Rattle.oat_map.specs.Walk.{moved}
+use Rattle.oat_map.specs.{declared.row.Row.TheVariants.Call, Walk.moved}
 use Rattle.oat_map.proofs.StackLemmas.{IsStack-call}
 use Rattle.oat_replay.proofs.TurnLemmas.{plus_none, StandsBehind-step}
+use Rattle.oat_map.specs.declared.edge.Edge.TheVariants as edges
 use Rattle.oat_replay.proofs.replay.Replay.take_call.Goals as goal
 
 pub returns : goal.returns

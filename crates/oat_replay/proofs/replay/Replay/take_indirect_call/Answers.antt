@@ -1,11 +1,9 @@
 use Rattle.std.proofs.Common.{◌≡◌, true, refl, Some}
-use Rattle.oat_map.specs.declared.row.Row.TheVariants.{ICall}
-use Rattle.oat_map.specs.declared.edge.Edge.TheVariants as edges
-use Rattle.oat_map.specs.Walk.{moved}
+use Rattle.oat_map.specs.{declared.row.Row.TheVariants.ICall, Walk.moved}
 use Rattle.oat_map.proofs.StackLemmas.{IsStack-icall}
-use Rattle.oat_replay.specs.Replay.{no_target, bad_target}
-use Rattle.oat_replay.specs.declared.cause.ReplayCause.TheVariants.{TargetsEnd, BadTarget}
+use Rattle.oat_replay.specs.{Replay.no_target, Replay.bad_target, declared.cause.ReplayCause.TheVariants.TargetsEnd, declared.cause.ReplayCause.TheVariants.BadTarget}
 use Rattle.oat_replay.proofs.TurnLemmas.{stuck_at, no_targets, next_target, own_target, flow_target, plus_none, StandsBehind-step}
+use Rattle.oat_map.specs.declared.edge.Edge.TheVariants as edges
 use Rattle.oat_replay.proofs.replay.Replay.take_indirect_call.Goals as goal
 
 pub returns-then-self-target_count : goal.returns-then-self-target_count

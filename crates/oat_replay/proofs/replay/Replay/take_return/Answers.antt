@@ -1,11 +1,9 @@
 use Rattle.std.proofs.Common.{◌≡◌, ◌++◌, ◌∷◌, [], length, refl, Some, sym, ◌∙◌, append-nil, arith}
-use Rattle.oat_map.specs.declared.row.Row.TheVariants.{Ret}
-use Rattle.oat_map.specs.declared.edge.Edge.TheVariants as edges
-use Rattle.oat_map.specs.Stack.{IsStack}
-use Rattle.oat_map.specs.Walk.{moved, depth}
+use Rattle.oat_map.specs.{declared.row.Row.TheVariants.Ret, Stack.IsStack, Walk.moved, Walk.depth}
 use Rattle.oat_map.proofs.StackLemmas.{depth-is, Returns-top, IsStack-return}
 use Rattle.oat_replay.specs.declared.cause.ReplayCause.TheVariants.{Underflow}
 use Rattle.oat_replay.proofs.TurnLemmas.{stuck_at, plus_none, StandsBehind-same, StandsBehind-step}
+use Rattle.oat_map.specs.declared.edge.Edge.TheVariants as edges
 use Rattle.oat_replay.proofs.replay.Replay.take_return.Goals as goal
 
 pub returns : goal.returns

@@ -1,7 +1,6 @@
 use Rattle.std.proofs.Common.{refl, sym, ap, ◌∙◌, None, Some}
-use Rattle.oat_map.specs.declared.row.Row.TheVariants.{Jump, Branch, Call, ICall, Ret, Begin, End}
-use Rattle.oat_map.specs.Rows.{after}
-use Rattle.oat_map.specs.Walk.{passed}
+use Rattle.oat_map.specs.{declared.row.Row.TheVariants.Jump, declared.row.Row.TheVariants.Branch, declared.row.Row.TheVariants.Call, declared.row.Row.TheVariants.ICall}
+use Rattle.oat_map.specs.{declared.row.Row.TheVariants.Ret, declared.row.Row.TheVariants.Begin, declared.row.Row.TheVariants.End, Rows.after, Walk.passed}
 use Rattle.oat_map.proofs.StackLemmas.{IsStack-passed}
 use Rattle.oat_replay.specs.declared.cause.ReplayCause.TheVariants.{OffCode, Nested}
 use Rattle.oat_replay.proofs.TurnLemmas.{next_is, stuck_at, pass_goes, plus_none, StandsBehind-step}

@@ -1,8 +1,6 @@
 use Rattle.std.proofs.Common.{◌-◌, refl, sym, ◌∙◌, subst}
-use Rattle.oat_image.specs.declared.image.Image.{Image}
-use Rattle.oat_map.specs.Rows.{BeginsAt, IsOperation}
-use Rattle.oat_shape.proofs.Operations.{opens, opens_nowhere}
-use Rattle.oat_shape.proofs.PlaceRules.{are_within}
+use Rattle.oat_image.specs.{declared.image.Image.Image, BeginsAt, IsOperation}
+use Rattle.oat_shape.proofs.{Operations.opens, Operations.opens_nowhere, PlaceRules.are_within}
 use Rattle.oat_shape.proofs.shaped.Shaped.begin_at.Goals as goal
 
 pub overflow_sub-result : goal.overflow_sub-result

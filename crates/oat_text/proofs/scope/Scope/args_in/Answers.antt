@@ -1,6 +1,5 @@
 use Rattle.std.proofs.Common.{◌<◌, ◌∙◌, sym, ap, Ok, arith}
-use Rattle.std.proofs.lemmas.Result.{err_from_is_err_and}
-use Rattle.std.proofs.lemmas.Bool.{false≢true}
+use Rattle.std.proofs.lemmas.{Result.err_from_is_err_and, Bool.false≢true}
 use Rattle.oat_lines.specs.Lines.{words_of}
 use Rattle.oat_text.specs.Scoped.{scoped}
 use Rattle.oat_text.proofs.Arguments.{next_argument, too_many, not_known, all_read, few_taken}

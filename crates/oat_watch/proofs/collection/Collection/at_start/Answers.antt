@@ -1,8 +1,6 @@
 use Rattle.std.proofs.Common.{[], sym, subst}
-use Rattle.oat_events.specs.Cells.{Cells}
 use Rattle.oat_journal.proofs.RunLaws.{held_first}
-use Rattle.oat_journal.specs.Measured.{start_cells}
-use Rattle.oat_journal.specs.Uses.{Held}
+use Rattle.oat_attest.specs.{Cells, start_cells, Held}
 use Rattle.oat_watch.proofs.Collecting.{starts}
 use Rattle.oat_watch.proofs.collection.Collection.at_start.Goals as goal
 

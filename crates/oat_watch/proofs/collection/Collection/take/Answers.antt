@@ -1,12 +1,9 @@
 use Rattle.std.proofs.Common.{◌++◌, ◌∷◌, ◌∙◌, [], length, map, sym, subst, arith}
 use Rattle.std.proofs.lemmas.Bool.{false≢true}
-use Rattle.oat_journal.specs.Measured.{start_cells}
-use Rattle.oat_journal.specs.Window.{made_call}
-use Rattle.oat_measure.specs.Monitored.{cells_of}
-use Rattle.oat_watch.proofs.Collecting.{Grows, closed-more, closes, grows-by, held-next, in-more, last-one, out-more}
-use Rattle.oat_watch.specs.Collecting.{AreClosedWindows, RunStands}
-use Rattle.oat_watch.specs.Shown.{Holds}
-use Rattle.oat_watch.proofs.Staging.{turned}
+use Rattle.oat_attest.specs.{start_cells, made_call, cells_of}
+use Rattle.oat_watch.specs.{Collecting.AreClosedWindows, Collecting.RunStands, Shown.Holds}
+use Rattle.oat_watch.proofs.{Collecting.Grows, Collecting.closed-more, Collecting.closes, Collecting.grows-by, Collecting.held-next, Collecting.in-more, Collecting.last-one, Collecting.out-more}
+use Rattle.oat_watch.proofs.{Staging.turned}
 use Rattle.oat_watch.proofs.collection.Collection.take.Goals as goal
 
 pub returns-then-not-was_inside-clause-more : goal.returns-then-not-was_inside-clause-more

@@ -1,8 +1,6 @@
 use Rattle.std.proofs.Common.{◌∙◌, ◌++◌, map, ap}
 use Rattle.std.proofs.lemmas.Result.{on_ok_weaker}
-use Rattle.oat_journal.specs.Uses.{use_behind}
-use Rattle.oat_journal.specs.Measured.{start_cells}
-use Rattle.oat_journal.specs.Window.{made_call, returned}
+use Rattle.oat_attest.specs.{use_behind, start_cells, made_call, returned}
 use Rattle.oat_watch.proofs.Taking.{taken}
 use Rattle.oat_watch.proofs.window.Window.take.Goals as goal
 
