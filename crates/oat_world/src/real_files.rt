@@ -120,6 +120,3 @@ fn read_whole<F: Read>(
         }
     }
 }
-
-#[cfg(test)]
-mod tests;

@@ -5,7 +5,7 @@ use Rattle.std.proofs.lemmas.List.Elements.{All-contains, All-from_recursion}
 use Rattle.oat_shape.specs.{IsInRange}
 use Rattle.oat_asm.specs.declared.item.Item.{Item}
 use Rattle.oat_asm.specs.declared.item.Item.TheVariants as item
-use Rattle.oat_asm.proofs.tests.a_loop_is_laid_out.Goals as goal
+use Rattle.oat_source_tests.proofs.layouts.a_loop_is_laid_out.Goals as goal
 
 abbrev IsFit : Item → Type 0
 IsFit (item.Inst i) = IsInRange i
