@@ -17,7 +17,7 @@ const OTHER_BYTES: usize = 152;
 const ROOM: usize = OTHER_BYTES + CHUNK;
 
 /// What may still come.
-#[derive(Clone, Copy)]
+#[derive(Clone, Copy, PartialEq, Eq)]
 pub enum State {
     /// The bytes that came begin a blob.
     Open,
