@@ -5,43 +5,43 @@ use oat_replay::{ReplayCause, WalkFault, walk};
 use std::test::Fail;
 
 /// What no image with the shape gets stuck at.
-fn word(fault: &WalkFault) -> &'static str {
+fn word(fault: &WalkFault) -> &'static [u8] {
     match fault {
         WalkFault::Stuck {
             cause: ReplayCause::Underflow,
             turn: 1,
-        } => "Underflow",
+        } => b"Underflow",
         WalkFault::Stuck {
             cause: ReplayCause::Nested,
             turn: 1,
-        } => "Nested",
+        } => b"Nested",
         WalkFault::Stuck {
             cause: ReplayCause::WrongEnd,
             turn: 1,
-        } => "WrongEnd",
+        } => b"WrongEnd",
         WalkFault::Stuck {
             cause: ReplayCause::OffCode,
             turn: 2,
-        } => "OffCode",
+        } => b"OffCode",
         WalkFault::Stuck {
             cause: ReplayCause::EndInside,
             turn: 2,
-        } => "EndInside",
-        _ => "another",
+        } => b"EndInside",
+        _ => b"another",
     }
 }
 
 /// The rows behind the begin of an operation, and why its walk gets stuck.
-const STUCK: [(&[Row], &str); 5] = [
-    (&[Row::Ret { at: 0x10008 }], "Underflow"),
-    (&[Row::Begin { at: 0x10008, op: 2 }], "Nested"),
-    (&[Row::End { at: 0x10008, op: 2 }], "WrongEnd"),
+const STUCK: [(&[Row], &[u8]); 5] = [
+    (&[Row::Ret { at: 0x10008 }], b"Underflow"),
+    (&[Row::Begin { at: 0x10008, op: 2 }], b"Nested"),
+    (&[Row::End { at: 0x10008, op: 2 }], b"WrongEnd"),
     (
         &[Row::Call {
             at: 0x10008,
             to: 0x10010,
         }],
-        "OffCode",
+        b"OffCode",
     ),
     (
         &[
@@ -51,7 +51,7 @@ const STUCK: [(&[Row], &str); 5] = [
             },
             Row::End { at: 0x1000C, op: 1 },
         ],
-        "EndInside",
+        b"EndInside",
     ),
 ];
 
@@ -71,8 +71,8 @@ fn walks_get_stuck(rt: HostRuntime) -> Result<(), Fail> {
         };
         assert!(rt; map.ordered());
         assert!(rt; map.start(1).is_some());
-        let fault = walk(rt.alloc(), &map, 1, &nothing).err();
-        assert!(rt; fault.map_or("", |fault| word(&fault)) == want, "{want}");
+        let fault = walk(rt.alloc(), &map, 1, &nothing).err().ok_or("a path")?;
+        assert!(rt; word(&fault) == want);
     }
     Ok(())
 }
