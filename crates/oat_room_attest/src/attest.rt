@@ -19,7 +19,9 @@ use oat_check::Checked;
 use oat_map::Map;
 use oat_page::{File, Stop, close, put_pieces, say_stop};
 use oat_programs::{case_for, checked_of, too_large};
-use oat_shown::{BlobLines, RunLines, ended_with, put_verdict, refuses_one, want_text, window_number};
+use oat_shown::{
+    BlobLines, RunLines, ended_with, put_verdict, refuses_one, want_text, window_number,
+};
 use oat_verify::Verdict;
 use oat_world::{Sink, SinkFault};
 use std::alloc::Global;
