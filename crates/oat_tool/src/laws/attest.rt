@@ -2,7 +2,9 @@
 
 ghost use Rattle.oat_tool.specs.AttestLaws.{AttestIsComplete, AttestIsHonest, AttestIsShown};
 
-use oat_attestation::laws::{attestations_are_complete, honest_runs_are_attested, windows_are_judged};
+use oat_attestation::laws::{
+    attestations_are_complete, honest_runs_are_attested, windows_are_judged,
+};
 
 /// What its statuses say.
 pub fn status()
