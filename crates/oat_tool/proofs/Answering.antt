@@ -1,9 +1,9 @@
 -- A defined outcome with a status of work is one of the command that was asked for.
 use Rattle.std.proofs.Common.{refl, subst}
 use Rattle.oat_first.specs.First.{fails, passes}
-use Rattle.oat_tool.specs.declared.command.Command.{Command}
-use Rattle.oat_tool.specs.Loads.{AreLoaded}
-use Rattle.oat_tool.specs.Commands.{numbers_of, files_of}
+use Rattle.oat_words.specs.declared.command.Command.{Command}
+use Rattle.oat_page.specs.Loads.{AreLoaded}
+use Rattle.oat_words.specs.Commands.{numbers_of, files_of}
 use Rattle.oat_tool.specs.Defined.{Does, done, other}
 use Rattle.oat_tool.specs.DefinedLaws.{WorkIsOfCommand}
 use Rattle.oat_tool.proofs.Apart.{one_command}

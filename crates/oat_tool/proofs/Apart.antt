@@ -4,8 +4,8 @@ use Rattle.std.specs.Str.{bytes_eq}
 use Rattle.std.proofs.lemmas.Bool.{cases_lt, eq-eqb}
 use Rattle.std.proofs.lemmas.List.{get_or_default}
 use Rattle.std.proofs.lemmas.Slice.Eq.{bytes_eq-Decides}
-use Rattle.oat_tool.specs.declared.command.Command.{Command}
-use Rattle.oat_tool.specs.Commands.{commands, fixed_of, bounds_of, limits_of, IsLine, differ, are_apart, is_apart_from, all_apart}
+use Rattle.oat_words.specs.declared.command.Command.{Command}
+use Rattle.oat_words.specs.Commands.{commands, fixed_of, bounds_of, limits_of, IsLine, differ, are_apart, is_apart_from, all_apart}
 
 both_true : (a b : Bool) → IsTrue (a && b) → IsTrue a × IsTrue b
 both_true true true both = (refl, refl)

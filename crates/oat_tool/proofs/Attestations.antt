@@ -13,25 +13,25 @@ use Rattle.oat_verify.specs.declared.verdict.Verdict.TheVariants.{Accept, Refuse
 use Rattle.oat_attestation.specs.declared.attested.Attested.{Attested}
 use Rattle.oat_attestation.specs.Attestation.{Attests}
 use Rattle.oat_attestation.specs.Laws.{AcceptsAllCalls, AttestationsAreComplete, HonestRunsAreAttested, RunsAreHeadlined, WindowsAreJudged}
-use Rattle.oat_tool.specs.declared.command.Command.TheVariants as commands
-use Rattle.oat_tool.specs.Outcome.{Outcome}
-use Rattle.oat_tool.specs.Answer.{Answer, as_outcome, status_of}
-use Rattle.oat_tool.specs.declared.page.Ended.TheVariants.{Done, Rejected, Unsealed}
-use Rattle.oat_tool.specs.Loads.{File, AreLoaded}
-use Rattle.oat_tool.specs.Commands.{files_of}
-use Rattle.oat_tool.specs.Windows.{are_few, refuses_one}
-use Rattle.oat_tool.specs.Attest.{AreAttestable, AttestsProgram, ShowsWindows, attested_answer}
+use Rattle.oat_words.specs.declared.command.Command.TheVariants as commands
+use Rattle.oat_page.specs.Outcome.{Outcome}
+use Rattle.oat_page.specs.Answer.{Answer, as_outcome, status_of}
+use Rattle.oat_page.specs.declared.page.Ended.TheVariants.{Done, Rejected, Unsealed}
+use Rattle.oat_page.specs.Loads.{File, AreLoaded, Read}
+use Rattle.oat_words.specs.Commands.{files_of}
+use Rattle.oat_shown.specs.Windows.{are_few, refuses_one}
+use Rattle.oat_room_attest.specs.Attest.{AreAttestable, AttestsProgram, ShowsWindows, attested_answer}
 use Rattle.oat_tool.specs.AttestLaws.{AttestIsComplete, AttestIsHonest, AttestIsShown, CompletesInTime, IsAttestedRun, ShowsAllAccepted}
 use Rattle.oat_tool.specs.Completeness.{ShowsEnd}
 use Rattle.oat_tool.specs.CallLaws.{ShowsJust}
 use Rattle.oat_tool.specs.DefinedLaws.{IsOfWork}
 use Rattle.oat_tool.specs.OneRun.{IsOfOneRun}
-use Rattle.oat_tool.specs.Shows.{Put}
-use Rattle.oat_tool.specs.Call.{IsCall, Read}
-use Rattle.oat_tool.proofs.Working.{IsDone}
-use Rattle.oat_tool.proofs.Attesting.{AttestsFiles-through}
-use Rattle.oat_tool.proofs.WindowLines.{some_verdict}
-use Rattle.oat_tool.proofs.Windowing.{statuses}
+use Rattle.oat_page.specs.Shows.{Put}
+use Rattle.oat_tool.specs.Call.{IsCall}
+use Rattle.oat_page.proofs.Working.{IsDone}
+use Rattle.oat_room_attest.proofs.Attesting.{AttestsFiles-through}
+use Rattle.oat_room_attest.proofs.WindowLines.{some_verdict}
+use Rattle.oat_shown.proofs.Windowing.{statuses}
 use Rattle.oat_tool.proofs.Setting.{work_is_done}
 use Rattle.oat_tool.proofs.Answering.{work_is_of_command}
 use Rattle.oat_tool.proofs.Following.{whole_is_put}

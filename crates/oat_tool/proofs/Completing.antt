@@ -16,39 +16,39 @@ use Rattle.oat_measure.specs.declared.opening.Opening.{Opening}
 use Rattle.oat_journal.specs.Measured.{Run}
 use Rattle.oat_attestation.specs.declared.attested.Attested.{Attested}
 use Rattle.oat_first.specs.First.{First, fails, passes, IsDecisive}
-use Rattle.oat_tool.specs.declared.command.Command.{Command}
-use Rattle.oat_tool.specs.declared.command.Command.TheVariants as commands
-use Rattle.oat_tool.specs.declared.page.Ended.{Ended}
-use Rattle.oat_tool.specs.declared.page.Ended.TheVariants.{Done, Rejected, Unsealed}
-use Rattle.oat_tool.specs.Outcome.{Outcome}
-use Rattle.oat_tool.specs.Answer.{Answer, IsAnswered, shows, as_outcome}
-use Rattle.oat_tool.specs.Loads.{File, AreLoaded}
-use Rattle.oat_tool.specs.Commands.{IsLine, numbers_of, files_of}
+use Rattle.oat_words.specs.declared.command.Command.{Command}
+use Rattle.oat_words.specs.declared.command.Command.TheVariants as commands
+use Rattle.oat_page.specs.declared.page.Ended.{Ended}
+use Rattle.oat_page.specs.declared.page.Ended.TheVariants.{Done, Rejected, Unsealed}
+use Rattle.oat_page.specs.Outcome.{Outcome}
+use Rattle.oat_page.specs.Answer.{Answer, IsAnswered, shows, as_outcome}
+use Rattle.oat_page.specs.Loads.{File, AreLoaded}
+use Rattle.oat_words.specs.Commands.{IsLine, numbers_of, files_of}
 use Rattle.oat_tool.specs.Defined.{Does, Defined, done, other}
 use Rattle.oat_tool.specs.DefinedLaws.{IsOfWork}
-use Rattle.oat_tool.specs.Shows.{Put}
+use Rattle.oat_page.specs.Shows.{Put}
 use Rattle.oat_tool.specs.CallLaws.{ShowsJust}
 use Rattle.oat_tool.specs.Completeness.{CallsAreComplete, EndsWork, HeldFilesAreAnswered, IsServable, ShowsEnd, TakenFilesAreWorkedOn}
-use Rattle.oat_tool.specs.BlobText.{HasDigits, IsBlobText}
-use Rattle.oat_tool.specs.Admits.{Admits, AreAdmitted}
-use Rattle.oat_tool.specs.Report.{ended_of}
-use Rattle.oat_tool.specs.Programs.{IsCaseOf, IsCheckedText}
-use Rattle.oat_tool.specs.Interpret.{Interprets}
-use Rattle.oat_tool.specs.Build.{Builds, CodeFits}
-use Rattle.oat_tool.specs.Verify.{IsOpened, Verifies}
-use Rattle.oat_tool.specs.Device.{Runs, RunsCase, ShowsRun, sealed, unsealed}
-use Rattle.oat_tool.specs.Trace.{Traces, TracesCase}
-use Rattle.oat_tool.specs.Policy.{IsOpenedWith, Polices, with_policy}
-use Rattle.oat_tool.specs.Drill.{Drills}
-use Rattle.oat_tool.specs.Refusals.{RefusesImage, RefusesShape}
-use Rattle.oat_tool.specs.Owner.{AreEnrolled, EnrolmentFails, EnrolmentsFail, IsEnrolled, RepliesTo, Serves, ServesScript, image_file, to_all, to_some}
-use Rattle.oat_tool.specs.Attest.{AreAttestable, AttestsFiles, AttestsProgram, ShowsAttested, ShowsWindows}
-use Rattle.oat_tool.specs.Json.{AttestsInJson, TellsWindows}
+use Rattle.oat_inputs.specs.BlobText.{HasDigits, IsBlobText}
+use Rattle.oat_inputs.specs.Admits.{Admits, AreAdmitted}
+use Rattle.oat_shown.specs.Report.{ended_of}
+use Rattle.oat_programs.specs.Programs.{IsCaseOf, IsCheckedText, CodeFits}
+use Rattle.oat_room_program.specs.Interpret.{Interprets}
+use Rattle.oat_room_program.specs.Build.{Builds}
+use Rattle.oat_room_verify.specs.Verify.{IsOpened, Verifies}
+use Rattle.oat_room_device.specs.Device.{Runs, RunsCase, ShowsRun, sealed, unsealed}
+use Rattle.oat_room_device.specs.Trace.{Traces, TracesCase}
+use Rattle.oat_room_verify.specs.Policy.{IsOpenedWith, Polices, with_policy}
+use Rattle.oat_room_drill.specs.Drill.{Drills}
+use Rattle.oat_inputs.specs.Refusals.{RefusesImage, RefusesShape}
+use Rattle.oat_room_owner.specs.Owner.{AreEnrolled, EnrolmentFails, EnrolmentsFail, IsEnrolled, RepliesTo, Serves, ServesScript, image_file, to_all, to_some}
+use Rattle.oat_room_attest.specs.Attest.{AreAttestable, AttestsFiles, AttestsProgram, ShowsAttested, ShowsWindows}
+use Rattle.oat_room_attest.specs.Json.{AttestsInJson, TellsWindows}
 use Rattle.oat_tool.proofs.Apart.{one_command}
-use Rattle.oat_tool.proofs.Refusing.{blob_is_decisive, case_is_decisive, image_is_decisive, operation_is_decisive, shape_is_decisive}
-use Rattle.oat_tool.proofs.Programming.{case_of_is_decisive, program_is_decisive}
-use Rattle.oat_tool.proofs.Building.{code_is_decisive}
-use Rattle.oat_tool.proofs.Policing.{policy_is_decisive}
+use Rattle.oat_inputs.proofs.Refusing.{blob_is_decisive, case_is_decisive, image_is_decisive, operation_is_decisive, shape_is_decisive}
+use Rattle.oat_programs.proofs.Programming.{case_of_is_decisive, program_is_decisive}
+use Rattle.oat_tool.proofs.BuildSaying.{code_is_decisive}
+use Rattle.oat_tool.proofs.PolicySaying.{policy_is_decisive}
 use Rattle.oat_tool.proofs.One.{load_is_decisive, loads_are_decisive}
 use Rattle.oat_tool.proofs.Following.{defined_is_shown}
 

@@ -2,13 +2,13 @@
 use Rattle.std.proofs.Common.{◌≡◌, ◌∙◌, ◌<◌, ◌⊎◌, ℕ, List, [], ◌∷◌, ◌++◌, Option, inl, inr, refl, sym, ap, subst, append_assoc, arith}
 use Rattle.std.proofs.lemmas.List.{append-nil}
 use Rattle.oat_world.specs.Outside.{Contents, Rose, Adds}
-use Rattle.oat_tool.specs.Outcome.{Outcome, IsPrefix}
+use Rattle.oat_page.specs.Outcome.{Outcome, IsPrefix}
 use Rattle.oat_tool.specs.Defined.{SetsOut, Defined}
 use Rattle.oat_tool.specs.DefinedLaws.{IsOfWork}
-use Rattle.oat_tool.specs.Shows.{Put, HasFailed, OrStarved, ended, at_once, behind, IsLeft, whole, cut, cut_said, starved_said, Shows}
-use Rattle.oat_tool.specs.Puts.{PutsFront}
+use Rattle.oat_page.specs.Shows.{Put, HasFailed, OrStarved, ended, at_once, behind, IsLeft, whole, cut, cut_said, starved_said, Shows}
+use Rattle.oat_page.specs.Puts.{PutsFront}
 use Rattle.oat_tool.specs.CallLaws.{ShowsJust, ShowsDefined, WholeIsPut, DefinedIsShown, TheDefinedIsShown, FrontIsPut, RefusalsAreQuiet, ReadFaultsAreTold}
-use Rattle.oat_tool.proofs.Putting.{Adds-none}
+use Rattle.oat_page.proofs.Putting.{Adds-none}
 use Rattle.oat_tool.proofs.Setting.{SetsOut-defined, Defined-quiet, Defined-fault}
 
 -- ---- what was put, told at once

@@ -3,8 +3,8 @@ use Rattle.std.proofs.Common.{◌≡◌, ◌∙◌, ◌≤◌, ◌++◌, ℕ, Li
 use Rattle.std.proofs.Math.Seq.{take-append_seam, drop-append_seam}
 use Rattle.std.proofs.Math.ListN.{get_or-append}
 use Rattle.std.proofs.lemmas.List.{take-append-drop, length-take-le, get_or-take}
-use Rattle.oat_tool.specs.declared.command.Command.{Command}
-use Rattle.oat_tool.specs.Commands.{commands, fixed_of, bounds_of, IsNumber, AreNumbers, IsLine}
+use Rattle.oat_words.specs.declared.command.Command.{Command}
+use Rattle.oat_words.specs.Commands.{commands, fixed_of, bounds_of, IsNumber, AreNumbers, IsLine}
 use Rattle.oat_tool.specs.DefinedLaws.{IsSpelled, LinesAreSpelled}
 
 front_numbers : (bounds : List ℕ) (words : List (List ℕ)) → AreNumbers bounds words → AreNumbers bounds (take (length bounds) words)

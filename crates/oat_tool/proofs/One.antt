@@ -3,11 +3,11 @@ use Rattle.std.proofs.Common.{◌≡◌, ◌∙◌, ◌<◌, ℕ, List, [], ◌�
 use Rattle.oat_world.specs.Outside.{Contents}
 use Rattle.oat_first.specs.First.{fails, passes, IsOne, IsDecisive}
 use Rattle.oat_first.proofs.FirstLaws.{First-one}
-use Rattle.oat_tool.specs.declared.command.Command.{Command}
-use Rattle.oat_tool.specs.Outcome.{Outcome}
-use Rattle.oat_tool.specs.Answer.{Answer, IsAnswered, as_outcome}
-use Rattle.oat_tool.specs.Loads.{Wanted, File, IsLoaded, LoadFails, absent, faulted, long, AreLoaded, LoadsFail}
-use Rattle.oat_tool.specs.Commands.{numbers_of, files_of}
+use Rattle.oat_words.specs.declared.command.Command.{Command}
+use Rattle.oat_page.specs.Outcome.{Outcome}
+use Rattle.oat_page.specs.Answer.{Answer, IsAnswered, as_outcome}
+use Rattle.oat_page.specs.Loads.{Wanted, File, IsLoaded, LoadFails, absent, faulted, long, AreLoaded, LoadsFail}
+use Rattle.oat_words.specs.Commands.{numbers_of, files_of}
 use Rattle.oat_tool.specs.Defined.{Does, Ends, done, other}
 use Rattle.oat_tool.specs.DefinedLaws.{OneOutcome}
 use Rattle.oat_tool.proofs.Apart.{one_command}

@@ -34,14 +34,14 @@ use Rattle.oat_watch.specs.declared.watched.CheckedUse.{CheckedUse as ShownUse}
 use Rattle.oat_watch.specs.declared.watched.WatchedWindow.{WatchedWindow}
 use Rattle.oat_watch.specs.Shown.{use_of}
 use Rattle.oat_watch.specs.Watching.{HasItsVerdict, PartsFrom}
-use Rattle.oat_tool.specs.Outcome.{line}
-use Rattle.oat_tool.specs.Answer.{Answer, shows}
-use Rattle.oat_tool.specs.Report.{path_text}
-use Rattle.oat_tool.specs.Device.{run_lines, run_of}
-use Rattle.oat_tool.specs.Trace.{AreTraced, TracesCase, part_text, parting_text, parts_from, use_line, verdicts_on}
-use Rattle.oat_tool.specs.Windows.{ended_with, want_text, window_number}
+use Rattle.oat_page.specs.Outcome.{line}
+use Rattle.oat_page.specs.Answer.{Answer, shows}
+use Rattle.oat_shown.specs.Report.{path_text}
+use Rattle.oat_room_device.specs.Device.{run_lines, run_of}
+use Rattle.oat_room_device.specs.Trace.{AreTraced, TracesCase, part_text, parting_text, parts_from, use_line, verdicts_on}
+use Rattle.oat_shown.specs.Windows.{ended_with, want_text, window_number}
 use Rattle.oat_tool.specs.TraceLaws.{OneTrace}
-use Rattle.oat_tool.proofs.Admitting.{Admits-one}
+use Rattle.oat_inputs.proofs.Admitting.{Admits-one}
 
 -- ---- one clash
 

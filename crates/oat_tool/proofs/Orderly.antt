@@ -1,19 +1,19 @@
 -- What the laws of all commands rest on: the outcomes of each command are orderly.
 use Rattle.std.proofs.Common.{ℕ, List}
-use Rattle.oat_tool.specs.declared.command.Command.{Command}
-use Rattle.oat_tool.specs.declared.command.Command.TheVariants.{Run, Build, Verify, Device, Trace, Policy, Owner, Attest, AttestJson, Drill}
+use Rattle.oat_words.specs.declared.command.Command.{Command}
+use Rattle.oat_words.specs.declared.command.Command.TheVariants.{Run, Build, Verify, Device, Trace, Policy, Owner, Attest, AttestJson, Drill}
 use Rattle.oat_tool.specs.Defined.{Does, NamesFile}
-use Rattle.oat_tool.specs.Interpret.{Interprets}
-use Rattle.oat_tool.specs.Build.{Builds}
-use Rattle.oat_tool.specs.Verify.{Verifies}
-use Rattle.oat_tool.specs.Device.{Runs}
-use Rattle.oat_tool.specs.Trace.{Traces}
-use Rattle.oat_tool.specs.Policy.{Polices}
-use Rattle.oat_tool.specs.Drill.{Drills}
-use Rattle.oat_tool.specs.Attest.{AttestsProgram}
-use Rattle.oat_tool.specs.Json.{AttestsInJson}
-use Rattle.oat_tool.proofs.Orders.{IsOrderly, answers_are_orderly}
-use Rattle.oat_tool.proofs.Serving.{serving_is_orderly}
+use Rattle.oat_room_program.specs.Interpret.{Interprets}
+use Rattle.oat_room_program.specs.Build.{Builds}
+use Rattle.oat_room_verify.specs.Verify.{Verifies}
+use Rattle.oat_room_device.specs.Device.{Runs}
+use Rattle.oat_room_device.specs.Trace.{Traces}
+use Rattle.oat_room_verify.specs.Policy.{Polices}
+use Rattle.oat_room_drill.specs.Drill.{Drills}
+use Rattle.oat_room_attest.specs.Attest.{AttestsProgram}
+use Rattle.oat_room_attest.specs.Json.{AttestsInJson}
+use Rattle.oat_page.proofs.Orders.{IsOrderly, answers_are_orderly}
+use Rattle.oat_room_owner.proofs.Serving.{serving_is_orderly}
 
 pub orderly : (command : Command) (numbers : List ℕ) → IsOrderly (Does command numbers) (NamesFile command)
 orderly Run numbers = answers_are_orderly Interprets (NamesFile Run)

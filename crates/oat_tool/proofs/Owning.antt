@@ -16,19 +16,19 @@ use Rattle.oat_owner.specs.Replies.{challenge_session}
 use Rattle.oat_owner.specs.Exchanges.{Exchange}
 use Rattle.oat_owner.specs.Laws.{AcceptedByVerdict, AcceptedOnce, IsAcceptance}
 use Rattle.oat_script.specs.declared.script.ScriptDevice.{ScriptDevice}
-use Rattle.oat_tool.specs.declared.command.Command.{Command}
-use Rattle.oat_tool.specs.declared.command.Command.TheVariants as commands
-use Rattle.oat_tool.specs.Outcome.{Outcome}
-use Rattle.oat_tool.specs.Texts.{starved}
-use Rattle.oat_tool.specs.Loads.{File, AreLoaded}
-use Rattle.oat_tool.specs.Commands.{IsLine, files_of}
+use Rattle.oat_words.specs.declared.command.Command.{Command}
+use Rattle.oat_words.specs.declared.command.Command.TheVariants as commands
+use Rattle.oat_page.specs.Outcome.{Outcome}
+use Rattle.oat_page.specs.Texts.{starved}
+use Rattle.oat_page.specs.Loads.{File, AreLoaded}
+use Rattle.oat_words.specs.Commands.{IsLine, files_of}
 use Rattle.oat_tool.specs.Defined.{Ends, Defined, done, other}
-use Rattle.oat_tool.specs.Owner.{IsEnrolled, AreEnrolled, to_all, to_some, replied_calls, Serves}
+use Rattle.oat_room_owner.specs.Owner.{IsEnrolled, AreEnrolled, to_all, to_some, replied_calls, Serves}
 use Rattle.oat_tool.specs.OwnerLaws.{IsReplied, IsOfRuns, ScriptIsServed, WantIsBehindReplies, RefusalComesFirst, ServedIsPut, RepliesArePut, NumbersAreAcceptedOnce, AcceptancesAreOfRuns}
-use Rattle.oat_tool.specs.Puts.{PutsFront}
+use Rattle.oat_page.specs.Puts.{PutsFront}
 use Rattle.oat_tool.proofs.Apart.{one_command}
 use Rattle.oat_tool.proofs.Following.{whole_is_put, front_is_put, nothing_put}
-use Rattle.oat_tool.proofs.Serving.{IsSilent, loads_silent, script_silent, enrolments_silent}
+use Rattle.oat_room_owner.proofs.Serving.{IsSilent, loads_silent, script_silent, enrolments_silent}
 
 -- ---- how an outcome came about
 

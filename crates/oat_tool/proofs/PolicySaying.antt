@@ -1,5 +1,5 @@
 -- What the statuses of `policy` say, and what of it is `verify`'s.
-use Rattle.std.proofs.Common.{◌≡◌, ◌≢◌, ◌↔◌, ◌∙◌, ◌++◌, ℕ, List, [], ◌∷◌, length, take, drop, Option, Some, None, refl, sym, ap, subst, arith, length-drop}
+use Rattle.std.proofs.Common.{◌≡◌, ◌≢◌, ◌↔◌, ◌∙◌, ◌++◌, ℕ, List, ◌∷◌, length, take, drop, Option, Some, None, refl, sym, ap, subst, arith, length-drop, []}
 use Rattle.std.proofs.lemmas.List.{append-nil, length-take-le}
 use Rattle.oat_world.specs.Outside.{Contents}
 use Rattle.oat_map.specs.declared.map.Map.{Map}
@@ -11,27 +11,37 @@ use Rattle.oat_policy.specs.declared.policy.PolicyRule.{PolicyRule}
 use Rattle.oat_policy.specs.declared.verdict.PolicyVerdict.{PolicyVerdict}
 use Rattle.oat_policy.specs.declared.verdict.PolicyVerdict.TheVariants.{Holds, Breaks}
 use Rattle.oat_policy.specs.Verdict.{verdict_of}
-use Rattle.oat_first.specs.First.{fails, passes}
-use Rattle.oat_tool.specs.declared.command.Command.TheVariants.{Verify, Policy}
-use Rattle.oat_tool.specs.declared.page.Ended.TheVariants.{Rejected}
-use Rattle.oat_tool.specs.Outcome.{Outcome}
-use Rattle.oat_tool.specs.Answer.{Answer, shows, as_outcome, status_of}
-use Rattle.oat_tool.specs.Loads.{Wanted, File, AreLoaded, wanted_of}
-use Rattle.oat_tool.specs.Commands.{IsLine, files_of, limits_of}
-use Rattle.oat_tool.specs.Admits.{AreAdmitted}
-use Rattle.oat_tool.specs.Report.{report_of}
+use Rattle.oat_first.specs.First.{fails, passes, IsOne, IsDecisive}
+use Rattle.oat_words.specs.declared.command.Command.TheVariants.{Verify, Policy}
+use Rattle.oat_page.specs.declared.page.Ended.TheVariants.{Rejected}
+use Rattle.oat_page.specs.Outcome.{Outcome}
+use Rattle.oat_page.specs.Answer.{Answer, shows, as_outcome, status_of, refused}
+use Rattle.oat_page.specs.Loads.{Wanted, File, AreLoaded, wanted_of}
+use Rattle.oat_words.specs.Commands.{IsLine, files_of, limits_of}
+use Rattle.oat_inputs.specs.Admits.{AreAdmitted}
+use Rattle.oat_shown.specs.Report.{report_of}
 use Rattle.oat_tool.specs.Defined.{done}
 use Rattle.oat_tool.specs.DefinedLaws.{IsOfWork}
-use Rattle.oat_tool.specs.Policy.{said_of, said_text, ended_by, with_policy, Polices}
-use Rattle.oat_tool.specs.PolicyLaws.{ReportsPolicy, PolicyIsReported, PolicyIsSaid, verify_words, PutsBehind, behind_acceptance, refusal_alone, VerifyIsPutFirst, PolicyIsHeadlined}
-use Rattle.oat_tool.proofs.Working.{IsDone, refused_is_not_done}
-use Rattle.oat_tool.proofs.Admitting.{Admits-through}
+use Rattle.oat_room_verify.specs.Policy.{said_of, said_text, ended_by, with_policy, Polices, IsPolicyText, RefusesPolicy, ConcludesWith}
+use Rattle.oat_tool.specs.PolicyLaws.{ReportsPolicy, PolicyIsReported, PolicyIsSaid, verify_words, PutsBehind, behind_acceptance, refusal_alone, VerifyIsPutFirst, PolicyIsHeadlined, OnePolicyAnswer}
+use Rattle.oat_page.proofs.Working.{IsDone, refused_is_not_done}
+use Rattle.oat_inputs.proofs.Admitting.{Admits-through, Admits-one}
 use Rattle.oat_tool.proofs.Setting.{work_is_done}
 use Rattle.oat_tool.proofs.Answering.{work_is_of_command}
 use Rattle.oat_tool.proofs.Following.{whole_is_put}
 use Rattle.oat_tool.proofs.Naming.{lines_are_spelled}
-use Rattle.oat_tool.proofs.Verifying.{verifies_concluded, judged_holds}
-use Rattle.oat_tool.proofs.Policing.{Policing}
+use Rattle.oat_room_verify.proofs.Verifying.{verifies_concluded}
+use Rattle.oat_tool.proofs.VerifySaying.{judged_holds, one_report}
+use Rattle.oat_room_verify.proofs.Policing.{Policing, Ruling}
+use Rattle.oat_verify.specs.Verdict.{Subject, subject_of}
+use Rattle.oat_verify.proofs.OneVerdict.{one_verdict}
+use Rattle.oat_lines.specs.FaultText.{fault_text}
+use Rattle.oat_policy.specs.FaultText.{policy_fault_word}
+use Rattle.oat_policy.specs.Reading.{policy_of}
+use Rattle.oat_first.proofs.FirstLaws.{First-one}
+use Rattle.oat_inputs.specs.BlobText.{IsBlobText}
+use Rattle.oat_inputs.specs.Refusals.{RefusesBlob}
+use Rattle.oat_inputs.proofs.Refusing.{ok_one, err_one, never, blob_is_decisive}
 
 -- ---- statuses
 
@@ -183,3 +193,35 @@ policy_is_headlined words contents files out err status told ran asked work =
       shown = all.shown;
       headline = λ path same. judged_holds words contents r.image r.verdict path r.policed.judged same;
     }
+
+-- ---- the policy's file gives one policy, or is refused in one way
+
+pub policy_is_decisive : (file : File) → IsDecisive (List PolicyRule) Answer (IsPolicyText file.text) (RefusesPolicy file)
+policy_is_decisive file = record {
+  one_value = λ rules others one two. ok_one others rules (policy_of file.text) two one;
+  one_failure = λ a b one two.
+      one.told ∙ (ap (λ fault. refused file.name (fault_text policy_fault_word fault)) (err_one one.fault two.fault (policy_of file.text) one.first two.first) ∙ sym two.told);
+  apart = λ rules a read refuses. never rules refuses.fault (policy_of file.text) read refuses.first;
+}
+
+-- ---- one answer
+
+one_conclusion : (s : Subject) (rules : List PolicyRule) (bytes : List ℕ) → IsOne Answer (ConcludesWith s rules bytes)
+one_conclusion s rules bytes a b one two =
+    let reports = one_report s bytes one.report two.report one.concluded two.concluded in
+    let verdicts = one_verdict s bytes one.concluded.verdict two.concluded.verdict one.concluded.right two.concluded.right in
+    one.is ∙ (ap (with_policy (said_of s.map rules one.concluded.verdict)) reports
+    ∙ (ap (λ (v : Verdict). with_policy (said_of s.map rules v) two.report) verdicts ∙ sym two.is))
+
+pub one_policy_answer : OnePolicyAnswer
+one_policy_answer [] a b one two = absurd one
+one_policy_answer (image ∷ []) a b one two = absurd one
+one_policy_answer (image ∷ case ∷ []) a b one two = absurd one
+one_policy_answer (image ∷ case ∷ blob ∷ []) a b one two = absurd one
+one_policy_answer (image ∷ case ∷ blob ∷ policy ∷ []) a b one two =
+    Admits-one image case (Policing blob policy) (λ i c admitted.
+    First-one (List ℕ) Answer (IsBlobText blob.text) (RefusesBlob blob) (λ bytes. Ruling policy (subject_of i c.session) bytes) (blob_is_decisive blob)
+    (λ bytes spelled.
+    First-one (List PolicyRule) Answer (IsPolicyText policy.text) (RefusesPolicy policy) (λ rules. ConcludesWith (subject_of i c.session) rules bytes)
+    (policy_is_decisive policy) (λ rules read. one_conclusion (subject_of i c.session) rules bytes))) a b one two
+one_policy_answer (image ∷ case ∷ blob ∷ policy ∷ other ∷ files) a b one two = absurd one

@@ -27,9 +27,9 @@ use Rattle.oat_watch.specs.declared.watched.CheckedUse.{CheckedUse as ShownUse}
 use Rattle.oat_watch.specs.declared.watched.WatchedWindow.{WatchedWindow}
 use Rattle.oat_watch.specs.Shown.{use_of}
 use Rattle.oat_watch.specs.Watching.{FoundDefined, HasItsVerdict, OfEach, PartsFrom}
-use Rattle.oat_tool.specs.Outcome.{line}
-use Rattle.oat_tool.specs.Device.{run_of}
-use Rattle.oat_tool.specs.Trace.{AreTraced, parting_text}
+use Rattle.oat_page.specs.Outcome.{line}
+use Rattle.oat_room_device.specs.Device.{run_of}
+use Rattle.oat_room_device.specs.Trace.{AreTraced, parting_text}
 use Rattle.oat_tool.specs.TraceLaws.{SameIsFollowed}
 use Rattle.oat_tool.proofs.TracedEdges.{takes_edges}
 

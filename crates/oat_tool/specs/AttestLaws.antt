@@ -10,16 +10,16 @@ use Rattle.oat_follow.specs.Steps.{instructions_for}
 use Rattle.oat_attestation.specs.declared.attested.Attested.{Attested}
 use Rattle.oat_attestation.specs.Attestation.{Attests}
 use Rattle.oat_attestation.specs.Laws.{AcceptsAllCalls, IsHonest, JudgesWindows, calls_measured}
-use Rattle.oat_tool.specs.declared.command.Command.TheVariants as commands
-use Rattle.oat_tool.specs.Outcome.{Outcome}
-use Rattle.oat_tool.specs.Answer.{as_outcome}
-use Rattle.oat_tool.specs.Loads.{File, AreLoaded}
-use Rattle.oat_tool.specs.Commands.{IsLine, files_of}
-use Rattle.oat_tool.specs.Windows.{are_few, refuses_one}
-use Rattle.oat_tool.specs.Attest.{AreAttestable, AreAttested, attested_answer}
+use Rattle.oat_words.specs.declared.command.Command.TheVariants as commands
+use Rattle.oat_page.specs.Outcome.{Outcome}
+use Rattle.oat_page.specs.Answer.{as_outcome}
+use Rattle.oat_page.specs.Loads.{File, AreLoaded}
+use Rattle.oat_words.specs.Commands.{IsLine, files_of}
+use Rattle.oat_shown.specs.Windows.{are_few, refuses_one}
+use Rattle.oat_room_attest.specs.Attest.{AreAttestable, AreAttested, attested_answer}
 use Rattle.oat_tool.specs.Defined.{Defined}
 use Rattle.oat_tool.specs.DefinedLaws.{IsOfWork}
-use Rattle.oat_tool.specs.Shows.{Put, HasFailed}
+use Rattle.oat_page.specs.Shows.{Put, HasFailed}
 use Rattle.oat_tool.specs.CallLaws.{OfCalls, ShowsJust}
 
 -- The files that the words name hold a checked program whose code fits and a case for one of its operations, and the outcome is what is attested of both: with

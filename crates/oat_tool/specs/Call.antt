@@ -1,25 +1,13 @@
 -- A call of the program, as its caller sees it: its words, what it did to the files and to the two sinks, and its status.
-use Rattle.std.specs.Prelude.{◌≡◌, ℕ, List, Option, Some, map}
+use Rattle.std.specs.Prelude.{◌≡◌, ℕ, List, Some, map}
 use Rattle.std.specs.String.{string_bytes}
 use Rattle.std.specs.declared.string.String.{String}
 use Rattle.std.specs.declared.alloc.Global.{Global}
 use Rattle.oat_world.specs.Outside.{Contents, Rose}
-use Rattle.oat_tool.specs.declared.command.Command.{Command}
-use Rattle.oat_tool.specs.Loads.{File}
-use Rattle.oat_tool.specs.Shows.{Put, Shows}
+use Rattle.oat_words.specs.declared.command.Command.{Command}
+use Rattle.oat_page.specs.Loads.{File, Read}
+use Rattle.oat_page.specs.Shows.{Put, Shows}
 use Rattle.oat_tool.specs.Defined.{Does, SetsOut}
-
--- what a call did to the files: what they tell, and the count of faults before and after
-pub record Read : Type 0 where
-  pub told : Option Contents
-  pub before : ℕ
-  pub after : ℕ
-
-abbrev pub read_of : {F : Type 0} → (F → Option Contents) → (F → ℕ) → F → F → Read
-read_of told faults old new = record { told = told old; before = faults old; after = faults new }
-
-abbrev pub put_of : {S : Type 0} → (S → Option (List ℕ)) → (S → ℕ) → S → S → Put
-put_of told faults old new = record { held = told old; holds = told new; before = faults old; after = faults new }
 
 -- Where contents are told, the work of a command on its numbers and its loaded files shows what it ends with.
 abbrev pub ShowsWork : Command → (numbers : List ℕ) → List File → Read → Put → Put → ℕ → Type 0

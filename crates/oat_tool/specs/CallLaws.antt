@@ -2,16 +2,16 @@
 use Rattle.std.specs.Prelude.{◌≡◌, ◌<◌, ◌⊎◌, ℕ, List, Some, None, Contains}
 use Rattle.oat_world.specs.Outside.{Contents, Rose, Adds}
 use Rattle.oat_first.specs.First.{IsOne}
-use Rattle.oat_tool.specs.declared.command.Command.{Command}
-use Rattle.oat_tool.specs.Outcome.{Outcome}
-use Rattle.oat_tool.specs.Texts.{read_fault}
-use Rattle.oat_tool.specs.Loads.{Wanted, File, AreLoaded}
-use Rattle.oat_tool.specs.Commands.{IsLine, files_of}
+use Rattle.oat_words.specs.declared.command.Command.{Command}
+use Rattle.oat_page.specs.Outcome.{Outcome}
+use Rattle.oat_page.specs.Texts.{read_fault}
+use Rattle.oat_page.specs.Loads.{Wanted, File, AreLoaded, Read}
+use Rattle.oat_words.specs.Commands.{IsLine, files_of}
 use Rattle.oat_tool.specs.Defined.{NamesFile, Defined}
 use Rattle.oat_tool.specs.DefinedLaws.{IsOfWork}
-use Rattle.oat_tool.specs.Shows.{Put, HasFailed}
-use Rattle.oat_tool.specs.Puts.{PutsFront}
-use Rattle.oat_tool.specs.Call.{Read, IsCall}
+use Rattle.oat_page.specs.Shows.{Put, HasFailed}
+use Rattle.oat_page.specs.Puts.{PutsFront}
+use Rattle.oat_tool.specs.Call.{IsCall}
 
 -- Just this outcome was shown.
 pub record ShowsJust (o : Outcome) (out err : Put) (status : ℕ) : Type 0 where

@@ -8,21 +8,20 @@ use Rattle.oat_owner.specs.declared.device.Known.{Known}
 use Rattle.oat_policy.specs.declared.policy.PolicyRule.{PolicyRule}
 use Rattle.oat_script.specs.declared.script.Script.{Script}
 use Rattle.oat_script.specs.Reading.{script_of}
-use Rattle.oat_tool.specs.declared.command.Command.{Command}
-use Rattle.oat_tool.specs.declared.command.Command.TheVariants.{Run, Build, Verify, Device, Trace, Policy, Owner, Attest, AttestJson, Drill}
-use Rattle.oat_tool.specs.Outcome.{Outcome}
-use Rattle.oat_tool.specs.Loads.{File, AreLoaded}
-use Rattle.oat_tool.specs.Commands.{IsLine, numbers_of, files_of}
-use Rattle.oat_tool.specs.Admits.{AreAdmitted}
-use Rattle.oat_tool.specs.Programs.{IsCheckedText, IsCaseOf}
-use Rattle.oat_tool.specs.Build.{CodeFits}
-use Rattle.oat_tool.specs.Attest.{AreAttestable}
-use Rattle.oat_tool.specs.Owner.{AreEnrolled}
-use Rattle.oat_tool.specs.Policy.{IsOpenedWith}
-use Rattle.oat_tool.specs.Verify.{IsOpened}
+use Rattle.oat_words.specs.declared.command.Command.{Command}
+use Rattle.oat_words.specs.declared.command.Command.TheVariants.{Run, Build, Verify, Device, Trace, Policy, Owner, Attest, AttestJson, Drill}
+use Rattle.oat_page.specs.Outcome.{Outcome}
+use Rattle.oat_page.specs.Loads.{File, AreLoaded}
+use Rattle.oat_words.specs.Commands.{IsLine, numbers_of, files_of}
+use Rattle.oat_inputs.specs.Admits.{AreAdmitted}
+use Rattle.oat_programs.specs.Programs.{IsCheckedText, IsCaseOf, CodeFits}
+use Rattle.oat_room_attest.specs.Attest.{AreAttestable}
+use Rattle.oat_room_owner.specs.Owner.{AreEnrolled}
+use Rattle.oat_room_verify.specs.Policy.{IsOpenedWith}
+use Rattle.oat_room_verify.specs.Verify.{IsOpened}
 use Rattle.oat_tool.specs.Defined.{Does}
 use Rattle.oat_tool.specs.DefinedLaws.{IsOfWork}
-use Rattle.oat_tool.specs.Shows.{Put, HasFailed}
+use Rattle.oat_page.specs.Shows.{Put, HasFailed}
 use Rattle.oat_tool.specs.CallLaws.{OfCalls, ShowsJust}
 
 -- What the command ends with behind these files was shown, whole.

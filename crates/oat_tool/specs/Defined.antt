@@ -2,23 +2,22 @@
 use Rattle.std.specs.Prelude.{◌≡◌, ℕ, List}
 use Rattle.oat_world.specs.Outside.{Contents}
 use Rattle.oat_first.specs.First.{First}
-use Rattle.oat_tool.specs.declared.command.Command.{Command}
-use Rattle.oat_tool.specs.declared.command.Command.TheVariants.{Run, Build, Verify, Device, Trace, Policy, Owner, Attest, AttestJson, Drill}
-use Rattle.oat_tool.specs.Outcome.{Outcome}
-use Rattle.oat_tool.specs.Texts.{usage}
-use Rattle.oat_tool.specs.Answer.{IsAnswered}
-use Rattle.oat_tool.specs.Loads.{Wanted, File, AreLoaded, LoadsFail}
-use Rattle.oat_tool.specs.Commands.{IsLine, numbers_of, files_of}
-use Rattle.oat_tool.specs.Interpret.{Interprets}
-use Rattle.oat_tool.specs.Build.{Builds}
-use Rattle.oat_tool.specs.Verify.{Verifies}
-use Rattle.oat_tool.specs.Device.{Runs}
-use Rattle.oat_tool.specs.Trace.{Traces}
-use Rattle.oat_tool.specs.Policy.{Polices}
-use Rattle.oat_tool.specs.Owner.{Serves, NamesImage}
-use Rattle.oat_tool.specs.Attest.{AttestsProgram}
-use Rattle.oat_tool.specs.Json.{AttestsInJson}
-use Rattle.oat_tool.specs.Drill.{Drills}
+use Rattle.oat_words.specs.declared.command.Command.{Command}
+use Rattle.oat_words.specs.declared.command.Command.TheVariants.{Run, Build, Verify, Device, Trace, Policy, Owner, Attest, AttestJson, Drill}
+use Rattle.oat_page.specs.Outcome.{Outcome}
+use Rattle.oat_words.specs.Commands.{usage, IsLine, numbers_of, files_of}
+use Rattle.oat_page.specs.Answer.{IsAnswered}
+use Rattle.oat_page.specs.Loads.{Wanted, File, AreLoaded, LoadsFail}
+use Rattle.oat_room_program.specs.Interpret.{Interprets}
+use Rattle.oat_room_program.specs.Build.{Builds}
+use Rattle.oat_room_verify.specs.Verify.{Verifies}
+use Rattle.oat_room_device.specs.Device.{Runs}
+use Rattle.oat_room_device.specs.Trace.{Traces}
+use Rattle.oat_room_verify.specs.Policy.{Polices}
+use Rattle.oat_room_owner.specs.Owner.{Serves, NamesImage}
+use Rattle.oat_room_attest.specs.Attest.{AttestsProgram}
+use Rattle.oat_room_attest.specs.Json.{AttestsInJson}
+use Rattle.oat_room_drill.specs.Drill.{Drills}
 
 -- What a command ends with behind the loads of its files: an answer to its numbers and to these. One that loads further files looks at
 -- contents besides, and such a load may fail where the count of faults rose.

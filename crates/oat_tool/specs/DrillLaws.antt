@@ -1,28 +1,18 @@
 -- What the defined outcomes of `drill` are (docs/PROMISES.md).
-use Rattle.std.specs.Prelude.{◌≡◌, ℕ, List, [], ◌∷◌, Some, true, length, slice_get}
+use Rattle.std.specs.Prelude.{◌≡◌, ℕ, List, ◌∷◌, length, []}
 use Rattle.sha2.specs.Sha256.{sha256}
 use Rattle.oat_world.specs.Outside.{Contents}
 use Rattle.oat_map.specs.declared.edge.Edge.{Edge}
 use Rattle.oat_image.specs.declared.image.Image.{Image}
 use Rattle.oat_verify.specs.declared.verdict.Verdict.TheVariants.{Accept}
 use Rattle.oat_build.specs.Built.{IsImageOf}
-use Rattle.oat_check.specs.Rules.{has_operation}
 use Rattle.oat_make.specs.Drill.{drill_program}
-use Rattle.oat_make.specs.Text.{drill_case}
-use Rattle.oat_attestation.specs.declared.attested.Attested.{Attested}
-use Rattle.oat_tool.specs.declared.command.Command.TheVariants as commands
-use Rattle.oat_tool.specs.Outcome.{Outcome}
-use Rattle.oat_tool.specs.Commands.{IsLine, numbers_of}
+use Rattle.oat_words.specs.declared.command.Command.TheVariants as commands
+use Rattle.oat_page.specs.Outcome.{Outcome}
+use Rattle.oat_words.specs.Commands.{IsLine, numbers_of}
 use Rattle.oat_tool.specs.Defined.{Defined}
-use Rattle.oat_tool.specs.Report.{path_text}
-use Rattle.oat_tool.specs.Drill.{AttestsDrill, drill_report}
-
--- what the work of `drill` rests on: its case is for an operation of its program, whose code fits, and the first verdict is an acceptance
-abbrev pub DrillsHaveOperation : Type 0
-DrillsHaveOperation = (n : ℕ) → has_operation (drill_program n) (drill_case n).session.op ≡ true
-
-abbrev pub FirstVerdictAccepts : Type 0
-FirstVerdictAccepts = (n : ℕ) (a : Attested) → AttestsDrill n a → (path : List Edge) × (slice_get a.verdicts 0 ≡ Some (Accept path))
+use Rattle.oat_shown.specs.Report.{path_text}
+use Rattle.oat_room_drill.specs.Drill.{drill_report}
 
 -- The words' number has an accepted drill: status 0, 80 outputs, and the 4,243 edges of the path of the source's call.
 pub record IsAcceptedDrill (n : ℕ) (o : Outcome) : Type 0 where

@@ -12,12 +12,12 @@ use Rattle.oat_verify.specs.declared.verdict.Verdict.{Verdict}
 use Rattle.oat_verify.specs.declared.verdict.Verdict.TheVariants.{Accept}
 use Rattle.oat_verify.specs.Verdict.{CarriesSerial}
 use Rattle.oat_attest.specs.Headline.{OfRuns, FollowedOrClashes}
-use Rattle.oat_tool.specs.declared.command.Command.TheVariants.{Verify}
-use Rattle.oat_tool.specs.Answer.{as_outcome}
-use Rattle.oat_tool.specs.Commands.{IsLine}
-use Rattle.oat_tool.specs.Report.{report_of}
-use Rattle.oat_tool.specs.Shows.{Put}
-use Rattle.oat_tool.specs.Call.{Read}
+use Rattle.oat_words.specs.declared.command.Command.TheVariants.{Verify}
+use Rattle.oat_page.specs.Answer.{as_outcome}
+use Rattle.oat_words.specs.Commands.{IsLine}
+use Rattle.oat_shown.specs.Report.{report_of}
+use Rattle.oat_page.specs.Shows.{Put}
+use Rattle.oat_page.specs.Loads.{Read}
 use Rattle.oat_tool.specs.CallLaws.{ShowsJust}
 use Rattle.oat_tool.specs.VerifyLaws.{IsJudged}
 

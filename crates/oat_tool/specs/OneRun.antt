@@ -13,14 +13,13 @@ use Rattle.oat_attest.specs.Headline.{FollowedOrClashes, calls_before}
 use Rattle.oat_attestation.specs.declared.attested.Attested.{Attested}
 use Rattle.oat_attestation.specs.Attestation.{TellsRun}
 use Rattle.oat_attestation.specs.Laws.{opening_told, run_told}
-use Rattle.oat_tool.specs.declared.command.Command.TheVariants as commands
-use Rattle.oat_tool.specs.Answer.{as_outcome}
-use Rattle.oat_tool.specs.Loads.{File, AreLoaded}
-use Rattle.oat_tool.specs.Commands.{IsLine, files_of}
-use Rattle.oat_tool.specs.Attest.{AreAttested, attested_answer}
+use Rattle.oat_words.specs.declared.command.Command.TheVariants as commands
+use Rattle.oat_page.specs.Answer.{as_outcome}
+use Rattle.oat_page.specs.Loads.{File, AreLoaded, Read}
+use Rattle.oat_words.specs.Commands.{IsLine, files_of}
+use Rattle.oat_room_attest.specs.Attest.{AreAttested, attested_answer}
 use Rattle.oat_tool.specs.DefinedLaws.{IsOfWork}
-use Rattle.oat_tool.specs.Shows.{Put}
-use Rattle.oat_tool.specs.Call.{Read}
+use Rattle.oat_page.specs.Shows.{Put}
 use Rattle.oat_tool.specs.CallLaws.{ShowsJust}
 
 -- Window s of the run followed the path, or its returns and the path's clash.

@@ -12,14 +12,14 @@ use Rattle.oat_owner.specs.Exchanges.{Exchange, AreReplies}
 use Rattle.oat_owner.specs.Laws.{IsAcceptance}
 use Rattle.oat_script.specs.declared.script.Script.{Script}
 use Rattle.oat_script.specs.Reading.{script_of}
-use Rattle.oat_tool.specs.declared.command.Command.TheVariants as commands
-use Rattle.oat_tool.specs.Outcome.{Outcome}
-use Rattle.oat_tool.specs.Texts.{starved}
-use Rattle.oat_tool.specs.Loads.{File, AreLoaded}
-use Rattle.oat_tool.specs.Commands.{IsLine, files_of}
-use Rattle.oat_tool.specs.Owner.{AreEnrolled, replies_text, replied_calls}
+use Rattle.oat_words.specs.declared.command.Command.TheVariants as commands
+use Rattle.oat_page.specs.Outcome.{Outcome}
+use Rattle.oat_page.specs.Texts.{starved}
+use Rattle.oat_page.specs.Loads.{File, AreLoaded}
+use Rattle.oat_words.specs.Commands.{IsLine, files_of}
+use Rattle.oat_room_owner.specs.Owner.{AreEnrolled, replies_text, replied_calls}
 use Rattle.oat_tool.specs.Defined.{Defined}
-use Rattle.oat_tool.specs.Puts.{PutsFront}
+use Rattle.oat_page.specs.Puts.{PutsFront}
 use Rattle.oat_tool.specs.CallLaws.{OfCalls}
 use Rattle.oat_tool.specs.Headline.{HeadlineHolds}
 

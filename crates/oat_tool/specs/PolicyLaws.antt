@@ -10,19 +10,19 @@ use Rattle.oat_policy.specs.declared.policy.PolicyRule.{PolicyRule}
 use Rattle.oat_policy.specs.declared.verdict.PolicyVerdict.{PolicyVerdict}
 use Rattle.oat_policy.specs.declared.verdict.PolicyVerdict.TheVariants.{Holds}
 use Rattle.oat_first.specs.First.{IsOne}
-use Rattle.oat_tool.specs.declared.command.Command.TheVariants.{Verify, Policy}
-use Rattle.oat_tool.specs.Outcome.{Outcome, line}
-use Rattle.oat_tool.specs.Answer.{Answer, as_outcome}
-use Rattle.oat_tool.specs.Loads.{File, AreLoaded}
-use Rattle.oat_tool.specs.Commands.{IsLine, fixed_of, files_of}
-use Rattle.oat_tool.specs.Report.{report_of}
-use Rattle.oat_tool.specs.Shows.{Put}
+use Rattle.oat_words.specs.declared.command.Command.TheVariants.{Verify, Policy}
+use Rattle.oat_page.specs.Outcome.{Outcome, line}
+use Rattle.oat_page.specs.Answer.{Answer, as_outcome}
+use Rattle.oat_page.specs.Loads.{File, AreLoaded}
+use Rattle.oat_words.specs.Commands.{IsLine, fixed_of, files_of}
+use Rattle.oat_shown.specs.Report.{report_of}
+use Rattle.oat_page.specs.Shows.{Put}
 use Rattle.oat_tool.specs.CallLaws.{OfCalls, ShowsJust}
 use Rattle.oat_tool.specs.Defined.{Defined}
 use Rattle.oat_tool.specs.DefinedLaws.{IsOfWork}
 use Rattle.oat_tool.specs.VerifyLaws.{IsJudged}
 use Rattle.oat_tool.specs.Headline.{HeadlineHolds}
-use Rattle.oat_tool.specs.Policy.{IsPolicyText, Polices, said_of, policy_text, with_policy}
+use Rattle.oat_room_verify.specs.Policy.{IsPolicyText, Polices, said_of, policy_text, with_policy}
 
 -- The first three files that the words name are judged as `verify` does, with this verdict, and the fourth holds a policy of these rules.
 pub record IsPoliced (words : List (List ℕ)) (contents : Contents) (i : Image) (verdict : Verdict) (rules : List PolicyRule) : Type 0 where

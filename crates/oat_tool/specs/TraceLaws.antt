@@ -13,17 +13,17 @@ use Rattle.oat_watch.specs.declared.watched.WatchedWindow.{WatchedWindow}
 use Rattle.oat_watch.specs.Watching.{FoundDefined, OfEach}
 use Rattle.oat_image.specs.declared.image.Image.{Image}
 use Rattle.oat_case.specs.declared.case.Case.{Case}
-use Rattle.oat_tool.specs.declared.command.Command.TheVariants as commands
-use Rattle.oat_tool.specs.Outcome.{Outcome, line}
-use Rattle.oat_tool.specs.Answer.{Answer, as_outcome}
-use Rattle.oat_tool.specs.Loads.{File, AreLoaded}
-use Rattle.oat_tool.specs.Commands.{IsLine, files_of}
-use Rattle.oat_tool.specs.Admits.{AreAdmitted}
+use Rattle.oat_words.specs.declared.command.Command.TheVariants as commands
+use Rattle.oat_page.specs.Outcome.{Outcome, line}
+use Rattle.oat_page.specs.Answer.{Answer, as_outcome}
+use Rattle.oat_page.specs.Loads.{File, AreLoaded}
+use Rattle.oat_words.specs.Commands.{IsLine, files_of}
+use Rattle.oat_inputs.specs.Admits.{AreAdmitted}
 use Rattle.oat_tool.specs.Defined.{Defined}
 use Rattle.oat_tool.specs.DefinedLaws.{IsOfWork}
-use Rattle.oat_tool.specs.Device.{run_of}
-use Rattle.oat_tool.specs.Trace.{Traces, TracesCase, parting_text, verdicts_on}
-use Rattle.oat_tool.specs.Windows.{are_few, refuses_one}
+use Rattle.oat_room_device.specs.Device.{run_of}
+use Rattle.oat_room_device.specs.Trace.{Traces, TracesCase, parting_text, verdicts_on}
+use Rattle.oat_shown.specs.Windows.{are_few, refuses_one}
 
 -- ---- `same`
 

@@ -9,16 +9,16 @@ use Rattle.oat_verify.specs.declared.verdict.Verdict.TheVariants.{Accept, Refuse
 use Rattle.oat_verify.specs.declared.verdict.Cause.{Cause}
 use Rattle.oat_verify.specs.Verdict.{subject_of, IsVerdict, CarriesSerial}
 use Rattle.oat_first.specs.First.{IsOne}
-use Rattle.oat_tool.specs.declared.command.Command.TheVariants.{Verify}
-use Rattle.oat_tool.specs.Outcome.{Outcome}
-use Rattle.oat_tool.specs.Answer.{Answer, as_outcome}
-use Rattle.oat_tool.specs.Loads.{File, AreLoaded}
-use Rattle.oat_tool.specs.Commands.{IsLine, files_of}
-use Rattle.oat_tool.specs.BlobText.{IsBlobText}
-use Rattle.oat_tool.specs.Admits.{AreAdmitted}
-use Rattle.oat_tool.specs.Report.{report_of}
+use Rattle.oat_words.specs.declared.command.Command.TheVariants.{Verify}
+use Rattle.oat_page.specs.Outcome.{Outcome}
+use Rattle.oat_page.specs.Answer.{Answer, as_outcome}
+use Rattle.oat_page.specs.Loads.{File, AreLoaded}
+use Rattle.oat_words.specs.Commands.{IsLine, files_of}
+use Rattle.oat_inputs.specs.BlobText.{IsBlobText}
+use Rattle.oat_inputs.specs.Admits.{AreAdmitted}
+use Rattle.oat_shown.specs.Report.{report_of}
 use Rattle.oat_tool.specs.Defined.{Defined}
-use Rattle.oat_tool.specs.Verify.{Verifies}
+use Rattle.oat_room_verify.specs.Verify.{Verifies}
 
 -- The files that the words name hold a shaped image, a case for one of its operations and a blob, and the verdict on
 -- the blob is this one.

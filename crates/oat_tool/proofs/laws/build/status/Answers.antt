@@ -1,4 +1,4 @@
-use Rattle.oat_tool.proofs.Building.{build_is_shown}
+use Rattle.oat_tool.proofs.BuildSaying.{build_is_shown}
 use Rattle.oat_tool.proofs.laws.build.status.Goals as goal
 
 pub returns : goal.returns

@@ -1,4 +1,4 @@
-use Rattle.oat_tool.proofs.Running as room
+use Rattle.oat_tool.proofs.DeviceSaying as room
 use Rattle.oat_tool.proofs.laws.device.one_device_answer.Goals as goal
 
 pub returns : goal.returns

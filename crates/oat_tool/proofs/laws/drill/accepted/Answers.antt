@@ -1,4 +1,4 @@
-use Rattle.oat_tool.proofs.Drilling.{drill_is_accepted}
+use Rattle.oat_tool.proofs.DrillSaying.{drill_is_accepted}
 use Rattle.oat_tool.proofs.laws.drill.accepted.Goals as goal
 
 pub returns : goal.returns

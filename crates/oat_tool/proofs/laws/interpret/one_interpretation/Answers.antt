@@ -1,4 +1,4 @@
-use Rattle.oat_tool.proofs.Interpreting as room
+use Rattle.oat_tool.proofs.RunSaying as room
 use Rattle.oat_tool.proofs.laws.interpret.one_interpretation.Goals as goal
 
 pub returns : goal.returns

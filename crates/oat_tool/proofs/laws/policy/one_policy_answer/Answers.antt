@@ -1,4 +1,4 @@
-use Rattle.oat_tool.proofs.Policing as room
+use Rattle.oat_tool.proofs.PolicySaying as room
 use Rattle.oat_tool.proofs.laws.policy.one_policy_answer.Goals as goal
 
 pub returns : goal.returns

@@ -1,4 +1,4 @@
-use Rattle.oat_tool.proofs.Tracing.{trace_is_shown}
+use Rattle.oat_tool.proofs.TraceSaying.{trace_is_shown}
 use Rattle.oat_tool.proofs.laws.trace.status.Goals as goal
 
 pub returns : goal.returns

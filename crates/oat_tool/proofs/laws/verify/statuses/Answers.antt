@@ -1,4 +1,4 @@
-use Rattle.oat_tool.proofs.Verifying.{acceptance_is_reported, refusal_is_reported, verdict_is_sealed}
+use Rattle.oat_tool.proofs.VerifySaying.{acceptance_is_reported, refusal_is_reported, verdict_is_sealed}
 use Rattle.oat_tool.proofs.laws.verify.statuses.Goals as goal
 
 pub returns : goal.returns

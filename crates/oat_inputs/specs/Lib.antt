@@ -1,0 +1,3 @@
+pub mod BlobText
+pub mod Refusals
+pub mod Admits

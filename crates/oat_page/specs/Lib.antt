@@ -1,0 +1,9 @@
+pub mod Outcome
+pub mod Texts
+pub mod Answer
+pub mod Loads
+pub mod Pieces
+pub mod Works
+pub mod Shows
+pub mod Puts
+pub mod Limits

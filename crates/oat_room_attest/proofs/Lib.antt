@@ -1,0 +1,3 @@
+pub mod Attesting
+pub mod WindowLines
+mod PlainWindows

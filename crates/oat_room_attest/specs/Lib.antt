@@ -1,0 +1,2 @@
+pub mod Attest
+pub mod Json

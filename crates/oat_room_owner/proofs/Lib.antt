@@ -1,0 +1,3 @@
+mod Enrolling
+mod Replying
+pub mod Serving

@@ -1,0 +1,2 @@
+pub mod Interpret
+pub mod Build

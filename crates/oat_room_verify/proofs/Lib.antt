@@ -1,0 +1,5 @@
+pub mod Verifying
+mod Settling
+mod Digits
+mod Retracing
+pub mod Policing

@@ -1,0 +1,3 @@
+pub mod Windowing
+mod Lines
+mod PathLines

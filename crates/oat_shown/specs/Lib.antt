@@ -1,0 +1,4 @@
+pub mod RunText
+pub mod BlobLine
+pub mod Report
+pub mod Windows

@@ -1,5 +1,0 @@
-use Rattle.oat_tool.proofs.Lines.{lines_whole}
-use Rattle.oat_tool.proofs.blob_lines.BlobLines.of.Goals as goal
-
-pub returns : goal.returns
-returns c = lines_whole c.args.blobs.items

@@ -1,6 +1,0 @@
-use Rattle.std.proofs.Common.{◌≡◌, map, take}
-use Rattle.oat_report.specs.PathLine.{edge_line}
-use Rattle.oat_tool.proofs.json_lines.path_lines.Given as goal
-
-abbrev pub invariant-loop-edge : goal.invariant-loop-edge
-invariant-loop-edge l = l.lines.items ≡ map (edge_line l.flow) (take l.edge-index l.path)

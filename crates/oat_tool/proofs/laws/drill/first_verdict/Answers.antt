@@ -1,7 +1,0 @@
-use Rattle.oat_tool.proofs.Drilling.{first_verdict_accepts}
-use Rattle.oat_tool.proofs.laws.drill.first_verdict.Goals as goal
-
-pub returns : goal.returns
-returns c =
-    first_verdict_accepts c.attestations_are_complete.ensures c.honest_runs_are_attested.ensures c.calls_are_counted.ensures c.drills_are_checked.ensures
-    c.drills_can_be_attested.ensures c.drills_complete.ensures

@@ -1,5 +1,0 @@
-use Rattle.oat_tool.proofs.Drilling.{drills_have_operation}
-use Rattle.oat_tool.proofs.laws.drill.operations.Goals as goal
-
-pub returns : goal.returns
-returns c = drills_have_operation c.drills_can_be_attested.ensures

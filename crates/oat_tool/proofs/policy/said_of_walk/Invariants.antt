@@ -1,5 +1,0 @@
-use Rattle.oat_tool.proofs.Policing.{WatchesSoFar}
-use Rattle.oat_tool.proofs.policy.said_of_walk.Given as goal
-
-abbrev pub invariant-loop-turn : goal.invariant-loop-turn
-invariant-loop-turn l = WatchesSoFar l.policy l.shaped.map l.op l.kept.bits l.kept.targets l.replay l.watch l.turn

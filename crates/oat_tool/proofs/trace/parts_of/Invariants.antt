@@ -1,6 +1,0 @@
-use Rattle.std.proofs.Common.{◌≡◌, take}
-use Rattle.oat_tool.specs.Trace.{parts_from}
-use Rattle.oat_tool.proofs.trace.parts_of.Given as goal
-
-abbrev pub invariant-loop-serial : goal.invariant-loop-serial
-invariant-loop-serial l = l.text.items ≡ parts_from l.map l.calls 0 (take l.serial l.windows)
