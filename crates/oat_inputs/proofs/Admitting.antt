@@ -1,19 +1,11 @@
 -- What is refused before a command's own work, what is admitted, and what follows for all that comes after.
-use Rattle.oat_image.specs.declared.image.Image.{Image}
-use Rattle.oat_image.specs.Grammar.{IsImageText}
-use Rattle.oat_shape.specs.Shape.{IsShaped}
-use Rattle.oat_map.specs.Rows.{IsOperation}
-use Rattle.oat_case.specs.declared.case.Case.{Case}
-use Rattle.oat_case.specs.Grammar.{IsCaseText}
-use Rattle.oat_first.specs.First.{fails, passes, IsOne}
 use Rattle.oat_first.proofs.FirstLaws.{First-one}
-use Rattle.oat_page.specs.declared.page.Stop.{Stop}
-use Rattle.oat_page.specs.Answer.{Answer, as_outcome}
-use Rattle.oat_page.specs.Loads.{File}
-use Rattle.oat_inputs.specs.Refusals.{RefusesImage, RefusesShape, RefusesCase, RefusesOperation}
-use Rattle.oat_inputs.specs.Admits.{Admits, Rejects, AreAdmitted}
-use Rattle.oat_page.specs.Works.{StopsWith}
+use Rattle.oat_image.specs.Grammar.{IsImageText}
+use Rattle.oat_shape.specs.{Image, Shape.IsShaped, IsOperation, fails, passes, IsOne}
+use Rattle.oat_case.specs.{declared.case.Case.Case, Grammar.IsCaseText}
+use Rattle.oat_page.specs.{declared.page.Stop.Stop, Answer.Answer, Answer.as_outcome, Loads.File, Works.StopsWith}
 use Rattle.oat_page.proofs.Working.{StopsWith-more, IsDone, refused_is_not_done}
+use Rattle.oat_inputs.specs.{Refusals.RefusesImage, Refusals.RefusesShape, Refusals.RefusesCase, Refusals.RefusesOperation, Admits.Admits, Admits.Rejects, Admits.AreAdmitted}
 use Rattle.oat_inputs.proofs.Refusing.{image_is_decisive, shape_is_decisive, case_is_decisive, operation_is_decisive}
 
 -- ---- where the stages stop

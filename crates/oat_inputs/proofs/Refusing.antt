@@ -1,32 +1,16 @@
 -- What is refused has one refusal, and isn't read; a reader's fault is the text's first, unless it is want of memory.
 use Rattle.std.proofs.Common.{◌≡◌, ◌≢◌, ◌∙◌, ℕ, List, Result, Ok, Err, sym, ap}
-use Rattle.oat_map.specs.declared.map.Map.{Map}
-use Rattle.oat_image.specs.declared.image.Image.{Image}
-use Rattle.oat_lines.specs.declared.fault.Fault.{Fault}
-use Rattle.oat_image.specs.declared.fault.ImageFaultKind.{ImageFaultKind}
-use Rattle.oat_lines.specs.declared.fault.Fault.TheVariants.{Memory}
-use Rattle.oat_lines.specs.Faults.{Fails}
-use Rattle.oat_lines.proofs.Steps.{is_fault}
-use Rattle.oat_image.specs.FaultText.{image_fault_word}
-use Rattle.oat_image.specs.Grammar.{IsImageText}
-use Rattle.oat_image.specs.ImageReading.{image_at}
-use Rattle.oat_image.proofs.ImageTexts.{image_again}
-use Rattle.oat_shape.specs.Shape.{IsShaped}
-use Rattle.oat_map.specs.Rows.{IsOperation}
-use Rattle.oat_shape.proofs.Refusals.{shape_is_decided}
-use Rattle.oat_case.specs.declared.case.Case.{Case}
-use Rattle.oat_case.specs.declared.fault.CaseFaultKind.{CaseFaultKind}
-use Rattle.oat_lines.specs.FaultText.{fault_text}
-use Rattle.oat_case.specs.FaultText.{case_fault_word}
-use Rattle.oat_case.specs.Grammar.{IsCaseText}
-use Rattle.oat_case.specs.Reading.{case_of}
-use Rattle.oat_case.proofs.CaseTexts.{is_read}
-use Rattle.oat_first.specs.First.{IsOne, IsDecisive}
 use Rattle.oat_first.proofs.FirstLaws.{Tests-decisive}
-use Rattle.oat_page.specs.Answer.{Answer, refused}
-use Rattle.oat_page.specs.Loads.{File}
-use Rattle.oat_inputs.specs.BlobText.{IsBlobText}
-use Rattle.oat_inputs.specs.Refusals.{rule_reason, RefusesImage, RefusesShape, RefusesCase, RefusesOperation, RefusesBlob}
+use Rattle.oat_lines.specs.{declared.fault.Fault.TheVariants.Memory, FaultText.fault_text}
+use Rattle.oat_lines.proofs.Steps.{is_fault}
+use Rattle.oat_image.specs.{declared.fault.ImageFaultKind.ImageFaultKind, FaultText.image_fault_word, Grammar.IsImageText, ImageReading.image_at}
+use Rattle.oat_image.proofs.ImageTexts.{image_again}
+use Rattle.oat_shape.specs.{Map, Image, Fault, Fails, Shape.IsShaped, IsOperation, IsOne, IsDecisive}
+use Rattle.oat_shape.proofs.Refusals.{shape_is_decided}
+use Rattle.oat_case.specs.{declared.case.Case.Case, declared.fault.CaseFaultKind.CaseFaultKind, FaultText.case_fault_word, Grammar.IsCaseText, Reading.case_of}
+use Rattle.oat_case.proofs.CaseTexts.{is_read}
+use Rattle.oat_page.specs.{Answer.Answer, Answer.refused, Loads.File}
+use Rattle.oat_inputs.specs.{BlobText.IsBlobText, Refusals.rule_reason, Refusals.RefusesImage, Refusals.RefusesShape, Refusals.RefusesCase, Refusals.RefusesOperation, Refusals.RefusesBlob}
 
 -- ---- a reader's fault
 

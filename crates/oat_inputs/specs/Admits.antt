@@ -1,14 +1,9 @@
 -- What a command over an image and a case looks at before its own work: the image's text and shape, the case's text and
 -- operation (docs/FORMATS.md).
-use Rattle.oat_image.specs.declared.image.Image.{Image}
 use Rattle.oat_image.specs.Grammar.{IsImageText}
-use Rattle.oat_shape.specs.Shape.{IsShaped}
-use Rattle.oat_map.specs.Rows.{IsOperation}
-use Rattle.oat_case.specs.declared.case.Case.{Case}
-use Rattle.oat_case.specs.Grammar.{IsCaseText}
-use Rattle.oat_first.specs.First.{First, Tests}
-use Rattle.oat_page.specs.Answer.{Answer}
-use Rattle.oat_page.specs.Loads.{File}
+use Rattle.oat_shape.specs.{Image, Shape.IsShaped, IsOperation, Tests}
+use Rattle.oat_case.specs.{declared.case.Case.Case, Grammar.IsCaseText}
+use Rattle.oat_page.specs.{First, Answer.Answer, Loads.File}
 use Rattle.oat_inputs.specs.Refusals.{RefusesImage, RefusesShape, RefusesCase, RefusesOperation}
 
 -- The first that is refused decides, and else the rest, over the image and the case.

@@ -1,22 +1,11 @@
 -- Why an input is refused, and what is said of it: the first fault of a text, the first shape rule that an image breaks,
 -- an operation that isn't the map's (docs/FORMATS.md).
-use Rattle.std.specs.Prelude.{◌≡◌, ℕ, List, ◌++◌, codes, Err}
-use Rattle.std.specs.Fmt.{decimal}
-use Rattle.oat_map.specs.declared.map.Map.{Map}
-use Rattle.oat_image.specs.declared.image.Image.{Image}
-use Rattle.oat_lines.specs.declared.fault.Fault.{Fault}
-use Rattle.oat_image.specs.declared.fault.ImageFaultKind.{ImageFaultKind}
-use Rattle.oat_image.specs.FaultText.{image_fault_word}
-use Rattle.oat_image.specs.ImageReading.{image_at}
-use Rattle.oat_shape.specs.Shape.{IsBroken}
-use Rattle.oat_map.specs.Rows.{IsOperation}
-use Rattle.oat_case.specs.declared.fault.CaseFaultKind.{CaseFaultKind}
+use Rattle.std.specs.{Prelude.◌≡◌, Prelude.ℕ, Prelude.List, Prelude.◌++◌, Prelude.codes, Prelude.Err, Fmt.decimal}
 use Rattle.oat_lines.specs.FaultText.{fault_text}
-use Rattle.oat_case.specs.FaultText.{case_fault_word}
-use Rattle.oat_case.specs.Reading.{case_of}
-use Rattle.oat_lines.specs.Hexadecimal.{hexadecimal}
-use Rattle.oat_page.specs.Answer.{Answer, refused, no_operation}
-use Rattle.oat_page.specs.Loads.{File}
+use Rattle.oat_image.specs.{declared.fault.ImageFaultKind.ImageFaultKind, FaultText.image_fault_word, ImageReading.image_at}
+use Rattle.oat_shape.specs.{Map, Image, Fault, Shape.IsBroken, IsOperation, hexadecimal}
+use Rattle.oat_case.specs.{declared.fault.CaseFaultKind.CaseFaultKind, FaultText.case_fault_word, Reading.case_of}
+use Rattle.oat_page.specs.{Answer.Answer, Answer.refused, Answer.no_operation, Loads.File}
 use Rattle.oat_inputs.specs.BlobText.{IsBlobText}
 
 abbrev pub rule_reason : ℕ → ℕ → List ℕ

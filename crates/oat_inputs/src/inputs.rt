@@ -1,9 +1,9 @@
 ghost use Rattle.std.specs.Prelude.{◌≡◌, ◌≢◌, IfOk, MatchResult};
+ghost use Rattle.oat_shape.specs.{IsWellFormedImage, IsOperation};
 ghost use Rattle.oat_lines.specs.declared.fault.Fault.TheVariants.{Memory};
 ghost use Rattle.oat_image.specs.FaultText.{image_fault_word};
-ghost use Rattle.oat_image.specs.Grammar.{IsImageText, IsWellFormedImage};
+ghost use Rattle.oat_image.specs.Grammar.{IsImageText};
 ghost use Rattle.oat_shape.specs.Shape.{IsShaped};
-ghost use Rattle.oat_map.specs.Rows.{IsOperation};
 ghost use Rattle.oat_lines.specs.FaultText.{fault_text};
 ghost use Rattle.oat_case.specs.FaultText.{case_fault_word};
 ghost use Rattle.oat_case.specs.Grammar.{IsCaseText};

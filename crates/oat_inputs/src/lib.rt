@@ -6,3 +6,4 @@ mod blob_text;
 mod inputs;
 
 pub use inputs::{case_of, digits_of, image_of, shaped_of};
+pub use oat_case::Case;

@@ -2,13 +2,11 @@
 use Rattle.std.proofs.Common.{suc, zero, ◌≡◌, ◌<◌, ◌+◌, ◌∙◌, ℕ, List, [], ◌∷◌, ◌++◌, length, take, drop, get_or, add-one, drop-cons, refl, sym, ap, subst, arith}
 use Rattle.std.proofs.Math.Seq.{take-suc}
 use Rattle.std.proofs.lemmas.List.{take-append-drop}
-use Rattle.oat_world.specs.Outside.{Contents}
 use Rattle.oat_first.specs.First.{fails, passes}
-use Rattle.oat_page.specs.declared.page.Halt.{Halt}
+use Rattle.oat_world.specs.Outside.{Contents}
+use Rattle.oat_page.specs.{declared.page.Halt.Halt, Outcome.Outcome, Outcome.says, Loads.Wanted, Loads.File, Loads.wanted_of, Loads.IsLoaded, Loads.LoadFails, Loads.absent, Loads.faulted, Loads.long}
+use Rattle.oat_page.specs.{Loads.AreLoaded, Loads.LoadsFail, Works.HaltsWith}
 use Rattle.oat_page.specs.declared.page.Halt.TheVariants as halt
-use Rattle.oat_page.specs.Outcome.{Outcome, says}
-use Rattle.oat_page.specs.Loads.{Wanted, File, wanted_of, IsLoaded, LoadFails, absent, faulted, long, AreLoaded, LoadsFail}
-use Rattle.oat_page.specs.Works.{HaltsWith}
 
 pub HaltsWith-more : (P Q : Outcome → Type 0) (h : Halt) → ((o : Outcome) → P o → Q o) → HaltsWith P h → HaltsWith Q h
 HaltsWith-more P Q (halt.ReadFault text) more halts = more (says 4 text.items) halts

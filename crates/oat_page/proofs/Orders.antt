@@ -1,11 +1,8 @@
 -- How the outcomes of a command look once its files are loaded, and that those of one that only answers to its files do.
 use Rattle.std.proofs.Common.{◌≡◌, ◌<◌, ◌≤◌, ◌⊎◌, ℕ, List, [], None, inl, ap, arith}
 use Rattle.oat_world.specs.Outside.{Contents, Rose}
-use Rattle.oat_page.specs.declared.page.Ended.TheVariants.{Done, Rejected, Unsealed}
-use Rattle.oat_page.specs.Outcome.{Outcome}
-use Rattle.oat_page.specs.Texts.{read_fault}
-use Rattle.oat_page.specs.Answer.{Answer, shows, refuses, as_outcome, IsAnswered}
-use Rattle.oat_page.specs.Loads.{Wanted, File}
+use Rattle.oat_page.specs.{declared.page.Ended.TheVariants.Done, declared.page.Ended.TheVariants.Rejected, declared.page.Ended.TheVariants.Unsealed, Outcome.Outcome, Texts.read_fault, Answer.Answer}
+use Rattle.oat_page.specs.{Answer.shows, Answer.refuses, Answer.as_outcome, Answer.IsAnswered, Loads.Wanted, Loads.File}
 
 -- a count that rose since a later moment rose since an earlier one
 pub Rose-later : (before mid now : ℕ) → before ≤ mid → Rose mid now → Rose before now

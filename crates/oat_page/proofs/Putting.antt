@@ -2,10 +2,9 @@
 use Rattle.std.proofs.Common.{◌≡◌, ◌+◌, ◌-◌, ℕ, List, [], ◌++◌, length, take, drop, Option, None, Some, Result, Ok, Err, refl, sym, ◌∙◌, ap, subst, append_assoc}
 use Rattle.std.proofs.Math.Seq.{take-add}
 use Rattle.std.proofs.lemmas.List.{take-append-drop, take_rest, append-nil}
-use Rattle.oat_world.specs.Outside.{Adds, Puts, Rose}
-use Rattle.oat_world.specs.declared.sink.SinkFault.{SinkFault}
-use Rattle.oat_world.specs.declared.sink.SinkFault.TheVariants as sink
+use Rattle.oat_world.specs.{Outside.Adds, Outside.Puts, Outside.Rose, declared.sink.SinkFault.SinkFault}
 use Rattle.oat_page.specs.Puts.{PutsAll, PutsFront}
+use Rattle.oat_world.specs.declared.sink.SinkFault.TheVariants as sink
 
 pub Adds-nothing : (old : Option (List ℕ)) → Adds old [] old
 Adds-nothing None = refl

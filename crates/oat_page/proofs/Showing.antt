@@ -1,9 +1,8 @@
 -- How puts on both outputs show an outcome.
 use Rattle.std.proofs.Common.{ℕ, List, [], Option, refl}
 use Rattle.oat_world.specs.Outside.{Adds}
-use Rattle.oat_page.specs.Outcome.{Outcome}
-use Rattle.oat_page.specs.Shows.{Put, HasFailed, OrStarved, ended, at_once, behind, IsLeft, whole, cut, cut_said, starved_said, Shows}
-use Rattle.oat_page.specs.Puts.{PutsFront, SaysLast, said, failed, starved}
+use Rattle.oat_page.specs.{Outcome.Outcome, Shows.Put, Shows.HasFailed, Shows.OrStarved, Shows.ended, Shows.at_once, Shows.behind, Shows.IsLeft, Shows.whole, Shows.cut, Shows.cut_said}
+use Rattle.oat_page.specs.{Shows.starved_said, Shows.Shows, Puts.PutsFront, Puts.SaysLast, Puts.said, Puts.failed, Puts.starved}
 use Rattle.oat_page.proofs.Putting.{Adds-nothing}
 
 -- The first text was put, and the second was said.

@@ -1,13 +1,9 @@
 -- What finished work stands for is an answer of the command.
 use Rattle.std.proofs.Common.{◌≡◌, ℕ, List, Result, Ok, Err, ap, subst}
-use Rattle.oat_page.specs.declared.page.Page.{Page}
-use Rattle.oat_page.specs.declared.page.Stop.{Stop}
-use Rattle.oat_page.specs.declared.page.Stop.TheVariants as stop
-use Rattle.oat_page.specs.Outcome.{Outcome}
-use Rattle.oat_page.specs.Answer.{Answer, shows, refuses, refused, as_outcome, IsAnswered}
-use Rattle.oat_page.specs.Shows.{Put, Shows}
+use Rattle.oat_page.specs.{declared.page.Page.Page, declared.page.Stop.Stop, Outcome.Outcome, Answer.Answer, Answer.shows, Answer.refuses, Answer.refused, Answer.as_outcome, Answer.IsAnswered}
+use Rattle.oat_page.specs.{Shows.Put, Shows.Shows, Works.StopsWith, Works.RefusesWith, Works.Works, Works.IsOutcomeOf, Works.IsStopOutcome}
 use Rattle.oat_page.proofs.Showing.{Shows-more}
-use Rattle.oat_page.specs.Works.{StopsWith, RefusesWith, Works, IsOutcomeOf, IsStopOutcome}
+use Rattle.oat_page.specs.declared.page.Stop.TheVariants as stop
 
 -- Work that stopped early answers a refusal.
 pub stops_answer : (Q : Answer → Type 0) (s : Stop) (o : Outcome) → StopsWith Q s → IsStopOutcome s o → IsAnswered Q o

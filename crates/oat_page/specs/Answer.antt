@@ -1,10 +1,7 @@
 -- What a command answers once its files are loaded. Its statuses are 0, 1, 2 and 7 by its form, and a refusal puts nothing on `out`.
-use Rattle.std.specs.Prelude.{◌≡◌, ℕ, List, ◌++◌, codes}
-use Rattle.std.specs.Fmt.{decimal}
-use Rattle.oat_page.specs.declared.page.Ended.{Ended}
-use Rattle.oat_page.specs.declared.page.Ended.TheVariants.{Done, Rejected, Unsealed}
-use Rattle.oat_page.specs.Outcome.{Outcome, says}
-use Rattle.oat_page.specs.Texts.{refusal}
+use Rattle.std.specs.{Prelude.◌≡◌, Prelude.ℕ, Prelude.List, Prelude.◌++◌, Prelude.codes, Fmt.decimal}
+use Rattle.oat_page.specs.{declared.page.Ended.Ended, declared.page.Ended.TheVariants.Done, declared.page.Ended.TheVariants.Rejected, declared.page.Ended.TheVariants.Unsealed, Outcome.Outcome}
+use Rattle.oat_page.specs.{Outcome.says, Texts.refusal}
 
 abbrev pub status_of : Ended → ℕ
 status_of Done = 0

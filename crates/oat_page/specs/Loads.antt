@@ -1,9 +1,8 @@
 -- Loads in the order of the words: each file is held within its limit, or the first that isn't decides (docs/FORMATS.md).
 use Rattle.std.specs.Prelude.{◌≡◌, ◌<◌, ◌≤◌, ℕ, List, ◌∷◌, length, Some, None, IsSomeAnd, Option, []}
-use Rattle.oat_world.specs.Outside.{Contents}
 use Rattle.oat_first.specs.First.{First}
-use Rattle.oat_page.specs.Outcome.{Outcome}
-use Rattle.oat_page.specs.Texts.{read_fault, too_long}
+use Rattle.oat_world.specs.Outside.{Contents}
+use Rattle.oat_page.specs.{Outcome.Outcome, Texts.read_fault, Texts.too_long}
 
 -- a file that a command asks for
 pub record Wanted : Type 0 where

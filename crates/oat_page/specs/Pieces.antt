@@ -1,8 +1,6 @@
 -- One step of a text that is made piece by piece (docs/DEFINITIONS.md).
-use Rattle.std.specs.Prelude.{◌≡◌, ◌<◌, ℕ, List, [], ◌++◌, ◌+◌, Bool, true, false, Option, Some, None, Result, Ok, Err}
-use Rattle.std.specs.declared.vec.Vec.{Vec}
-use Rattle.std.specs.declared.alloc.Global.{Global}
-use Rattle.std.specs.declared.alloc.AllocError.{AllocError}
+use Rattle.std.specs.{Prelude.◌≡◌, Prelude.◌<◌, Prelude.ℕ, Prelude.List, Prelude.[], Prelude.◌++◌, Prelude.◌+◌, Prelude.Bool, Prelude.true, Prelude.false, Prelude.Option, Prelude.Some, Prelude.None}
+use Rattle.std.specs.{Prelude.Result, Prelude.Ok, Prelude.Err, declared.vec.Vec.Vec, declared.alloc.Global.Global, declared.alloc.AllocError.AllocError}
 
 -- The next piece stands in front of what is left; or nothing is left; or memory was wanting, and nothing is said.
 abbrev pub MakesPiece : (text left : List ℕ) (turns less : ℕ) → Result (Option (Vec ℕ Global)) AllocError → Type 0

@@ -1,10 +1,8 @@
 -- How far a text was put on one output (docs/DEFINITIONS.md).
 use Rattle.std.specs.Prelude.{◌≡◌, ℕ, List, Option, Result, Ok, Err}
-use Rattle.oat_world.specs.Outside.{Adds, Rose}
-use Rattle.oat_world.specs.declared.sink.SinkFault.{SinkFault}
+use Rattle.oat_world.specs.{Outside.Adds, Outside.Rose, declared.sink.SinkFault.SinkFault}
+use Rattle.oat_page.specs.{Outcome.IsPrefix, Shows.Put}
 use Rattle.oat_world.specs.declared.sink.SinkFault.TheVariants as sink
-use Rattle.oat_page.specs.Outcome.{IsPrefix}
-use Rattle.oat_page.specs.Shows.{Put}
 
 -- A front of the text was put.
 abbrev pub PutsFront : List ℕ → Option (List ℕ) → Option (List ℕ) → Type 0

@@ -1,8 +1,7 @@
 -- How a call puts the outcome that it set out for, over outputs that may fail (docs/DEFINITIONS.md).
 use Rattle.std.specs.Prelude.{◌≡◌, ℕ, List, Option, []}
 use Rattle.oat_world.specs.Outside.{Adds, Rose}
-use Rattle.oat_page.specs.Outcome.{Outcome, IsPrefix}
-use Rattle.oat_page.specs.Texts.{starved}
+use Rattle.oat_page.specs.{Outcome.Outcome, Outcome.IsPrefix, Texts.starved}
 
 -- what a call did to a sink: what it held and holds, and the count of faults before and after
 pub record Put : Type 0 where

@@ -1,6 +1,5 @@
 -- What a call that does no work puts: usage, a refused input, a load that failed, want of memory.
-use Rattle.std.specs.Prelude.{ℕ, List, ◌++◌, codes}
-use Rattle.std.specs.Fmt.{decimal}
+use Rattle.std.specs.{Prelude.ℕ, Prelude.List, Prelude.◌++◌, Prelude.codes, Fmt.decimal}
 use Rattle.oat_page.specs.Outcome.{Outcome, line, says}
 
 -- the line of a refused input, by the file's name and the reason

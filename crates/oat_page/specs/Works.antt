@@ -1,17 +1,11 @@
 -- What the work of a command, and the loads before it, end with (docs/DEFINITIONS.md).
-use Rattle.std.specs.Prelude.{◌≡◌, ℕ, List, Some, None, Result, Ok, Err, MatchResult, IfErr}
-use Rattle.std.specs.declared.vec.Vec.{Vec}
-use Rattle.std.specs.declared.alloc.Global.{Global}
-use Rattle.std.specs.declared.alloc.AllocError.{AllocError}
-use Rattle.oat_page.specs.declared.page.Page.{Page}
-use Rattle.oat_page.specs.declared.page.Stop.{Stop}
-use Rattle.oat_page.specs.declared.page.Stop.TheVariants as stop
-use Rattle.oat_page.specs.declared.page.Halt.{Halt}
-use Rattle.oat_page.specs.declared.page.Halt.TheVariants as halt
+use Rattle.std.specs.{Prelude.◌≡◌, Prelude.ℕ, Prelude.List, Prelude.Some, Prelude.None, Prelude.Result, Prelude.Ok, Prelude.Err, Prelude.MatchResult, Prelude.IfErr, declared.vec.Vec.Vec}
+use Rattle.std.specs.{declared.alloc.Global.Global, declared.alloc.AllocError.AllocError}
 use Rattle.oat_world.specs.Outside.{Contents, Rose}
-use Rattle.oat_page.specs.Outcome.{Outcome, says}
-use Rattle.oat_page.specs.Answer.{Answer, shows, refuses, refused, as_outcome}
-use Rattle.oat_page.specs.Loads.{Wanted, File, IsLoaded, LoadFails, AreLoaded, LoadsFail, Read}
+use Rattle.oat_page.specs.{declared.page.Page.Page, declared.page.Stop.Stop, declared.page.Halt.Halt, Outcome.Outcome, Outcome.says, Answer.Answer, Answer.shows, Answer.refuses, Answer.refused}
+use Rattle.oat_page.specs.{Answer.as_outcome, Loads.Wanted, Loads.File, Loads.IsLoaded, Loads.LoadFails, Loads.AreLoaded, Loads.LoadsFail, Loads.Read}
+use Rattle.oat_page.specs.declared.page.Stop.TheVariants as stop
+use Rattle.oat_page.specs.declared.page.Halt.TheVariants as halt
 
 -- Work that stops early refuses an input so, or memory was wanting.
 abbrev pub StopsWith : (Answer → Type 0) → Stop → Type 0

@@ -12,6 +12,7 @@ mod texts;
 
 pub use files::{File, load_all, load_one};
 pub use limits::{BLOB_LIMIT, CASE_LIMIT, IMAGE_LIMIT, POLICY_LIMIT, PROGRAM_LIMIT, SCRIPT_LIMIT};
+pub use oat_world::{Files, Sink, SinkFault};
 pub use page::{Ended, Halt, Page, Stop};
 pub use pieces::{Pieces, Then, Whole};
 pub use put::{close, finish, put_all, put_pieces, say, say_halt, say_starved, say_stop};

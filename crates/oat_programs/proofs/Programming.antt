@@ -1,27 +1,13 @@
 -- What is refused of a program's file and of its case's has one refusal, and isn't read.
 use Rattle.std.proofs.Common.{◌≡◌, ◌∙◌, Bool, true, false, Option, Some, None, Result, Ok, Err, MatchResult, sym, ap, subst, IsTrue, ◌<◌, ◌≤◌, ◌++◌, ℕ, List, decimal, codes, ap₂, []}
-use Rattle.oat_ir.specs.declared.program.Program.{Program}
-use Rattle.oat_lines.specs.FaultText.{fault_text}
-use Rattle.oat_text.specs.FaultText.{kind_text}
-use Rattle.oat_text.specs.Grammar.{IsProgramText}
-use Rattle.oat_text.specs.Bodies.{program_of}
-use Rattle.oat_check.specs.declared.fault.CheckFault.{CheckFault}
-use Rattle.oat_check.specs.declared.fault.CheckFault.TheVariants.{At}
-use Rattle.oat_check.specs.Rules.{first_fault, has_operation}
-use Rattle.oat_case.specs.declared.case.Case.{Case}
-use Rattle.oat_case.specs.Grammar.{IsCaseText}
-use Rattle.oat_first.specs.First.{IsOne, IsDecisive}
-use Rattle.oat_page.specs.declared.page.Stop.{Stop}
-use Rattle.oat_page.specs.Answer.{Answer, refused, no_operation, as_outcome}
-use Rattle.oat_page.specs.Loads.{File}
-use Rattle.oat_programs.specs.Programs.{rule_text, IsCheckedText, MisreadsProgram, BreaksCheck, RefusesProgram, misread, broken, IsCaseOf, RefusesCaseOf, misread_case, lacking, RefusesCode}
-use Rattle.oat_page.specs.Works.{StopsWith, RefusesWith}
-use Rattle.oat_page.proofs.Working.{StopsWith-more, IsDone, refused_is_not_done, RefusesWith-stops}
-use Rattle.oat_inputs.proofs.Refusing.{err_one, never, case_is_decisive}
+use Rattle.oat_check.specs.{declared.fault.CheckFault.CheckFault, declared.fault.CheckFault.TheVariants.At, Rules.first_fault}
+use Rattle.oat_text.specs.{FaultText.kind_text, Grammar.IsProgramText, Bodies.program_of}
 use Rattle.oat_text.proofs.TextLaws.{text_read, one_program}
-use Rattle.oat_asm.specs.Items.{code_limit}
-use Rattle.oat_build.specs.Built.{program_words}
-use Rattle.oat_ir.specs.Size.{most_words}
+use Rattle.oat_build.specs.{Program, has_operation, Case, code_limit, Built.program_words, most_words}
+use Rattle.oat_page.proofs.Working.{StopsWith-more, IsDone, refused_is_not_done, RefusesWith-stops}
+use Rattle.oat_inputs.specs.{fault_text, IsCaseText, IsOne, IsDecisive, Stop, Answer, refused, no_operation, as_outcome, File, StopsWith, RefusesWith}
+use Rattle.oat_inputs.proofs.Refusing.{err_one, never, case_is_decisive}
+use Rattle.oat_programs.specs.Programs.{rule_text, IsCheckedText, MisreadsProgram, BreaksCheck, RefusesProgram, misread, broken, IsCaseOf, RefusesCaseOf, misread_case, lacking, RefusesCode}
 
 -- ---- where the stages stop
 

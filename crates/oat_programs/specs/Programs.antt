@@ -1,27 +1,14 @@
 -- What a command over a program and a case looks at before its own work: the program's text and the checking rules, the
 -- case's text and operation (docs/FORMATS.md).
-use Rattle.std.specs.Prelude.{◌≡◌, ℕ, List, ◌++◌, codes, slice_get, Option, Some, None, Err, IsTrue, ◌<◌, ◌≤◌}
-use Rattle.std.specs.Option.{option_map, option_and_then}
-use Rattle.std.specs.Fmt.{decimal}
-use Rattle.oat_ir.specs.declared.program.Program.{Program}
-use Rattle.oat_text.specs.declared.fault.TextFaultKind.{TextFaultKind}
-use Rattle.oat_text.specs.FaultText.{kind_text}
-use Rattle.oat_text.specs.Grammar.{IsProgramText}
-use Rattle.oat_text.specs.Bodies.{program_of}
-use Rattle.oat_check.specs.declared.fault.CheckKind.{CheckKind}
-use Rattle.oat_check.specs.declared.fault.CheckKind.TheVariants.{NoMain, GlobalWords, Locals, NoEnd, CallsMain, OperationCall, RefKind, Arity, Kind, MainRet}
-use Rattle.oat_check.specs.declared.fault.CheckFault.TheVariants.{At}
-use Rattle.oat_check.specs.Rules.{IsChecked, first_fault, has_operation}
-use Rattle.oat_lines.specs.declared.fault.Fault.{Fault}
-use Rattle.oat_lines.specs.FaultText.{fault_text}
-use Rattle.oat_case.specs.declared.case.Case.{Case}
-use Rattle.oat_case.specs.Grammar.{IsCaseText}
-use Rattle.oat_page.specs.Answer.{Answer, refused, no_operation}
-use Rattle.oat_page.specs.Loads.{File}
-use Rattle.oat_inputs.specs.Refusals.{RefusesCase}
-use Rattle.oat_asm.specs.Items.{code_limit}
-use Rattle.oat_ir.specs.Size.{most_words}
-use Rattle.oat_build.specs.Built.{program_words}
+use Rattle.std.specs.{Prelude.◌≡◌, Prelude.ℕ, Prelude.List, Prelude.◌++◌, Prelude.codes, Prelude.slice_get, Prelude.Option, Prelude.Some, Prelude.None, Prelude.Err, Prelude.IsTrue, Prelude.◌<◌}
+use Rattle.std.specs.{Prelude.◌≤◌, Option.option_map, Option.option_and_then, Fmt.decimal}
+use Rattle.oat_check.specs.{declared.fault.CheckKind.CheckKind, declared.fault.CheckKind.TheVariants.NoMain, declared.fault.CheckKind.TheVariants.GlobalWords}
+use Rattle.oat_check.specs.{declared.fault.CheckKind.TheVariants.Locals, declared.fault.CheckKind.TheVariants.NoEnd, declared.fault.CheckKind.TheVariants.CallsMain}
+use Rattle.oat_check.specs.{declared.fault.CheckKind.TheVariants.OperationCall, declared.fault.CheckKind.TheVariants.RefKind, declared.fault.CheckKind.TheVariants.Arity}
+use Rattle.oat_check.specs.{declared.fault.CheckKind.TheVariants.Kind, declared.fault.CheckKind.TheVariants.MainRet, declared.fault.CheckFault.TheVariants.At, Rules.first_fault}
+use Rattle.oat_text.specs.{declared.fault.TextFaultKind.TextFaultKind, FaultText.kind_text, Grammar.IsProgramText, Bodies.program_of}
+use Rattle.oat_build.specs.{Program, IsChecked, has_operation, Case, code_limit, most_words, Built.program_words}
+use Rattle.oat_inputs.specs.{Fault, fault_text, IsCaseText, Answer, refused, no_operation, File, Refusals.RefusesCase}
 
 -- ---- a broken rule, in words
 

@@ -3,4 +3,5 @@
 
 mod programs;
 
+pub use oat_inputs::Case;
 pub use programs::{case_for, checked_of, too_large};

@@ -1,17 +1,13 @@
 ghost use Rattle.std.specs.Prelude.{◌≡◌, ◌≢◌, ◌++◌, OnOk, IfOk, MatchResult, Some, codes};
 ghost use Rattle.std.specs.Fmt.{decimal};
-ghost use Rattle.oat_lines.specs.declared.fault.Fault.TheVariants.{Memory};
-ghost use Rattle.oat_lines.specs.FaultText.{fault_text};
+ghost use Rattle.oat_inputs.specs.{Memory, fault_text, program_limit, case_limit, IsRefusal, StopsWith};
 ghost use Rattle.oat_text.specs.FaultText.{kind_text};
 ghost use Rattle.oat_text.specs.Grammar.{IsProgramText};
-ghost use Rattle.oat_page.specs.Limits.{program_limit, case_limit};
 ghost use Rattle.oat_programs.specs.Programs.{rule_word, func_named, block_named, rule_place, rule_text, IsCheckedText, MisreadsProgram, BreaksCheck, RefusesProgram, IsCaseOf, RefusesCaseOf};
-ghost use Rattle.oat_page.specs.Works.{IsRefusal, StopsWith};
 
-use oat_case::Case;
+use oat_build::Program;
 use oat_check::{CheckFault, CheckKind, Checked, check};
-use oat_inputs::case_of;
-use oat_ir::Program;
+use oat_inputs::{Case, case_of};
 use oat_page::{File, Stop, no_operation, refused};
 use oat_text::{TextFault, read_program};
 use std::alloc::{AllocError, Global};

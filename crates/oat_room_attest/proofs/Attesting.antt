@@ -1,28 +1,14 @@
 -- What commands over an attestation have in common: where their work stops and goes on, and what was done.
 use Rattle.std.proofs.Common.{◌≡◌, ◌<◌, ◌∙◌, ℕ, List, [], ◌∷◌, length, refl, ap, ap₂, subst, sym}
 use Rattle.std.proofs.lemmas.Slice.Zip.{AllZip-long}
-use Rattle.oat_ir.specs.declared.program.Program.{Program}
-use Rattle.oat_case.specs.declared.case.Case.{Case}
-use Rattle.oat_attestation.specs.declared.attested.Attested.{Attested}
-use Rattle.oat_attestation.specs.Attestation.{Attests, TellsRun, opening_at, run_at}
-use Rattle.oat_blob.specs.Body.{Body}
-use Rattle.oat_blob.specs.Layout.{IsBlobOf}
-use Rattle.oat_case.specs.Limits.{IsWellFormedCase}
-use Rattle.oat_measure.specs.Shelving.{sealed_bodies}
-use Rattle.oat_verify.specs.Verdict.{IsVerdict, subject_of}
-use Rattle.oat_first.specs.First.{fails, passes}
-use Rattle.oat_page.specs.declared.page.Stop.{Stop}
-use Rattle.oat_page.specs.declared.page.Ended.{Ended}
-use Rattle.oat_page.specs.Outcome.{Outcome}
-use Rattle.oat_page.specs.Answer.{Answer, IsAnswered, as_outcome, shows}
-use Rattle.oat_page.specs.Loads.{File}
-use Rattle.oat_programs.specs.Programs.{IsCheckedText, RefusesProgram, IsCaseOf, RefusesCaseOf, CodeFits, RefusesCode}
-use Rattle.oat_room_attest.specs.Attest.{AreAttested, AttestsFiles, AttestsProgram, RefusesFiles, ShowsWindows, attested_answer, attested_text}
-use Rattle.oat_shown.specs.Windows.{ended_with, want_text}
-use Rattle.oat_page.specs.Works.{StopsWith}
+use Rattle.oat_attestation.specs.{declared.attested.Attested.Attested, Attestation.Attests, Attestation.TellsRun, Attestation.opening_at, Attestation.run_at}
 use Rattle.oat_page.proofs.Working.{StopsWith-more, IsDone, refused_is_not_done}
-use Rattle.oat_shown.proofs.Windowing.{few_windows}
+use Rattle.oat_programs.specs.{Program, Programs.IsCheckedText, Programs.RefusesProgram, Programs.IsCaseOf, Programs.RefusesCaseOf, Programs.CodeFits, Programs.RefusesCode}
 use Rattle.oat_programs.proofs.Programming.{refused_program_is_not_done, refused_case_is_not_done}
+use Rattle.oat_shown.specs.{Case, Body, IsBlobOf, IsWellFormedCase, sealed_bodies, IsVerdict, subject_of, fails, passes, Stop, Ended, Outcome, Answer, IsAnswered, as_outcome, shows, File}
+use Rattle.oat_shown.specs.{Windows.ended_with, Windows.want_text, StopsWith}
+use Rattle.oat_shown.proofs.Windowing.{few_windows}
+use Rattle.oat_room_attest.specs.Attest.{AreAttested, AttestsFiles, AttestsProgram, RefusesFiles, ShowsWindows, attested_answer, attested_text}
 
 -- ---- where the files are refused
 

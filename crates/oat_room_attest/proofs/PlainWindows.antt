@@ -1,30 +1,13 @@
 -- The texts of a window's JSON line are plain, and what the line tells of a verdict.
 use Rattle.std.proofs.Common.{◌≡◌, ℕ, List, ◌∷◌, length, map, Option, Some, None, Bor, refl, sym, codes, []}
-use Rattle.std.specs.Prelude.{is_some, slice_get}
-use Rattle.std.specs.List.{AllByRecursion}
-use Rattle.std.specs.Option.{option_copied}
-use Rattle.std.specs.Slice.{IsItemAt}
+use Rattle.std.specs.{Prelude.is_some, Prelude.slice_get, List.AllByRecursion, Option.option_copied, Slice.IsItemAt}
 use Rattle.std.proofs.lemmas.Option.{slice_get_past, slice_get_read}
-use Rattle.oat_a64.specs.declared.event.FaultKind.{FaultKind}
-use Rattle.oat_a64.specs.declared.event.FaultKind.TheVariants.{Access, Fetch, Undefined}
-use Rattle.oat_map.specs.declared.trap.TrapKind.{TrapKind}
-use Rattle.oat_map.specs.declared.trap.TrapKind.TheVariants.{DivZero, Index, NullCall, Depth, InputEnd}
-use Rattle.oat_map.specs.declared.edge.Edge.{Edge}
-use Rattle.oat_image.specs.declared.image.Image.{Image}
-use Rattle.oat_image.specs.Grammar.{IsWellFormedImage}
-use Rattle.oat_journal.specs.declared.end.DeviceEnd.{DeviceEnd}
-use Rattle.oat_journal.specs.declared.end.DeviceEnd.TheVariants.{Halted, Trap, Fault, Stopped, OutOfSteps}
-use Rattle.oat_measure.specs.declared.stop.StopKind.{StopKind}
-use Rattle.oat_measure.specs.declared.stop.StopKind.TheVariants.{Nested, WrongEnd}
-use Rattle.oat_lines.specs.Hexadecimal.{hexadecimal}
-use Rattle.oat_verify.specs.declared.verdict.Verdict.{Verdict}
-use Rattle.oat_verify.specs.declared.verdict.Verdict.TheVariants.{Accept, Refuse}
+use Rattle.oat_journal.specs.declared.end.DeviceEnd.TheVariants.{Fault}
 use Rattle.oat_report.specs.declared.json_report.Report.{Report}
-use Rattle.oat_report.specs.PathLine.{edge_line}
-use Rattle.oat_report.specs.JsonLine.{IsPlainText, cause_member, is_accepted, json_text}
-use Rattle.oat_report.proofs.PlainTexts.{is_plain, plain_text, plain_append, plain_hexadecimal}
-use Rattle.oat_report.proofs.PlainLines.{line_is_plain}
-use Rattle.oat_shown.specs.RunText.{trap_text, machine_fault_text, stop_text, end_text}
+use Rattle.oat_report.proofs.{PlainTexts.is_plain, PlainTexts.plain_text, PlainTexts.plain_append, PlainTexts.plain_hexadecimal, PlainLines.line_is_plain}
+use Rattle.oat_shown.specs.{FaultKind, Access, Fetch, Undefined, TrapKind, DivZero, Index, NullCall, Depth, InputEnd, Edge, Image, IsWellFormedImage, DeviceEnd, Halted, Trap, Stopped, OutOfSteps}
+use Rattle.oat_shown.specs.{StopKind, Nested, WrongEnd, hexadecimal, Verdict, Accept, Refuse, edge_line, IsPlainText, cause_member, is_accepted, json_text, RunText.trap_text}
+use Rattle.oat_shown.specs.{RunText.machine_fault_text, RunText.stop_text, RunText.end_text}
 use Rattle.oat_room_attest.specs.Json.{accepted_lines}
 
 -- ---- the texts are plain

@@ -2,10 +2,8 @@
 use Rattle.std.proofs.Common.{◌≡◌, ◌∙◌, ◌+◌, ◌++◌, ℕ, List, ◌∷◌, length, get_or, Option, Some, None, sym, ap, subst, length-append, append_assoc, append-nil, refl, arith, []}
 use Rattle.std.specs.Prelude.{slice_get}
 use Rattle.std.proofs.lemmas.Option.{slice_get_read}
-use Rattle.oat_map.specs.declared.map.Map.{Map}
-use Rattle.oat_verify.specs.declared.verdict.Verdict.{Verdict}
+use Rattle.oat_shown.specs.{Map, Verdict, Windows.window_number}
 use Rattle.oat_room_attest.specs.Attest.{window_text, windows_from}
-use Rattle.oat_shown.specs.Windows.{window_number}
 
 -- ---- windows
 

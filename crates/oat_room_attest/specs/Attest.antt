@@ -1,20 +1,10 @@
 -- What a command over an attestation looks at before it shows one: the program and the case for one of its operations, and then whether the program's code
 -- fits (docs/FORMATS.md).
 use Rattle.std.specs.Prelude.{◌≡◌, ◌+◌, ℕ, Option, List, [], ◌∷◌, ◌++◌}
-use Rattle.oat_ir.specs.declared.program.Program.{Program}
-use Rattle.oat_case.specs.declared.case.Case.{Case}
-use Rattle.oat_attestation.specs.declared.attested.Attested.{Attested}
-use Rattle.oat_attestation.specs.Attestation.{Attests}
-use Rattle.oat_map.specs.declared.map.Map.{Map}
-use Rattle.oat_verify.specs.declared.verdict.Verdict.{Verdict}
-use Rattle.oat_first.specs.First.{First, Tests}
-use Rattle.oat_page.specs.Answer.{Answer, shows}
-use Rattle.oat_page.specs.Loads.{File}
-use Rattle.oat_shown.specs.BlobLine.{blob_line}
-use Rattle.oat_shown.specs.Report.{report_text}
-use Rattle.oat_shown.specs.RunText.{run_text}
-use Rattle.oat_shown.specs.Windows.{ended_with, want_text, window_number}
-use Rattle.oat_programs.specs.Programs.{IsCheckedText, RefusesProgram, IsCaseOf, RefusesCaseOf, CodeFits, RefusesCode}
+use Rattle.oat_attestation.specs.{declared.attested.Attested.Attested, Attestation.Attests}
+use Rattle.oat_programs.specs.{Program, Programs.IsCheckedText, Programs.RefusesProgram, Programs.IsCaseOf, Programs.RefusesCaseOf, Programs.CodeFits, Programs.RefusesCode}
+use Rattle.oat_shown.specs.{Case, Map, Verdict, First, Tests, Answer, shows, File, BlobLine.blob_line, Report.report_text, RunText.run_text, Windows.ended_with, Windows.want_text}
+use Rattle.oat_shown.specs.{Windows.window_number}
 
 -- What is attested of a program and a case is shown so.
 pub record ShowsAttested (Shown : Case → Attested → Answer → Type 0) (p : Program) (c : Case) (a : Answer) : Type 0 where

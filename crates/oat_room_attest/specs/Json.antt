@@ -1,20 +1,9 @@
 -- `attest --json PROG CASE`: the first refusal of an input, or a JSON line for each window that the case calls for, whether it sealed or not
 -- (docs/FORMATS.md).
 use Rattle.std.specs.Prelude.{◌≡◌, ◌+◌, ℕ, zero, suc, List, [], ◌++◌, map, slice_get, Option, Some, None}
-use Rattle.oat_map.specs.declared.map.Map.{Map}
-use Rattle.oat_case.specs.declared.case.Case.{Case}
-use Rattle.oat_verify.specs.declared.verdict.Verdict.{Verdict}
+use Rattle.oat_attestation.specs.{declared.attested.Attested.Attested, Laws.calls_measured}
 use Rattle.oat_report.specs.declared.json_report.Report.{Report}
-use Rattle.oat_report.specs.JsonLine.{json_text}
-use Rattle.oat_report.specs.PathLine.{edge_line}
-use Rattle.oat_attestation.specs.declared.attested.Attested.{Attested}
-use Rattle.oat_attestation.specs.Laws.{calls_measured}
-use Rattle.oat_page.specs.Outcome.{line}
-use Rattle.oat_page.specs.Answer.{Answer, shows}
-use Rattle.oat_page.specs.Loads.{File}
-use Rattle.oat_shown.specs.Report.{path_in}
-use Rattle.oat_shown.specs.RunText.{end_text}
-use Rattle.oat_shown.specs.Windows.{ended_with, window_number, want_text}
+use Rattle.oat_shown.specs.{Map, Case, Verdict, json_text, edge_line, line, Answer, shows, File, Report.path_in, RunText.end_text, Windows.ended_with, Windows.window_number, Windows.want_text}
 use Rattle.oat_room_attest.specs.Attest.{AttestsFiles}
 
 -- the lines of the path that is accepted; none where nothing is

@@ -1,14 +1,8 @@
 ghost use Rattle.std.specs.Prelude.{◌≡◌, ◌≢◌, ◌<◌, ◌⊎◌, ◌∷◌, [], true, length, map, MatchResult};
-ghost use Rattle.oat_case.specs.Limits.{IsWellFormedCase};
-ghost use Rattle.oat_check.specs.Rules.{has_operation};
+ghost use Rattle.oat_shown.specs.{IsWellFormedCase, Rose, IsAnswered, put_of, Shows, case_limit, program_limit, PutsAll, StopsWith};
+ghost use Rattle.oat_programs.specs.{has_operation};
 ghost use Rattle.oat_attestation.specs.Attestation.{Attests};
-ghost use Rattle.oat_world.specs.Outside.{Rose};
-ghost use Rattle.oat_page.specs.Answer.{IsAnswered};
 ghost use Rattle.oat_shown.specs.BlobLine.{blob_line};
-ghost use Rattle.oat_page.specs.Shows.{put_of, Shows};
-ghost use Rattle.oat_page.specs.Limits.{case_limit, program_limit};
-ghost use Rattle.oat_page.specs.Puts.{PutsAll};
-ghost use Rattle.oat_page.specs.Works.{StopsWith};
 ghost use Rattle.oat_programs.specs.Programs.{CodeFits, RefusesCode};
 ghost use Rattle.oat_room_attest.specs.Attest.{AreAttested, AttestsProgram, RefusesFiles, ShowsWindows, attested_text, window_text, windows_from};
 
@@ -20,10 +14,10 @@ use oat_map::Map;
 use oat_page::{File, Stop, close, put_pieces, say_stop};
 use oat_programs::{case_for, checked_of, too_large};
 use oat_shown::{
-    BlobLines, RunLines, ended_with, put_verdict, refuses_one, want_text, window_number,
+    BlobLines, RunLines, Sink, SinkFault, ended_with, put_verdict, refuses_one, want_text,
+    window_number,
 };
 use oat_verify::Verdict;
-use oat_world::{Sink, SinkFault};
 use std::alloc::Global;
 
 /// A case of a program, and what is attested of both.

@@ -1,7 +1,6 @@
 ghost use Rattle.std.specs.Prelude.{◌≡◌, map, ◌∷◌, []};
-ghost use Rattle.oat_page.specs.Limits.{case_limit, program_limit};
+ghost use Rattle.oat_shown.specs.{case_limit, program_limit, Works};
 ghost use Rattle.oat_room_attest.specs.Json.{AttestsInJson};
-ghost use Rattle.oat_page.specs.Works.{Works};
 
 use crate::attest::attest_files;
 use crate::json_lines::JsonLines;

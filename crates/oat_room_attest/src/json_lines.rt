@@ -1,14 +1,12 @@
 ghost use Rattle.std.specs.Prelude.{◌≡◌, ◌-◌, IfOk, is_some, map, unwrap_or};
 ghost use Rattle.std.specs.Option.{option_copied};
-ghost use Rattle.oat_report.specs.JsonLine.{IsPlainReport, cause_member, is_accepted, json_text};
-ghost use Rattle.oat_report.specs.PathLine.{edge_line};
-ghost use Rattle.oat_page.specs.Outcome.{line};
+ghost use Rattle.oat_shown.specs.{IsPlainReport, cause_member, is_accepted, json_text, edge_line, line};
 ghost use Rattle.oat_shown.specs.RunText.{end_text};
 ghost use Rattle.oat_room_attest.specs.Json.{accepted_lines, json_lines, window_report};
 
 use oat_attestation::Attested;
+use oat_build::Listed;
 use oat_journal::DeviceEnd;
-use oat_list::Listed;
 use oat_map::{Edge, Map, Path};
 use oat_page::Pieces;
 use oat_report::{Report, json_line, path_line};

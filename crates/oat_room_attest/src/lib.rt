@@ -4,3 +4,5 @@
 pub mod attest;
 pub mod attest_json;
 mod json_lines;
+
+pub use oat_shown::Sink;

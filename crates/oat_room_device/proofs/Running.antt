@@ -1,23 +1,12 @@
 -- The room of `device`: where its work stops and goes on, that it has one answer, and what its statuses say.
 use Rattle.std.proofs.Common.{◌≡◌, ◌<◌, ◌+◌, ◌++◌, ◌∙◌, ℕ, zero, suc, length, take, List, ◌∷◌, Some, refl, sym, ap, subst, arith, []}
 use Rattle.std.specs.List.{AllZip, slice_get}
-use Rattle.std.proofs.lemmas.List.{take_more}
-use Rattle.std.proofs.lemmas.Option.{get_or_from_slice_get}
-use Rattle.oat_blob.specs.Layout.{IsBlobOf}
-use Rattle.oat_blob.specs.Body.{Body}
-use Rattle.oat_image.specs.declared.image.Image.{Image}
-use Rattle.oat_case.specs.declared.case.Case.{Case}
-use Rattle.oat_journal.specs.Measured.{opening_of}
-use Rattle.oat_device.specs.DeviceRun.{DeviceRun, HasRun, bodies_so_far}
-use Rattle.oat_measure.specs.Shelving.{sealed_bodies}
-use Rattle.oat_page.specs.declared.page.Stop.{Stop}
-use Rattle.oat_page.specs.Answer.{Answer}
-use Rattle.oat_page.specs.Loads.{File}
-use Rattle.oat_inputs.specs.Admits.{Rejects, AreAdmitted}
-use Rattle.oat_room_device.specs.Device.{IsBlobUnder, Runs, RunsCase, run_of}
-use Rattle.oat_page.specs.Works.{StopsWith}
+use Rattle.std.proofs.lemmas.{List.take_more, Option.get_or_from_slice_get}
 use Rattle.oat_page.proofs.Working.{StopsWith-more}
+use Rattle.oat_inputs.specs.Admits.{Rejects, AreAdmitted}
 use Rattle.oat_inputs.proofs.Admitting.{Admits-rejected, Admits-admitted}
+use Rattle.oat_shown.specs.{IsBlobOf, Body, Image, Case, opening_of, DeviceRun, HasRun, bodies_so_far, sealed_bodies, Stop, Answer, File, StopsWith}
+use Rattle.oat_room_device.specs.Device.{IsBlobUnder, Runs, RunsCase, run_of}
 
 -- ---- where the work stops, and where it goes on to the run
 

@@ -1,20 +1,13 @@
 -- The room of `trace`: where its work stops and goes on, and what its statuses say.
 use Rattle.std.proofs.Common.{◌≡◌, ◌<◌, ◌+◌, ◌++◌, ◌∙◌, ℕ, length, take, List, ◌∷◌, Option, get_or, append-nil, append_assoc, length-take-le, refl, sym, ap, arith, Bool, ◌||◌, []}
-use Rattle.std.proofs.lemmas.List.{take_more}
-use Rattle.oat_image.specs.declared.image.Image.{Image}
-use Rattle.oat_map.specs.declared.map.Map.{Map}
-use Rattle.oat_case.specs.declared.case.Case.{Case}
-use Rattle.oat_watch.specs.declared.watched.WatchedWindow.{WatchedWindow}
-use Rattle.oat_page.specs.declared.page.Stop.{Stop}
-use Rattle.oat_page.specs.Answer.{Answer}
-use Rattle.oat_page.specs.Loads.{File}
-use Rattle.oat_inputs.specs.Admits.{Rejects, AreAdmitted}
-use Rattle.oat_room_device.specs.Trace.{Traces, TracesCase, part_text, parts_from, verdicts_on}
-use Rattle.oat_shown.specs.Windows.{refuses_one, window_number, is_refusal}
-use Rattle.oat_page.specs.Works.{StopsWith}
-use Rattle.oat_page.proofs.Working.{StopsWith-more}
-use Rattle.oat_inputs.proofs.Admitting.{Admits-rejected, Admits-admitted}
 use Rattle.std.specs.List.{list_any}
+use Rattle.std.proofs.lemmas.List.{take_more}
+use Rattle.oat_watch.specs.declared.watched.WatchedWindow.{WatchedWindow}
+use Rattle.oat_page.proofs.Working.{StopsWith-more}
+use Rattle.oat_inputs.specs.Admits.{Rejects, AreAdmitted}
+use Rattle.oat_inputs.proofs.Admitting.{Admits-rejected, Admits-admitted}
+use Rattle.oat_shown.specs.{Image, Map, Case, Stop, Answer, File, Windows.refuses_one, Windows.window_number, Windows.is_refusal, StopsWith}
+use Rattle.oat_room_device.specs.Trace.{Traces, TracesCase, part_text, parts_from, verdicts_on}
 
 -- ---- where the work stops, and where it goes on to the run
 

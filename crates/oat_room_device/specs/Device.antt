@@ -1,23 +1,9 @@
 -- `device IMAGE CASE`: the first refusal of an input, or the lines of the measured run, with the blob of each window that
 -- it sealed (docs/FORMATS.md).
-use Rattle.std.specs.Prelude.{◌≡◌, ℕ, List, [], ◌∷◌, ◌++◌, codes}
-use Rattle.oat_measure.specs.declared.opening.Opening.{Opening}
-use Rattle.oat_blob.specs.Layout.{IsBlobOf}
-use Rattle.oat_image.specs.declared.image.Image.{Image}
-use Rattle.oat_map.specs.Rows.{BeginsAt}
-use Rattle.oat_case.specs.declared.case.Case.{Case}
-use Rattle.oat_journal.specs.Measured.{Run, dev, end_of, opening_of}
-use Rattle.oat_measure.specs.Shelving.{sealed_bodies}
-use Rattle.oat_device.specs.DeviceRun.{IsSealed}
-use Rattle.oat_blob.specs.Body.{Body}
-use Rattle.std.specs.List.{AllZip, flat_map}
-use Rattle.oat_page.specs.declared.page.Ended.TheVariants.{Done, Unsealed}
-use Rattle.oat_page.specs.Outcome.{line}
-use Rattle.oat_page.specs.Answer.{Answer, shows}
-use Rattle.oat_page.specs.Loads.{File}
-use Rattle.oat_shown.specs.RunText.{run_text}
-use Rattle.oat_shown.specs.BlobLine.{blob_line}
+use Rattle.std.specs.{Prelude.◌≡◌, Prelude.ℕ, Prelude.List, Prelude.[], Prelude.◌∷◌, Prelude.◌++◌, Prelude.codes, List.AllZip, List.flat_map}
 use Rattle.oat_inputs.specs.Admits.{Admits}
+use Rattle.oat_shown.specs.{Opening, IsBlobOf, Image, BeginsAt, Case, Run, dev, end_of, opening_of, sealed_bodies, IsSealed, Body, Done, Unsealed, line, Answer, shows, File, RunText.run_text}
+use Rattle.oat_shown.specs.{BlobLine.blob_line}
 
 -- the measured run of a case
 abbrev pub run_of : Image → Case → ℕ → Run

@@ -1,29 +1,12 @@
 -- `trace IMAGE CASE`: the first refusal of an input, or the lines of the measured run, and for each window that it sealed what it did there beside the
 -- verdict on the window's blob (docs/FORMATS.md).
-use Rattle.std.specs.Prelude.{◌≡◌, ◌+◌, ℕ, List, [], ◌∷◌, ◌++◌, length, map, Option, Some, None}
-use Rattle.std.specs.List.{flat_map}
-use Rattle.oat_chain.specs.Clash.{bytes_of}
-use Rattle.oat_chain.specs.declared.message.Clash.{Clash}
-use Rattle.oat_image.specs.declared.image.Image.{Image}
-use Rattle.oat_map.specs.declared.map.Map.{Map}
-use Rattle.oat_map.specs.Rows.{BeginsAt}
-use Rattle.oat_case.specs.declared.case.Case.{Case}
-use Rattle.oat_journal.specs.Measured.{opening_of}
-use Rattle.oat_measure.specs.Shelving.{sealed_bodies}
-use Rattle.oat_report.specs.TraceLine.{use_text, same_text, apart_text}
-use Rattle.oat_report.specs.VerdictLine.{verdict_text}
-use Rattle.oat_verify.specs.declared.verdict.Verdict.{Verdict}
-use Rattle.oat_verify.specs.declared.verdict.Verdict.TheVariants.{Accept, Refuse}
-use Rattle.oat_watch.specs.declared.watched.CheckedUse.{CheckedUse}
-use Rattle.oat_watch.specs.declared.watched.WatchedWindow.{WatchedWindow}
-use Rattle.oat_watch.specs.Watching.{HasItsVerdict, OfEach, Parts, ShowsWindow}
-use Rattle.oat_page.specs.Outcome.{line}
-use Rattle.oat_page.specs.Answer.{Answer, shows}
-use Rattle.oat_page.specs.Loads.{File}
-use Rattle.oat_shown.specs.Report.{path_text}
-use Rattle.oat_room_device.specs.Device.{run_lines, run_of}
+use Rattle.std.specs.{Prelude.◌≡◌, Prelude.◌+◌, Prelude.ℕ, Prelude.List, Prelude.[], Prelude.◌∷◌, Prelude.◌++◌, Prelude.length, Prelude.map, Prelude.Option, Prelude.Some, Prelude.None, List.flat_map}
+use Rattle.oat_chain.specs.{Clash.bytes_of, declared.message.Clash.Clash}
+use Rattle.oat_watch.specs.{declared.watched.CheckedUse.CheckedUse, declared.watched.WatchedWindow.WatchedWindow, Watching.HasItsVerdict, Watching.OfEach, Watching.Parts, Watching.ShowsWindow}
 use Rattle.oat_inputs.specs.Admits.{Admits}
-use Rattle.oat_shown.specs.Windows.{ended_with, want_text, window_number}
+use Rattle.oat_shown.specs.{Image, Map, BeginsAt, Case, opening_of, sealed_bodies, use_text, same_text, apart_text, verdict_text, Verdict, Accept, Refuse, line, Answer, shows, File, Report.path_text}
+use Rattle.oat_shown.specs.{Windows.ended_with, Windows.want_text, Windows.window_number}
+use Rattle.oat_room_device.specs.Device.{run_lines, run_of}
 
 -- ---- the part of a window
 

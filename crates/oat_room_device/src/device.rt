@@ -1,22 +1,15 @@
 ghost use Rattle.std.specs.Prelude.{◌≡◌, ◌++◌, [], map, IfOk, codes, ◌∷◌};
 ghost use Rattle.std.specs.List.{AllZip, flat_map};
-ghost use Rattle.oat_case.specs.Limits.{IsWellFormedCase};
-ghost use Rattle.oat_map.specs.Rows.{IsOperation};
-ghost use Rattle.oat_device.specs.DeviceRun.{bodies_so_far};
-ghost use Rattle.oat_page.specs.Limits.{case_limit, image_limit};
-ghost use Rattle.oat_page.specs.declared.page.Ended.TheVariants.{Done, Unsealed};
-ghost use Rattle.oat_page.specs.Outcome.{line};
-ghost use Rattle.oat_page.specs.Answer.{shows};
+ghost use Rattle.oat_shown.specs.{IsWellFormedCase, IsOperation, bodies_so_far, case_limit, image_limit, Done, Unsealed, line, shows, Works, answer_in};
 ghost use Rattle.oat_shown.specs.BlobLine.{blob_line};
-ghost use Rattle.oat_page.specs.Works.{Works, answer_in};
 ghost use Rattle.oat_room_device.specs.Device.{IsBlobUnder, Runs, RunsCase};
 
 use oat_case::{Bytes, Case};
 use oat_device::Device;
 use oat_inputs::admit::admit;
 use oat_page::{Ended, File, Page, Pieces, Stop, Then};
-use oat_shape::Shaped;
 use oat_shown::{BlobLines, RunLines};
+use oat_verify::Shaped;
 use std::alloc::{AllocError, Global};
 
 /// The lines of a run, and those of its blobs.

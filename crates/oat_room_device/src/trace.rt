@@ -1,27 +1,18 @@
 ghost use Rattle.std.specs.Prelude.{◌≡◌, ◌++◌, ◌<◌, IfOk, OnOk, length, map, ◌∷◌, []};
 ghost use Rattle.std.specs.List.{flat_map, list_any};
-ghost use Rattle.oat_case.specs.Limits.{IsWellFormedCase};
-ghost use Rattle.oat_map.specs.Rows.{IsOperation};
-ghost use Rattle.oat_page.specs.Limits.{case_limit, image_limit};
+ghost use Rattle.oat_shown.specs.{IsWellFormedCase, IsOperation, case_limit, image_limit, edge_line, apart_text, verdict_text, line, Works, answer_in};
 ghost use Rattle.oat_chain.specs.Clash.{bytes_of};
-ghost use Rattle.oat_report.specs.PathLine.{edge_line};
-ghost use Rattle.oat_report.specs.TraceLine.{apart_text};
-ghost use Rattle.oat_report.specs.VerdictLine.{verdict_text};
-ghost use Rattle.oat_page.specs.Outcome.{line};
 ghost use Rattle.oat_shown.specs.Report.{path_text};
 ghost use Rattle.oat_room_device.specs.Trace.{TracesCase, Traces, part_text, parting_text, parts_from, use_line};
 ghost use Rattle.oat_shown.specs.Windows.{is_refusal};
-ghost use Rattle.oat_page.specs.Works.{Works, answer_in};
 
 use oat_case::Case;
 use oat_chain::Clash;
 use oat_inputs::admit::admit;
-use oat_map::{Edge, Map};
 use oat_page::{File, Page, Pieces, Stop, Then, Whole};
 use oat_report::{apart_line, path_line, use_line, verdict_line};
-use oat_shape::Shaped;
-use oat_shown::{RunLines, ended_with, is_refusal, want_text, window_number};
-use oat_verify::Verdict;
+use oat_shown::{Edge, Map, RunLines, ended_with, is_refusal, want_text, window_number};
+use oat_verify::{Shaped, Verdict};
 use oat_watch::{CheckedUse, WatchedWindow, watch};
 use std::alloc::{AllocError, Global};
 

@@ -1,27 +1,12 @@
 -- The room of `drill`: the first verdict on each number's drill is an acceptance, with 80 outputs and a path of 4,243 edges.
 use Rattle.std.proofs.Common.{◌≡◌, ◌≤◌, ◌∙◌, ℕ, List, Option, Some, None, true, length, slice_get, unwrap_or, refl, sym, ap, arith, []}
-use Rattle.std.proofs.lemmas.Bool.{ltb-true}
-use Rattle.std.proofs.lemmas.List.{length-map}
-use Rattle.oat_ir.specs.declared.program.Program.{Program}
-use Rattle.oat_ir.specs.declared.source.SourceEnd.TheVariants.{Halted, OutOfSteps, Trap}
-use Rattle.oat_case.specs.declared.case.Case.{Case}
-use Rattle.oat_case.specs.Limits.{IsWellFormedCase}
-use Rattle.oat_events.specs.Source.{Finish, halted, trapped, calls_done, end_after, has_completed, outputs_of, path_of_call}
-use Rattle.oat_check.specs.Rules.{IsChecked}
-use Rattle.oat_check.specs.RunLaws.{CallsAreCounted}
-use Rattle.oat_check.specs.Runs.{source_events, source_of}
-use Rattle.oat_check.specs.Shown.{written_end}
-use Rattle.oat_follow.specs.Steps.{instructions_for}
-use Rattle.oat_map.specs.declared.edge.Edge.{Edge}
-use Rattle.oat_make.specs.Drill.{drill_program}
-use Rattle.oat_make.specs.Text.{drill_case}
-use Rattle.oat_make.specs.Laws.{DrillsAreChecked, DrillsCanBeAttested, DrillsComplete}
-use Rattle.oat_verify.specs.declared.verdict.Verdict.{Verdict}
-use Rattle.oat_verify.specs.declared.verdict.Verdict.TheVariants.{Accept}
-use Rattle.oat_attestation.specs.declared.attested.Attested.{Attested}
-use Rattle.oat_attestation.specs.Attestation.{Attests}
-use Rattle.oat_attestation.specs.Laws.{AcceptsTheCall, AttestationsAreComplete, HonestRunsAreAttested, calls_measured}
-use Rattle.oat_page.specs.Answer.{shows}
+use Rattle.std.proofs.lemmas.{Bool.ltb-true, List.length-map}
+use Rattle.oat_ir.specs.declared.source.SourceEnd.TheVariants.{Trap}
+use Rattle.oat_check.specs.{Halted, OutOfSteps, Shown.written_end}
+use Rattle.oat_make.specs.{Drill.drill_program, Text.drill_case, Laws.DrillsAreChecked, Laws.DrillsCanBeAttested, Laws.DrillsComplete}
+use Rattle.oat_build.specs.{Program, calls_done, IsChecked, CallsAreCounted, source_events, source_of, instructions_for}
+use Rattle.oat_attestation.specs.{declared.attested.Attested.Attested, Attestation.Attests, Laws.AcceptsTheCall, Laws.AttestationsAreComplete, Laws.HonestRunsAreAttested, Laws.calls_measured}
+use Rattle.oat_shown.specs.{Case, IsWellFormedCase, Finish, halted, trapped, end_after, has_completed, outputs_of, path_of_call, Edge, Verdict, Accept, shows}
 use Rattle.oat_room_drill.specs.Drill.{AttestsDrill, DrillsHaveOperation, FirstVerdictAccepts}
 
 -- ---- of any program and case whose one call completes

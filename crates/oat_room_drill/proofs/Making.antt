@@ -1,25 +1,15 @@
 -- What the room of `drill` reads, checks and puts. The drill is a variable here, since nothing is to compute with it.
-use Rattle.std.proofs.Common.{◌≡◌, ◌∙◌, ◌≤◌, ◌++◌, ◌∷◌, [], ℕ, List, Result, Ok, Err, IfOk, Some, None, true, length, slice_get, slice_index_or, codes, decimal, append_assoc, ap, ap₂, sym, subst, arith}
+use Rattle.std.proofs.Common.{◌≡◌, ◌∙◌, ◌≤◌, ◌++◌, ◌∷◌, [], ℕ, List, Result, Ok, Err, IfOk, Some, None, true, length, slice_get, slice_index_or, codes, decimal, append_assoc, ap, ap₂, sym, subst}
+use Rattle.std.proofs.Common.{arith}
 use Rattle.std.specs.declared.alloc.AllocError.{AllocError}
-use Rattle.oat_ir.specs.declared.program.Program.{Program}
-use Rattle.oat_ir.specs.Size.{most_words}
+use Rattle.sha2.specs.Sha256.{sha256}
+use Rattle.hex.specs.Hex.{encode_lower}
 use Rattle.oat_text.specs.Grammar.{IsProgramText}
 use Rattle.oat_text.proofs.TextLaws.{one_program}
-use Rattle.oat_check.specs.Rules.{has_operation}
-use Rattle.oat_case.specs.declared.case.Case.{Case}
-use Rattle.oat_make.specs.Drill.{drill_program}
-use Rattle.oat_make.specs.Text.{drill_case}
-use Rattle.oat_attestation.specs.declared.attested.Attested.{Attested}
-use Rattle.oat_attestation.specs.Attestation.{Attests}
-use Rattle.oat_verify.specs.declared.verdict.Verdict.{Verdict}
-use Rattle.sha2.specs.Sha256.{sha256}
-use Rattle.oat_map.specs.declared.edge.Edge.{Edge}
-use Rattle.oat_map.specs.declared.map.Map.{Map}
-use Rattle.hex.specs.Hex.{encode_lower}
-use Rattle.oat_report.specs.VerdictLine.{verdict_text}
-use Rattle.oat_shown.specs.Report.{path_in, path_text}
-use Rattle.oat_page.specs.declared.page.Ended.{Ended}
-use Rattle.oat_page.specs.Answer.{Answer, shows}
+use Rattle.oat_make.specs.{Drill.drill_program, Text.drill_case}
+use Rattle.oat_build.specs.{Program, most_words, has_operation}
+use Rattle.oat_attestation.specs.{declared.attested.Attested.Attested, Attestation.Attests}
+use Rattle.oat_shown.specs.{Case, Verdict, Edge, Map, verdict_text, Report.path_in, Report.path_text, Ended, Answer, shows}
 use Rattle.oat_room_drill.specs.Drill.{AttestsDrill, Drills, IsDrillCase, ShowsDrill, drill_report}
 
 few_of : (m : ℕ) → m ≤ 4096 → m ≤ 1048576

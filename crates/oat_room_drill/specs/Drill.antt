@@ -1,22 +1,12 @@
 -- `drill N`: a program and a case are made from the number, the program is built, its run is measured, and its blob is judged (docs/FORMATS.md, "Drill"). Which image it is stays open.
-use Rattle.std.specs.Prelude.{◌≡◌, ℕ, List, ◌∷◌, ◌++◌, None, Some, length, slice_get, codes, true, []}
-use Rattle.std.specs.Fmt.{decimal}
+use Rattle.std.specs.{Prelude.◌≡◌, Prelude.ℕ, Prelude.List, Prelude.◌∷◌, Prelude.◌++◌, Prelude.None, Prelude.Some, Prelude.length, Prelude.slice_get, Prelude.codes, Prelude.true, Prelude.[]}
+use Rattle.std.specs.{Fmt.decimal}
 use Rattle.hex.specs.Hex.{encode_lower}
 use Rattle.sha2.specs.Sha256.{sha256}
-use Rattle.oat_case.specs.declared.case.Case.{Case}
-use Rattle.oat_case.specs.Limits.{IsWellFormedCase}
-use Rattle.oat_verify.specs.declared.verdict.Verdict.{Verdict}
-use Rattle.oat_report.specs.VerdictLine.{verdict_text}
-use Rattle.oat_make.specs.Drill.{drill_program}
-use Rattle.oat_make.specs.Text.{drill_case}
-use Rattle.oat_attestation.specs.declared.attested.Attested.{Attested}
-use Rattle.oat_attestation.specs.Attestation.{Attests}
-use Rattle.oat_page.specs.Outcome.{line}
-use Rattle.oat_page.specs.Answer.{Answer, shows}
-use Rattle.oat_shown.specs.Report.{path_in, path_text, ended_of}
-use Rattle.oat_map.specs.declared.edge.Edge.{Edge}
-use Rattle.oat_verify.specs.declared.verdict.Verdict.TheVariants.{Accept}
-use Rattle.oat_check.specs.Rules.{has_operation}
+use Rattle.oat_make.specs.{Drill.drill_program, Text.drill_case}
+use Rattle.oat_build.specs.{has_operation}
+use Rattle.oat_attestation.specs.{declared.attested.Attested.Attested, Attestation.Attests}
+use Rattle.oat_shown.specs.{Case, IsWellFormedCase, Verdict, verdict_text, line, Answer, shows, Report.path_in, Report.path_text, Report.ended_of, Edge, Accept}
 
 -- the number, how many outputs and path lines there are, the digest of these lines, and the verdict's line
 abbrev pub drill_report : ℕ → ℕ → ℕ → List ℕ → Verdict → List ℕ

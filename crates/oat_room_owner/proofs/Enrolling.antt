@@ -1,24 +1,15 @@
 -- How devices that are enrolled one after another are known, and where the first that isn't stops them.
 use Rattle.std.proofs.Common.{◌≡◌, ◌∙◌, ◌<◌, ◌+◌, ℕ, List, [], ◌∷◌, ◌++◌, length, map, take, drop, get_or, refl, sym, ap, subst}
 use Rattle.std.proofs.lemmas.List.{drop_more, take_more, take-append-drop, map-append}
-use Rattle.oat_world.specs.Outside.{Contents}
-use Rattle.oat_first.specs.First.{fails, passes}
-use Rattle.oat_image.specs.declared.image.Image.{Image}
-use Rattle.oat_image.specs.Grammar.{IsImageText}
-use Rattle.oat_owner.specs.declared.device.Known.{Known}
-use Rattle.oat_owner.specs.Ledger.{ids_of}
+use Rattle.oat_owner.specs.{declared.device.Known.Known, Ledger.ids_of}
 use Rattle.oat_script.specs.declared.script.ScriptDevice.{ScriptDevice}
-use Rattle.oat_page.specs.declared.page.Halt.{Halt}
-use Rattle.oat_page.specs.declared.page.Halt.TheVariants as halt
-use Rattle.oat_page.specs.declared.page.Stop.{Stop}
-use Rattle.oat_page.specs.declared.page.Stop.TheVariants as stop
-use Rattle.oat_page.specs.Outcome.{Outcome}
-use Rattle.oat_page.specs.Answer.{Answer, refuses, as_outcome, IsAnswered}
-use Rattle.oat_page.specs.Loads.{File, IsLoaded}
-use Rattle.oat_inputs.specs.Refusals.{RefusesImage, RefusesShape}
-use Rattle.oat_page.specs.Works.{StopsWith, HaltsWith, halt_of, IsReadFault, IsHaltOutcome}
-use Rattle.oat_room_owner.specs.Owner.{image_file, IsEnrolled, EnrolmentFails, AreEnrolled, EnrolmentsFail}
 use Rattle.oat_page.proofs.Holding.{LoadFails-more}
+use Rattle.oat_inputs.specs.Refusals.{RefusesImage, RefusesShape}
+use Rattle.oat_shown.specs.{Contents, fails, passes, Image, IsImageText, Halt, Stop, Outcome, Answer, refuses, as_outcome, IsAnswered, File, IsLoaded, StopsWith, HaltsWith, halt_of, IsReadFault}
+use Rattle.oat_shown.specs.{IsHaltOutcome}
+use Rattle.oat_room_owner.specs.Owner.{image_file, IsEnrolled, EnrolmentFails, AreEnrolled, EnrolmentsFail}
+use Rattle.oat_page.specs.declared.page.Halt.TheVariants as halt
+use Rattle.oat_page.specs.declared.page.Stop.TheVariants as stop
 
 -- ---- stops that halt
 

@@ -1,36 +1,16 @@
 -- How replies that are put one after another add up, and where they stop.
 use Rattle.std.proofs.Common.{◌≡◌, ◌∙◌, ◌<◌, ◌+◌, ℕ, List, [], ◌∷◌, ◌++◌, length, take, drop, get_or, Option, Some, Result, Ok, Err, refl, sym, ap, subst, append_assoc}
-use Rattle.std.proofs.lemmas.Grind.{flat_map-append}
-use Rattle.std.proofs.lemmas.List.{append-nil, drop_more, take_more, take-append-drop, map-append}
-use Rattle.oat_world.specs.Outside.{Adds}
-use Rattle.oat_world.specs.declared.sink.SinkFault.{SinkFault}
-use Rattle.oat_world.specs.declared.sink.SinkFault.TheVariants as sink
-use Rattle.oat_map.specs.declared.edge.Edge.{Edge}
-use Rattle.oat_map.specs.declared.map.Map.{Map}
-use Rattle.oat_image.specs.declared.image.Image.{Image}
-use Rattle.oat_owner.specs.declared.device.Known.{Known}
-use Rattle.oat_owner.specs.declared.owner.Answer.{Answer}
-use Rattle.oat_owner.specs.declared.owner.Answer.TheVariants.{Accepted}
-use Rattle.oat_owner.specs.declared.call.OwnerCall.{OwnerCall}
+use Rattle.std.proofs.lemmas.{Grind.flat_map-append, List.append-nil, List.drop_more, List.take_more, List.take-append-drop, List.map-append}
+use Rattle.oat_owner.specs.{declared.device.Known.Known, declared.owner.Answer.Answer, declared.owner.Answer.TheVariants.Accepted, declared.call.OwnerCall.OwnerCall}
+use Rattle.oat_owner.specs.{declared.call.OwnerReply.OwnerReply, Ledger.Ledger, Ledger.shaped_of, Replies.IsAnswerReply, Replies.behind_answer, Exchanges.Exchange, Exchanges.IsReply, Exchanges.behind}
+use Rattle.oat_owner.specs.{Exchanges.CallByCall, Exchanges.owner_behind, Laws.AcceptedIsIssued, Laws.CallsGiveReplies, Laws.CallsGoOn}
+use Rattle.oat_page.proofs.{Putting.Adds-then, Putting.PutsAll-behind, Putting.PutsFront-whole, Showing.Shows-more}
+use Rattle.oat_shown.specs.{Adds, SinkFault, Edge, Map, Image, edge_line, Done, Outcome, line, starved, IsWorkOutcome, PutsAll, Report.path_text, Put, Shows}
+use Rattle.oat_room_owner.specs.{Owner.path_by, Owner.accepted_path, Owner.reply_lines, Owner.lines_from, Owner.replies_text, Owner.replied_calls, Owner.RepliesTo, Owner.to_all, Owner.to_some}
+use Rattle.oat_room_owner.specs.{Serving.IsOfIssued, Serving.PutsReplies}
+use Rattle.oat_shown.specs.sink as sink
 use Rattle.oat_owner.specs.declared.call.OwnerCall.TheVariants as calls
-use Rattle.oat_owner.specs.declared.call.OwnerReply.{OwnerReply}
 use Rattle.oat_owner.specs.declared.call.OwnerReply.TheVariants as replies
-use Rattle.oat_owner.specs.Ledger.{Ledger, shaped_of}
-use Rattle.oat_owner.specs.Replies.{IsAnswerReply, behind_answer}
-use Rattle.oat_owner.specs.Exchanges.{Exchange, IsReply, behind, CallByCall, owner_behind}
-use Rattle.oat_owner.specs.Laws.{AcceptedIsIssued, CallsGiveReplies, CallsGoOn}
-use Rattle.oat_report.specs.PathLine.{edge_line}
-use Rattle.oat_page.specs.declared.page.Ended.TheVariants.{Done}
-use Rattle.oat_page.specs.Outcome.{Outcome, line}
-use Rattle.oat_page.specs.Texts.{starved}
-use Rattle.oat_page.specs.Answer.{IsWorkOutcome}
-use Rattle.oat_room_owner.specs.Owner.{path_by, accepted_path, reply_lines, lines_from, replies_text, replied_calls, RepliesTo, to_all, to_some}
-use Rattle.oat_page.specs.Puts.{PutsAll}
-use Rattle.oat_shown.specs.Report.{path_text}
-use Rattle.oat_room_owner.specs.Serving.{IsOfIssued, PutsReplies}
-use Rattle.oat_page.specs.Shows.{Put, Shows}
-use Rattle.oat_page.proofs.Putting.{Adds-then, PutsAll-behind, PutsFront-whole}
-use Rattle.oat_page.proofs.Showing.{Shows-more}
 
 -- the lines of an accepted path, by the image of the challenge's device
 pub accepted_lines : (l : Ledger) (answer : Answer) (number : ℕ) (path : List Edge) (image : Image) → answer ≡ Accepted number path

@@ -1,18 +1,12 @@
 -- The outcomes of `owner` are orderly: a count that rose gives a read fault and nothing else new, refusals are quiet, and a read fault
 -- is that of a device's image.
 use Rattle.std.proofs.Common.{◌≡◌, ◌∙◌, ◌<◌, ◌⊎◌, ℕ, suc, List, [], ◌∷◌, Contains, inl, inr, refl, sym, ap, subst, arith}
-use Rattle.oat_world.specs.Outside.{Contents}
-use Rattle.oat_first.specs.First.{fails, passes}
-use Rattle.oat_owner.specs.declared.device.Known.{Known}
-use Rattle.oat_owner.specs.declared.call.OwnerCall.{OwnerCall}
+use Rattle.oat_owner.specs.{declared.device.Known.Known, declared.call.OwnerCall.OwnerCall}
 use Rattle.oat_script.specs.declared.script.ScriptDevice.{ScriptDevice}
-use Rattle.oat_page.specs.Outcome.{Outcome, says}
-use Rattle.oat_page.specs.Texts.{read_fault}
-use Rattle.oat_page.specs.Answer.{Answer, refuses, as_outcome, IsAnswered}
-use Rattle.oat_page.specs.Loads.{Wanted, File, LoadFails, LoadsFail, absent, faulted, long}
+use Rattle.oat_page.proofs.Orders.{TellsFault, IsFurtherFault, IsOrderly, no_fault}
+use Rattle.oat_shown.specs.{Contents, fails, passes, Outcome, says, read_fault, Answer, refuses, as_outcome, IsAnswered, Wanted, File, LoadFails, LoadsFail, absent, faulted, long}
 use Rattle.oat_room_owner.specs.Owner.{RefusesScript, image_file, EnrolmentFails, EnrolmentsFail, RepliesTo, to_all, to_some, Serves, NamesImage}
 use Rattle.oat_room_owner.proofs.Enrolling.{EnrolmentFails-more}
-use Rattle.oat_page.proofs.Orders.{TellsFault, IsFurtherFault, IsOrderly, no_fault}
 
 -- ---- enrolments
 

@@ -1,36 +1,15 @@
 -- `owner SCRIPT`: the first refusal of the script or of a device's image, or the lines of the replies to the script's calls
 -- (docs/FORMATS.md, "Owner scripts").
-use Rattle.std.specs.Prelude.{◌≡◌, ℕ, List, [], ◌∷◌, ◌++◌, Option, Some, None, Ok, Err, Contains, map}
-use Rattle.std.specs.List.{AllZip}
-use Rattle.oat_world.specs.Outside.{Contents}
-use Rattle.oat_first.specs.First.{First}
-use Rattle.oat_lines.specs.declared.fault.Fault.{Fault}
-use Rattle.oat_lines.specs.FaultText.{fault_text}
-use Rattle.oat_map.specs.declared.edge.Edge.{Edge}
-use Rattle.oat_image.specs.declared.image.Image.{Image}
-use Rattle.oat_image.specs.Grammar.{IsImageText}
-use Rattle.oat_shape.specs.Shape.{IsShaped}
-use Rattle.oat_owner.specs.declared.device.Known.{Known}
-use Rattle.oat_owner.specs.declared.owner.Answer.TheVariants.{Accepted}
-use Rattle.oat_owner.specs.declared.call.OwnerCall.{OwnerCall}
-use Rattle.oat_owner.specs.declared.call.OwnerReply.{OwnerReply}
-use Rattle.oat_owner.specs.declared.call.OwnerReply.TheVariants as replies
-use Rattle.oat_owner.specs.Ledger.{Ledger, shaped_of}
-use Rattle.oat_owner.specs.Exchanges.{Exchange, behind, owner_behind, AreReplies}
+use Rattle.std.specs.{Prelude.◌≡◌, Prelude.ℕ, Prelude.List, Prelude.[], Prelude.◌∷◌, Prelude.◌++◌, Prelude.Option, Prelude.Some, Prelude.None, Prelude.Ok, Prelude.Err, Prelude.Contains, Prelude.map}
+use Rattle.std.specs.{List.AllZip}
+use Rattle.oat_owner.specs.{declared.device.Known.Known, declared.owner.Answer.TheVariants.Accepted, declared.call.OwnerCall.OwnerCall, declared.call.OwnerReply.OwnerReply, Ledger.Ledger}
+use Rattle.oat_owner.specs.{Ledger.shaped_of, Exchanges.Exchange, Exchanges.behind, Exchanges.owner_behind, Exchanges.AreReplies}
+use Rattle.oat_script.specs.{declared.script.Script.Script, declared.script.ScriptDevice.ScriptDevice, declared.fault.ScriptFaultKind.ScriptFaultKind, FaultText.script_fault_word, Reading.script_of}
 use Rattle.oat_reply.specs.ReplyLine.{reply_text}
-use Rattle.oat_script.specs.declared.script.Script.{Script}
-use Rattle.oat_script.specs.declared.script.ScriptDevice.{ScriptDevice}
-use Rattle.oat_script.specs.declared.fault.ScriptFaultKind.{ScriptFaultKind}
-use Rattle.oat_script.specs.FaultText.{script_fault_word}
-use Rattle.oat_script.specs.Reading.{script_of}
-use Rattle.oat_page.specs.declared.page.Ended.TheVariants.{Done}
-use Rattle.oat_page.specs.Outcome.{Outcome, line}
-use Rattle.oat_page.specs.Texts.{starved}
-use Rattle.oat_page.specs.Answer.{Answer, IsAnswered, IsWorkOutcome, refused}
-use Rattle.oat_page.specs.Limits.{image_limit}
-use Rattle.oat_page.specs.Loads.{Wanted, File, IsLoaded, LoadFails}
 use Rattle.oat_inputs.specs.Refusals.{RefusesImage, RefusesShape}
-use Rattle.oat_shown.specs.Report.{path_text}
+use Rattle.oat_shown.specs.{Contents, First, Fault, fault_text, Edge, Image, IsImageText, IsShaped, Done, Outcome, line, starved, Answer, IsAnswered, IsWorkOutcome, refused, image_limit, Wanted, File}
+use Rattle.oat_shown.specs.{IsLoaded, LoadFails, Report.path_text}
+use Rattle.oat_owner.specs.declared.call.OwnerReply.TheVariants as replies
 
 -- A script is refused for its first fault.
 pub record RefusesScript (file : File) (a : Answer) : Type 0 where

@@ -1,27 +1,13 @@
 -- How far the work of `owner` came: devices that were enrolled, an owner that was opened, replies that were put (docs/DEFINITIONS.md).
-use Rattle.std.specs.Prelude.{◌≡◌, ◌<◌, ℕ, List, [], ◌++◌, length, Some, Ok, Result, MatchResult, IfOk}
-use Rattle.std.specs.declared.vec.Vec.{Vec}
-use Rattle.std.specs.declared.alloc.Global.{Global}
-use Rattle.oat_world.specs.Outside.{Contents, Rose}
-use Rattle.oat_world.specs.declared.sink.SinkFault.{SinkFault}
-use Rattle.oat_map.specs.declared.edge.Edge.{Edge}
-use Rattle.oat_owner.specs.declared.device.Known.{Known}
-use Rattle.oat_owner.specs.declared.owner.Answer.TheVariants.{Accepted}
-use Rattle.oat_owner.specs.declared.call.OwnerCall.{OwnerCall}
-use Rattle.oat_owner.specs.declared.call.OwnerReply.{OwnerReply}
+use Rattle.std.specs.{Prelude.◌≡◌, Prelude.◌<◌, Prelude.ℕ, Prelude.List, Prelude.[], Prelude.◌++◌, Prelude.length, Prelude.Some, Prelude.Ok, Prelude.Result, Prelude.MatchResult, Prelude.IfOk}
+use Rattle.std.specs.{declared.vec.Vec.Vec, declared.alloc.Global.Global}
+use Rattle.oat_owner.specs.{declared.device.Known.Known, declared.owner.Answer.TheVariants.Accepted, declared.call.OwnerCall.OwnerCall, declared.call.OwnerReply.OwnerReply, Ledger.Ledger}
+use Rattle.oat_owner.specs.{Exchanges.Exchange, Exchanges.CallByCall, Exchanges.owner_behind}
+use Rattle.oat_script.specs.{declared.script.Script.Script, declared.script.ScriptDevice.ScriptDevice, Reading.script_of}
+use Rattle.oat_shown.specs.{Contents, Rose, SinkFault, Edge, Halt, File, Read, HaltsWith, Put, Shows, PutsAll}
+use Rattle.oat_room_owner.specs.{declared.opening.Opened.Opened, Owner.IsEnrolled, Owner.EnrolmentFails, Owner.AreEnrolled, Owner.EnrolmentsFail, Owner.lines_from, Owner.replied_calls}
+use Rattle.oat_room_owner.specs.{Owner.RepliesTo, Owner.ServesScript, Owner.Serves}
 use Rattle.oat_owner.specs.declared.call.OwnerReply.TheVariants as replies
-use Rattle.oat_owner.specs.Ledger.{Ledger}
-use Rattle.oat_owner.specs.Exchanges.{Exchange, CallByCall, owner_behind}
-use Rattle.oat_script.specs.declared.script.Script.{Script}
-use Rattle.oat_script.specs.declared.script.ScriptDevice.{ScriptDevice}
-use Rattle.oat_script.specs.Reading.{script_of}
-use Rattle.oat_page.specs.declared.page.Halt.{Halt}
-use Rattle.oat_room_owner.specs.declared.opening.Opened.{Opened}
-use Rattle.oat_page.specs.Loads.{File, Read}
-use Rattle.oat_page.specs.Works.{HaltsWith}
-use Rattle.oat_page.specs.Shows.{Put, Shows}
-use Rattle.oat_page.specs.Puts.{PutsAll}
-use Rattle.oat_room_owner.specs.Owner.{IsEnrolled, EnrolmentFails, AreEnrolled, EnrolmentsFail, lines_from, replied_calls, RepliesTo, ServesScript, Serves}
 
 -- Where contents are told, a device is enrolled, or enrolment ends as it may.
 abbrev pub Enrols : ScriptDevice → Read → Result Known Halt → Type 0

@@ -1,15 +1,13 @@
 ghost use Rattle.std.specs.Prelude.{◌≡◌, ◌≤◌, map, IfOk};
+ghost use Rattle.oat_shown.specs.{read_of, FaultsRose};
 ghost use Rattle.oat_owner.specs.Ledger.{ids_of};
-ghost use Rattle.oat_page.specs.Loads.{read_of};
 ghost use Rattle.oat_room_owner.specs.Serving.{Enrols, EnrolsAll};
-ghost use Rattle.oat_page.specs.Works.{FaultsRose};
 
 use oat_inputs::{image_of, shaped_of};
 use oat_list::Listed;
 use oat_owner::Known;
-use oat_page::{Halt, IMAGE_LIMIT, load_one};
+use oat_page::{Files, Halt, IMAGE_LIMIT, load_one};
 use oat_script::ScriptDevice;
-use oat_world::Files;
 use std::alloc::Global;
 
 /// Loads the image of a device, and looks at its text and shape.

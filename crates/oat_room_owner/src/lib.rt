@@ -6,3 +6,5 @@ pub mod opening;
 pub mod owner;
 mod replies;
 mod script;
+
+pub use oat_page::Files;

@@ -1,16 +1,13 @@
 ghost use Rattle.std.specs.Prelude.{◌≡◌, ◌≤◌};
-ghost use Rattle.oat_page.specs.Loads.{read_of};
-ghost use Rattle.oat_page.specs.Limits.{script_limit};
+ghost use Rattle.oat_shown.specs.{read_of, script_limit, FaultsRose};
 ghost use Rattle.oat_room_owner.specs.Serving.{Opens};
-ghost use Rattle.oat_page.specs.Works.{FaultsRose};
 
 use crate::enrol::enrol_all;
 use crate::script::script_of;
 use oat_list::Listed;
 use oat_owner::{Owner, OwnerCall, OwnerFault};
-use oat_page::{File, Halt};
+use oat_page::{File, Files, Halt};
 use oat_script::laws::ids_differ;
-use oat_world::Files;
 use std::alloc::Global;
 
 /// An owner of the devices of a script, and the script's calls.

@@ -1,15 +1,12 @@
 ghost use Rattle.std.specs.Prelude.{◌≡◌, ◌≢◌, ◌<◌, ◌≤◌, ◌⊎◌, None, map, ◌∷◌, []};
-ghost use Rattle.oat_world.specs.Outside.{Rose};
-ghost use Rattle.oat_page.specs.Shows.{put_of};
-ghost use Rattle.oat_page.specs.Loads.{read_of};
-ghost use Rattle.oat_page.specs.Limits.{script_limit};
+ghost use Rattle.oat_shown.specs.{Rose, put_of, read_of, script_limit};
 ghost use Rattle.oat_room_owner.specs.Serving.{ShowsReplies, ShowsServing};
 
 use crate::opening::{Opened, open_script};
 use crate::replies::put_replies;
 use oat_owner::laws::calls_give_replies;
-use oat_page::{Ended, File, close, say_halt};
-use oat_world::{Files, Sink};
+use oat_page::{Ended, File, Files, close, say_halt};
+use oat_shown::Sink;
 use std::alloc::Global;
 
 /// Puts what the owner replies to the calls, and answers the status.

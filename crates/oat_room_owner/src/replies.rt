@@ -1,18 +1,15 @@
 ghost use Rattle.std.specs.Prelude.{◌≡◌, IfOk};
+ghost use Rattle.oat_shown.specs.{put_of, line, PutsAll};
 ghost use Rattle.oat_reply.specs.ReplyLine.{reply_text};
-ghost use Rattle.oat_page.specs.Shows.{put_of};
-ghost use Rattle.oat_page.specs.Outcome.{line};
 ghost use Rattle.oat_owner.specs.declared.call.OwnerReply.TheVariants as replies;
 ghost use Rattle.oat_room_owner.specs.Owner.{accepted_path, reply_lines};
-ghost use Rattle.oat_page.specs.Puts.{PutsAll};
 ghost use Rattle.oat_room_owner.specs.Serving.{IsOfIssued, PutsReplies};
 
 use oat_owner::laws::{accepted_is_issued, calls_go_on};
 use oat_owner::{Answer, Owner, OwnerCall, OwnerReply};
 use oat_page::put_all;
 use oat_reply::reply_line;
-use oat_shown::put_edges;
-use oat_world::{Sink, SinkFault};
+use oat_shown::{Sink, SinkFault, put_edges};
 use std::alloc::{AllocError, Global};
 
 /// The line of a reply, with its line end.

@@ -1,11 +1,8 @@
 ghost use Rattle.std.specs.Prelude.{◌≡◌, ◌≢◌, Ok, IfOk, MatchResult};
-ghost use Rattle.oat_lines.specs.declared.fault.Fault.TheVariants.{Memory};
-ghost use Rattle.oat_lines.specs.FaultText.{fault_text};
+ghost use Rattle.oat_shown.specs.{Memory, fault_text, script_limit, IsRefusal, StopsWith};
 ghost use Rattle.oat_script.specs.FaultText.{script_fault_word};
 ghost use Rattle.oat_script.specs.Reading.{script_of};
-ghost use Rattle.oat_page.specs.Limits.{script_limit};
 ghost use Rattle.oat_room_owner.specs.Owner.{RefusesScript};
-ghost use Rattle.oat_page.specs.Works.{IsRefusal, StopsWith};
 
 use oat_page::{File, Stop, refused};
 use oat_script::{Script, ScriptFault, read_script};

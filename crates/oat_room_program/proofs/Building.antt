@@ -1,15 +1,8 @@
 -- The room of `build`: where its work stops and goes on, that it has one answer but for the image, and what its status says.
 use Rattle.std.proofs.Common.{ℕ, List, ◌∷◌, Result, []}
-use Rattle.oat_ir.specs.declared.program.Program.{Program}
-use Rattle.oat_first.specs.First.{fails, passes}
-use Rattle.oat_page.specs.declared.page.Page.{Page}
-use Rattle.oat_page.specs.declared.page.Stop.{Stop}
-use Rattle.oat_page.specs.Answer.{refused}
-use Rattle.oat_page.specs.Loads.{File}
-use Rattle.oat_programs.specs.Programs.{IsCheckedText, RefusesProgram, RefusesCode}
-use Rattle.oat_room_program.specs.Build.{Builds, Compiles}
-use Rattle.oat_page.specs.Works.{StopsWith, Works}
 use Rattle.oat_page.proofs.Working.{StopsWith-more, Works-more}
+use Rattle.oat_programs.specs.{Program, fails, passes, Page, Stop, refused, File, Programs.IsCheckedText, Programs.RefusesProgram, Programs.RefusesCode, StopsWith, Works}
+use Rattle.oat_room_program.specs.Build.{Builds, Compiles}
 
 -- ---- where the work stops, and where it goes on
 

@@ -1,15 +1,8 @@
 -- The room of `run`: where its work stops and goes on, that it has one answer, and what its status says.
 use Rattle.std.proofs.Common.{◌∷◌, []}
-use Rattle.oat_ir.specs.declared.program.Program.{Program}
-use Rattle.oat_case.specs.declared.case.Case.{Case}
-use Rattle.oat_first.specs.First.{fails, passes}
-use Rattle.oat_page.specs.declared.page.Stop.{Stop}
-use Rattle.oat_page.specs.Answer.{Answer}
-use Rattle.oat_page.specs.Loads.{File}
-use Rattle.oat_programs.specs.Programs.{IsCheckedText, RefusesProgram, IsCaseOf, RefusesCaseOf}
-use Rattle.oat_room_program.specs.Interpret.{Interprets, ShowsSource}
-use Rattle.oat_page.specs.Works.{StopsWith}
 use Rattle.oat_page.proofs.Working.{StopsWith-more}
+use Rattle.oat_programs.specs.{Program, Case, fails, passes, Stop, Answer, File, Programs.IsCheckedText, Programs.RefusesProgram, Programs.IsCaseOf, Programs.RefusesCaseOf, StopsWith}
+use Rattle.oat_room_program.specs.Interpret.{Interprets, ShowsSource}
 
 -- ---- where the work stops, and where it goes on to the run
 

@@ -1,23 +1,11 @@
 -- `run PROG CASE`: the first refusal of an input, or the lines of the program's run on the case's inputs, and then those
 -- of the first call of the case's operation where that completed (docs/FORMATS.md).
-use Rattle.std.specs.Prelude.{◌≡◌, ℕ, List, [], ◌∷◌, ◌++◌, if◌then◌else◌}
-use Rattle.std.specs.List.{flat_map}
-use Rattle.oat_ir.specs.declared.program.Program.{Program}
-use Rattle.oat_ir.specs.declared.source.SourceEdge.{SourceEdge}
-use Rattle.oat_ir.specs.declared.source.SourceEnd.{SourceEnd}
-use Rattle.oat_ir.specs.declared.source.SourceEnd.TheVariants as source
-use Rattle.oat_case.specs.declared.case.Case.{Case}
+use Rattle.std.specs.{Prelude.◌≡◌, Prelude.ℕ, Prelude.List, Prelude.[], Prelude.◌∷◌, Prelude.◌++◌, Prelude.if◌then◌else◌, List.flat_map}
 use Rattle.oat_meaning.specs.SourceRun.{SourceRun, whole_run, outputs_so_far, end_so_far, completed_so_far, path_so_far}
-use Rattle.oat_journal.specs.declared.end.DeviceEnd.{DeviceEnd}
-use Rattle.oat_journal.specs.declared.end.DeviceEnd.TheVariants.{Halted, Trap, OutOfSteps}
-use Rattle.oat_report.specs.SourceLine.{source_edge_line}
-use Rattle.oat_first.specs.First.{First}
-use Rattle.oat_page.specs.declared.page.Ended.TheVariants.{Done}
-use Rattle.oat_page.specs.Outcome.{line}
-use Rattle.oat_page.specs.Answer.{Answer, shows}
-use Rattle.oat_page.specs.Loads.{File}
-use Rattle.oat_shown.specs.RunText.{run_text}
-use Rattle.oat_programs.specs.Programs.{IsCheckedText, RefusesProgram, IsCaseOf, RefusesCaseOf}
+use Rattle.oat_programs.specs.{Program, SourceEdge, SourceEnd, Case, DeviceEnd, OutOfSteps, First, Done, line, Answer, shows, File, Programs.IsCheckedText, Programs.RefusesProgram, Programs.IsCaseOf}
+use Rattle.oat_programs.specs.{Programs.RefusesCaseOf}
+use Rattle.oat_shown.specs.{Halted, Trap, source_edge_line, RunText.run_text}
+use Rattle.oat_ir.specs.declared.source.SourceEnd.TheVariants as source
 
 -- the end of a run of a program, among those that run lines tell
 abbrev pub end_told : SourceEnd → DeviceEnd

@@ -1,6 +1,5 @@
 ghost use Rattle.std.specs.Prelude.{◌≡◌, MatchResult, map, ◌∷◌, []};
-ghost use Rattle.oat_page.specs.Limits.{program_limit};
-ghost use Rattle.oat_page.specs.Works.{Works, answer_in, StopsWith};
+ghost use Rattle.oat_programs.specs.{program_limit, Works, answer_in, StopsWith};
 ghost use Rattle.oat_room_program.specs.Build.{Builds, Compiles};
 
 use oat_build::{BuildFault, build};

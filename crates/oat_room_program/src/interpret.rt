@@ -1,17 +1,14 @@
 ghost use Rattle.std.specs.Prelude.{◌≡◌, map, IfOk, ◌∷◌, []};
-ghost use Rattle.oat_case.specs.Limits.{IsWellFormedCase};
-ghost use Rattle.oat_page.specs.Limits.{case_limit, program_limit};
-ghost use Rattle.oat_page.specs.Works.{Works, answer_in};
+ghost use Rattle.oat_programs.specs.{IsWellFormedCase, case_limit, program_limit, Works, answer_in};
 ghost use Rattle.oat_room_program.specs.Interpret.{end_told, path_told, case_run, source_run_text, Interprets, ShowsSource};
 
 use crate::source_path::SourcePath;
-use oat_case::Case;
 use oat_check::Checked;
 use oat_ir::{SourceEdge, SourceEnd};
 use oat_journal::DeviceEnd;
 use oat_meaning::Source;
 use oat_page::{Ended, File, Page, Pieces, Stop, Then};
-use oat_programs::{case_for, checked_of};
+use oat_programs::{Case, case_for, checked_of};
 use oat_shown::RunLines;
 use std::alloc::{AllocError, Global};
 

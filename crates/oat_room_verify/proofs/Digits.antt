@@ -1,18 +1,13 @@
 -- Digits that are decoded a piece at a time.
 use Rattle.std.proofs.Common.{◌≡◌, ℕ, ◌+◌, ◌-◌, ◌*◌, ◌/◌, ◌%◌, ◌<◌, ◌≤◌, List, [], ◌∷◌, ◌++◌, length, length-drop, take, drop, subst, Option, Some, None, Result, Ok, Err, refl, sym, ap, ◌∙◌, arith}
-use Rattle.std.specs.Prelude.{min, IfOk, MatchResult}
+use Rattle.std.specs.{Prelude.min, Prelude.IfOk, Prelude.MatchResult, declared.alloc.AllocError.AllocError}
 use Rattle.std.proofs.lemmas.List.{drop-drop, length-take-le, nil_from_length, take-append-drop, take_at}
-use Rattle.std.specs.declared.alloc.AllocError.{AllocError}
-use Rattle.oat_verify.specs.Verdict.{CarriesSerial, Subject}
-use Rattle.oat_feed.specs.declared.verdict.Settled.{Settled}
-use Rattle.oat_feed.specs.Verdict.{AreRecordsOf, IsFeedVerdict}
-use Rattle.oat_room_verify.specs.Settles.{SettlesBlob}
-use Rattle.oat_feed.specs.declared.feed.Feed.{Feed}
-use Rattle.oat_feed.specs.Standing.{HasBeenFed}
-use Rattle.oat_inputs.specs.BlobText.{HasDigits, IsBlobText}
-use Rattle.hex.specs.declared.error.FromHexError.{FromHexError}
-use Rattle.hex.specs.Hex.{◌>>=◌, decode_of, decode_pairs, decode_sized, digit_or_error, hex_digit_value, pair_value, value_at}
+use Rattle.hex.specs.{declared.error.FromHexError.FromHexError, Hex.◌>>=◌, Hex.decode_of, Hex.decode_pairs, Hex.decode_sized, Hex.digit_or_error, Hex.hex_digit_value, Hex.pair_value, Hex.value_at}
 use Rattle.hex.proofs.HexLemmas.{decode_of-even, decode_of-ok, decode_pairs-ok, decode_sized-twice}
+use Rattle.oat_feed.specs.{declared.verdict.Settled.Settled, Verdict.AreRecordsOf, Verdict.IsFeedVerdict, declared.feed.Feed.Feed, Standing.HasBeenFed}
+use Rattle.oat_inputs.specs.BlobText.{HasDigits, IsBlobText}
+use Rattle.oat_shown.specs.{CarriesSerial, Subject}
+use Rattle.oat_room_verify.specs.Settles.{SettlesBlob}
 
 bind_ok : {A B : Type 0} (r : Result A FromHexError) (f : A → Result B FromHexError) (b : B) → (r >>= f) ≡ Ok b → (a : A) × (r ≡ Ok a) × (f a ≡ Ok b)
 bind_ok (Ok a) f b same = (a, refl, same)

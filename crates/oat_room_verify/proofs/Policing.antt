@@ -1,36 +1,15 @@
 -- The room of `policy`: where its work stops and goes on, and that it has one answer.
 use Rattle.std.proofs.Common.{Bool, ◌≡◌, ◌≢◌, ◌<◌, ◌≤◌, ◌∙◌, ℕ, List, ◌∷◌, ◌++◌, length, length-append, ap, arith, []}
-use Rattle.oat_map.specs.declared.edge.Edge.{Edge}
-use Rattle.oat_map.specs.declared.map.Map.{Map}
-use Rattle.oat_replay.specs.declared.replay.Replay.{Replay}
-use Rattle.oat_replay.specs.Replay.{IsWalked}
-use Rattle.oat_replay.specs.StandsBehind.{StandsBehind}
-use Rattle.oat_map.specs.Walk.{Step, passed, moved, path_of}
-use Rattle.oat_image.specs.declared.image.Image.{Image}
-use Rattle.oat_case.specs.declared.case.Case.{Case}
-use Rattle.oat_verify.specs.Verdict.{Subject, subject_of}
-use Rattle.oat_lines.specs.declared.fault.Fault.{Fault}
-use Rattle.oat_lines.specs.declared.fault.Fault.TheVariants.{Memory}
-use Rattle.oat_lines.specs.Faults.{Fails}
-use Rattle.oat_lines.specs.FaultText.{fault_text}
 use Rattle.oat_lines.proofs.Steps.{is_fault}
-use Rattle.oat_policy.specs.declared.fault.PolicyFaultKind.{PolicyFaultKind}
-use Rattle.oat_policy.specs.declared.policy.PolicyRule.{PolicyRule}
-use Rattle.oat_policy.specs.FaultText.{policy_fault_word}
-use Rattle.oat_policy.specs.declared.watch.Watch.{Watch}
-use Rattle.oat_policy.specs.Reading.{policy_of}
-use Rattle.oat_policy.specs.Standing.{HasSeen}
-use Rattle.oat_first.specs.First.{First, fails, passes}
-use Rattle.oat_page.specs.declared.page.Stop.{Stop}
-use Rattle.oat_page.specs.Answer.{Answer, refused}
-use Rattle.oat_page.specs.Loads.{File}
-use Rattle.oat_inputs.specs.BlobText.{IsBlobText}
-use Rattle.oat_inputs.specs.Refusals.{RefusesBlob}
-use Rattle.oat_inputs.specs.Admits.{Rejects, AreAdmitted}
-use Rattle.oat_room_verify.specs.Policy.{IsPolicyText, RefusesPolicy, ConcludesWith, Polices}
-use Rattle.oat_page.specs.Works.{StopsWith}
+use Rattle.oat_replay.specs.Replay.{IsWalked}
+use Rattle.oat_policy.specs.{declared.fault.PolicyFaultKind.PolicyFaultKind, declared.policy.PolicyRule.PolicyRule, FaultText.policy_fault_word, declared.watch.Watch.Watch, Reading.policy_of}
+use Rattle.oat_policy.specs.{Standing.HasSeen}
 use Rattle.oat_page.proofs.Working.{StopsWith-more}
+use Rattle.oat_inputs.specs.{BlobText.IsBlobText, Refusals.RefusesBlob, Admits.Rejects, Admits.AreAdmitted}
 use Rattle.oat_inputs.proofs.Admitting.{Admits-rejected, Admits-admitted}
+use Rattle.oat_shown.specs.{Edge, Map, Replay, StandsBehind, Step, passed, moved, path_of, Image, Case, Subject, subject_of, Fault, Memory, Fails, fault_text, First, fails, passes, Stop, Answer}
+use Rattle.oat_shown.specs.{refused, File, StopsWith}
+use Rattle.oat_room_verify.specs.Policy.{IsPolicyText, RefusesPolicy, ConcludesWith, Polices}
 use Rattle.oat_room_verify.proofs.Retracing.{path_pushed}
 
 -- ---- the policy's file gives one policy, or is refused in one way

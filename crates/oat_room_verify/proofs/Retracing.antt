@@ -1,18 +1,9 @@
 -- The lines of a path that is found again in its records.
 use Rattle.std.proofs.Common.{◌≡◌, ℕ, Bool, List, [], ◌∷◌, ◌++◌, length, Option, ap, ◌∙◌, append_assoc, append-nil}
-use Rattle.std.proofs.lemmas.Grind.{flat_map-append}
-use Rattle.std.proofs.lemmas.List.Elements.{filter_map-append}
-use Rattle.oat_map.specs.declared.edge.Edge.{Edge}
-use Rattle.oat_map.specs.declared.map.Map.{Map}
-use Rattle.oat_map.specs.Walk.{Step, passed, moved, edge_of, path_of}
-use Rattle.oat_replay.specs.declared.replay.Replay.{Replay}
+use Rattle.std.proofs.lemmas.{Grind.flat_map-append, List.Elements.filter_map-append}
 use Rattle.oat_replay.specs.Replay.{IsWalked}
-use Rattle.oat_replay.specs.StandsBehind.{StandsBehind}
 use Rattle.oat_replay.proofs.ReplayLemmas.{followers_are_fronts, one_path}
-use Rattle.oat_world.specs.Outside.{Adds}
-use Rattle.oat_report.specs.PathLine.{edge_line}
-use Rattle.oat_page.specs.Outcome.{line}
-use Rattle.oat_shown.specs.Report.{path_text}
+use Rattle.oat_shown.specs.{Edge, Map, Step, passed, moved, edge_of, path_of, Replay, StandsBehind, Adds, edge_line, line, Report.path_text}
 
 -- a path goes on behind the steps that a replay made
 pub goes_on : (flow : Map) (op : ℕ) (bits : List Bool) (targets : List ℕ) (path : List Edge) (replay : Replay) (steps : List Step)

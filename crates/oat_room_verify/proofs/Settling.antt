@@ -1,18 +1,12 @@
 -- What a feed settled tells the verdict, and an acceptance has a path in the records that are kept.
 use Rattle.std.proofs.Common.{◌≡◌, ℕ, List, Bool, refl, sym, ap, subst, ◌∙◌}
-use Rattle.oat_map.specs.declared.edge.Edge.{Edge}
-use Rattle.oat_blob.specs.Body.{Body}
 use Rattle.oat_blob.proofs.OneLayout.{one_body}
 use Rattle.oat_replay.specs.Replay.{IsWalked}
-use Rattle.oat_verify.specs.declared.verdict.Verdict.{Verdict}
-use Rattle.oat_verify.specs.declared.verdict.Verdict.TheVariants.{Accept, Refuse}
-use Rattle.oat_verify.specs.declared.verdict.Cause.{Cause}
-use Rattle.oat_verify.specs.Verdict.{Accepts, Subject, IsVerdict}
 use Rattle.oat_verify.proofs.OneVerdict.{acceptance_at_once}
-use Rattle.oat_feed.specs.declared.verdict.FeedVerdict.TheVariants as feeds
-use Rattle.oat_feed.specs.declared.verdict.Settled.{Settled}
-use Rattle.oat_feed.specs.Verdict.{AreRecordsOf, RecordLists, of_blob, of_none, feed_verdict_of}
+use Rattle.oat_feed.specs.{declared.verdict.Settled.Settled, Verdict.AreRecordsOf, Verdict.RecordLists, Verdict.of_blob, Verdict.of_none, Verdict.feed_verdict_of}
+use Rattle.oat_shown.specs.{Edge, Body, Verdict, Accept, Refuse, Cause, Accepts, Subject, IsVerdict}
 use Rattle.oat_room_verify.specs.Settles.{HasPath, IsPathOf, SettlesBlob, TellsVerdict}
+use Rattle.oat_feed.specs.declared.verdict.FeedVerdict.TheVariants as feeds
 
 -- the records that are kept of an accepted blob are those of its path
 kept_path : (s : Subject) (bytes : List ℕ) (kept : RecordLists) (path : List Edge) → AreRecordsOf bytes kept → Accepts s bytes path → IsPathOf s.map s.session.op kept path

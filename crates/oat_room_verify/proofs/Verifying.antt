@@ -1,19 +1,10 @@
 -- The room of `verify`: where its work stops and goes on.
 use Rattle.std.proofs.Common.{ℕ, List, ◌∷◌, []}
-use Rattle.oat_image.specs.declared.image.Image.{Image}
-use Rattle.oat_case.specs.declared.case.Case.{Case}
-use Rattle.oat_verify.specs.Verdict.{subject_of}
-use Rattle.oat_first.specs.First.{First, fails, passes}
-use Rattle.oat_page.specs.declared.page.Stop.{Stop}
-use Rattle.oat_page.specs.Answer.{Answer}
-use Rattle.oat_page.specs.Loads.{File}
-use Rattle.oat_inputs.specs.BlobText.{IsBlobText}
-use Rattle.oat_inputs.specs.Refusals.{RefusesBlob}
-use Rattle.oat_inputs.specs.Admits.{Rejects, AreAdmitted}
-use Rattle.oat_room_verify.specs.Verify.{Concludes, Verifies}
-use Rattle.oat_page.specs.Works.{StopsWith}
 use Rattle.oat_page.proofs.Working.{StopsWith-more}
+use Rattle.oat_inputs.specs.{BlobText.IsBlobText, Refusals.RefusesBlob, Admits.Rejects, Admits.AreAdmitted}
 use Rattle.oat_inputs.proofs.Admitting.{Admits-rejected, Admits-admitted}
+use Rattle.oat_shown.specs.{Image, Case, subject_of, First, fails, passes, Stop, Answer, File, StopsWith}
+use Rattle.oat_room_verify.specs.Verify.{Concludes, Verifies}
 
 -- what comes after an image and a case are admitted
 abbrev pub Judging : File → Image → Case → Answer → Type 0

@@ -1,34 +1,12 @@
 -- `policy IMAGE CASE BLOB POLICY`: the first refusal of an input, or what `verify` reports, and behind an acceptance what the policy says
 -- of its path (docs/FORMATS.md).
-use Rattle.std.specs.Prelude.{◌≡◌, ℕ, List, [], ◌∷◌, ◌++◌, codes, Option, Some, None, Ok, Err}
-use Rattle.std.specs.Fmt.{decimal}
-use Rattle.oat_map.specs.declared.map.Map.{Map}
-use Rattle.oat_image.specs.declared.image.Image.{Image}
-use Rattle.oat_case.specs.declared.case.Case.{Case}
-use Rattle.oat_verify.specs.declared.verdict.Verdict.{Verdict}
-use Rattle.oat_verify.specs.declared.verdict.Verdict.TheVariants.{Accept, Refuse}
-use Rattle.oat_verify.specs.Verdict.{Subject, subject_of}
-use Rattle.oat_lines.specs.declared.fault.Fault.{Fault}
-use Rattle.oat_lines.specs.FaultText.{fault_text}
-use Rattle.oat_policy.specs.declared.fault.PolicyFaultKind.{PolicyFaultKind}
-use Rattle.oat_policy.specs.declared.policy.PolicyRule.{PolicyRule}
-use Rattle.oat_policy.specs.declared.verdict.PolicyVerdict.{PolicyVerdict}
-use Rattle.oat_policy.specs.declared.verdict.PolicyVerdict.TheVariants.{Holds, Breaks}
-use Rattle.oat_policy.specs.FaultText.{policy_fault_word}
-use Rattle.oat_policy.specs.Reading.{policy_of}
-use Rattle.oat_policy.specs.Verdict.{verdict_of}
-use Rattle.oat_first.specs.First.{First}
-use Rattle.oat_page.specs.declared.page.Ended.{Ended}
-use Rattle.oat_page.specs.declared.page.Ended.TheVariants.{Done, Rejected}
-use Rattle.oat_page.specs.Outcome.{line}
-use Rattle.oat_page.specs.Answer.{Answer, shows, refuses, refused}
-use Rattle.oat_page.specs.Loads.{File}
-use Rattle.oat_inputs.specs.BlobText.{HasDigits, IsBlobText}
-use Rattle.oat_inputs.specs.Refusals.{RefusesBlob}
-use Rattle.oat_inputs.specs.Admits.{Admits, AreAdmitted}
+use Rattle.std.specs.{Prelude.◌≡◌, Prelude.ℕ, Prelude.List, Prelude.[], Prelude.◌∷◌, Prelude.◌++◌, Prelude.codes, Prelude.Option, Prelude.Some, Prelude.None, Prelude.Ok, Prelude.Err, Fmt.decimal}
 use Rattle.oat_feed.specs.declared.verdict.Settled.{Settled}
-use Rattle.oat_room_verify.specs.Settles.{SettlesBlob}
-use Rattle.oat_room_verify.specs.Verify.{Concludes}
+use Rattle.oat_policy.specs.{declared.fault.PolicyFaultKind.PolicyFaultKind, declared.policy.PolicyRule.PolicyRule, declared.verdict.PolicyVerdict.PolicyVerdict}
+use Rattle.oat_policy.specs.{declared.verdict.PolicyVerdict.TheVariants.Holds, declared.verdict.PolicyVerdict.TheVariants.Breaks, FaultText.policy_fault_word, Reading.policy_of, Verdict.verdict_of}
+use Rattle.oat_inputs.specs.{BlobText.HasDigits, BlobText.IsBlobText, Refusals.RefusesBlob, Admits.Admits, Admits.AreAdmitted}
+use Rattle.oat_shown.specs.{Map, Image, Case, Verdict, Accept, Refuse, Subject, subject_of, Fault, fault_text, First, Ended, Done, Rejected, line, Answer, shows, refuses, refused, File}
+use Rattle.oat_room_verify.specs.{Settles.SettlesBlob, Verify.Concludes}
 
 -- ---- the policy's file
 

@@ -1,20 +1,10 @@
 -- What a feed settles of a blob's bytes, and what of it is put again: the walk of its records (docs/DEFINITIONS.md).
 use Rattle.std.specs.Prelude.{◌≡◌, ℕ, List, ◌++◌, Result, Ok}
 use Rattle.hex.specs.Hex.{decode_of}
-use Rattle.oat_world.specs.declared.sink.SinkFault.{SinkFault}
-use Rattle.oat_map.specs.declared.edge.Edge.{Edge}
-use Rattle.oat_map.specs.declared.map.Map.{Map}
 use Rattle.oat_replay.specs.Replay.{IsWalked}
-use Rattle.oat_verify.specs.declared.verdict.Verdict.{Verdict}
-use Rattle.oat_verify.specs.declared.verdict.Verdict.TheVariants.{Accept}
-use Rattle.oat_verify.specs.Verdict.{Subject, CarriesSerial}
-use Rattle.oat_feed.specs.declared.verdict.Settled.{Settled}
+use Rattle.oat_feed.specs.{declared.verdict.Settled.Settled, Verdict.IsFeedVerdict, Verdict.AreRecordsOf, Verdict.RecordLists, Verdict.feed_verdict_of}
+use Rattle.oat_shown.specs.{SinkFault, Edge, Map, Verdict, Accept, Subject, CarriesSerial, Answer, IsAnswered, PutsAll, Report.path_text, Report.report_text, Put, Shows}
 use Rattle.oat_feed.specs.declared.verdict.FeedVerdict.TheVariants as feeds
-use Rattle.oat_feed.specs.Verdict.{IsFeedVerdict, AreRecordsOf, RecordLists, feed_verdict_of}
-use Rattle.oat_page.specs.Answer.{Answer, IsAnswered}
-use Rattle.oat_page.specs.Puts.{PutsAll}
-use Rattle.oat_shown.specs.Report.{path_text, report_text}
-use Rattle.oat_page.specs.Shows.{Put, Shows}
 
 pub record SettlesBlob (s : Subject) (bytes : List ℕ) (settled : Settled) : Type 0 where
   pub verdict : IsFeedVerdict s bytes settled.verdict

@@ -1,16 +1,7 @@
 -- `verify IMAGE CASE BLOB`: the first refusal of an input, or the verdict's report (docs/FORMATS.md).
 use Rattle.std.specs.Prelude.{◌≡◌, ℕ, Option, List, [], ◌∷◌}
-use Rattle.oat_image.specs.declared.image.Image.{Image}
-use Rattle.oat_case.specs.declared.case.Case.{Case}
-use Rattle.oat_verify.specs.declared.verdict.Verdict.{Verdict}
-use Rattle.oat_verify.specs.Verdict.{Subject, subject_of, IsVerdict, CarriesSerial}
-use Rattle.oat_first.specs.First.{First}
-use Rattle.oat_page.specs.Answer.{Answer}
-use Rattle.oat_page.specs.Loads.{File}
-use Rattle.oat_inputs.specs.BlobText.{HasDigits, IsBlobText}
-use Rattle.oat_inputs.specs.Refusals.{RefusesBlob}
-use Rattle.oat_inputs.specs.Admits.{Admits, AreAdmitted}
-use Rattle.oat_shown.specs.Report.{report_of}
+use Rattle.oat_inputs.specs.{BlobText.HasDigits, BlobText.IsBlobText, Refusals.RefusesBlob, Admits.Admits, Admits.AreAdmitted}
+use Rattle.oat_shown.specs.{Image, Case, Verdict, Subject, subject_of, IsVerdict, CarriesSerial, First, Answer, File, Report.report_of}
 
 -- The verdict on these bytes is reported, with the serial number that they carry.
 pub record Concludes (subject : Subject) (bytes : List ℕ) (a : Answer) : Type 0 where

@@ -1,14 +1,13 @@
 ghost use Rattle.std.specs.Prelude.{◌≡◌, ℕ, List, [], Ok, OnOk, IfOk};
+ghost use Rattle.oat_shown.specs.{IsOperation, Subject, subject_of};
 ghost use Rattle.hex.specs.Hex.{decode_of};
-ghost use Rattle.oat_map.specs.Rows.{IsOperation};
-ghost use Rattle.oat_verify.specs.Verdict.{Subject, subject_of};
 ghost use Rattle.oat_feed.specs.Standing.{HasBeenFed};
 ghost use Rattle.oat_inputs.specs.BlobText.{AreDigits};
 ghost use Rattle.oat_room_verify.specs.Settles.{OnDigits, SettlesBlob};
 
-use oat_case::Session;
 use oat_feed::{Feed, Settled};
 use oat_shape::Shaped;
+use oat_verify::Session;
 use std::alloc::{AllocError, Global};
 
 /// The most bytes that are decoded together.

@@ -1,26 +1,33 @@
 ghost use Rattle.std.specs.Prelude.{◌≡◌, ◌≢◌, ◌<◌, ◌⊎◌, List, map, IfOk, IsSome, MatchResult, ◌∷◌, []};
-ghost use Rattle.oat_world.specs.Outside.{Rose};
-ghost use Rattle.oat_lines.specs.declared.fault.Fault.TheVariants.{Memory};
-ghost use Rattle.oat_lines.specs.FaultText.{fault_text};
-ghost use Rattle.oat_map.specs.declared.edge.Edge.{Edge};
-ghost use Rattle.oat_map.specs.Rows.{IsOperation, start};
-ghost use Rattle.oat_verify.specs.declared.verdict.Verdict.{Verdict};
-ghost use Rattle.oat_verify.specs.Verdict.{subject_of};
+ghost use Rattle.oat_shown.specs.{
+  Rose,
+  Memory,
+  fault_text,
+  Edge,
+  IsOperation,
+  start,
+  Verdict,
+  subject_of,
+  IsAnswered,
+  put_of,
+  Shows,
+  line,
+  blob_limit,
+  case_limit,
+  image_limit,
+  policy_limit,
+  turns_of_some,
+  IsRefusal,
+  StopsWith,
+};
 ghost use Rattle.oat_policy.specs.FaultText.{policy_fault_word};
 ghost use Rattle.oat_policy.specs.Verdict.{verdict_of};
-ghost use Rattle.oat_page.specs.Answer.{IsAnswered};
 ghost use Rattle.oat_inputs.specs.BlobText.{AreDigits};
-ghost use Rattle.oat_page.specs.Shows.{put_of, Shows};
-ghost use Rattle.oat_page.specs.Outcome.{line};
-ghost use Rattle.oat_page.specs.Limits.{blob_limit, case_limit, image_limit, policy_limit};
-ghost use Rattle.oat_page.specs.Pieces.{turns_of_some};
 ghost use Rattle.oat_room_verify.specs.Settles.{HasPath, IsPathOf, OnDigits, PutsReport, ShowsOnDigits, TellsVerdict};
-ghost use Rattle.oat_page.specs.Works.{IsRefusal, StopsWith};
 ghost use Rattle.oat_room_verify.specs.Policy.{IsPolicyText, RefusesPolicy, said_of, policy_text, said_text, ended_by, ConcludesWith, IsOpenedWith, Polices, SettlesWith};
 
 use crate::feeding::settle;
 use crate::report::{PATH_LIMIT, put_report};
-use oat_case::Session;
 use oat_feed::{FeedVerdict, Kept, Settled};
 use oat_inputs::admit::{Admitted, admit};
 use oat_inputs::digits_of;
@@ -28,7 +35,8 @@ use oat_page::{Ended, File, Pieces, Stop, close, put_pieces, refused, say_starve
 use oat_policy::{Policy, PolicyFault, PolicyVerdict, Watch, read_policy};
 use oat_replay::{Replay, Turn};
 use oat_shape::Shaped;
-use oat_world::{Sink, SinkFault};
+use oat_shown::{Sink, SinkFault};
+use oat_verify::Session;
 use std::alloc::{AllocError, Global};
 
 /// The line of what a policy says, if it says something.

@@ -1,23 +1,15 @@
 ghost use Rattle.std.specs.Prelude.{◌≡◌, List, IfOk, IsSome};
-ghost use Rattle.oat_map.specs.declared.edge.Edge.{Edge};
-ghost use Rattle.oat_map.specs.Rows.{start};
-ghost use Rattle.oat_verify.specs.declared.verdict.Verdict.{Verdict};
+ghost use Rattle.oat_shown.specs.{Edge, start, Verdict, verdict_text, line, PutsAll, put_of};
 ghost use Rattle.oat_feed.specs.Verdict.{feed_verdict_of};
-ghost use Rattle.oat_report.specs.VerdictLine.{verdict_text};
-ghost use Rattle.oat_page.specs.Outcome.{line};
 ghost use Rattle.oat_shown.specs.Report.{report_text, ended_of};
-ghost use Rattle.oat_page.specs.Puts.{PutsAll};
-ghost use Rattle.oat_page.specs.Shows.{put_of};
 ghost use Rattle.oat_room_verify.specs.Settles.{HasPath, IsPathOf, PutsPath, TellsVerdict};
 
 use oat_feed::{FeedVerdict, Kept, Settled};
-use oat_map::{Edge, Path};
 use oat_page::{Ended, put_all};
 use oat_replay::{Replay, Turn};
 use oat_shape::Shaped;
-use oat_shown::{line_of, put_edge};
-use oat_verify::Verdict;
-use oat_world::{Sink, SinkFault};
+use oat_shown::{Edge, Sink, SinkFault, line_of, put_edge};
+use oat_verify::{Path, Verdict};
 use std::alloc::{AllocError, Global};
 
 /// The most turns of a replay that lead on.

@@ -1,23 +1,17 @@
 ghost use Rattle.std.specs.Prelude.{◌≡◌, ◌≢◌, ◌<◌, ◌⊎◌, map, MatchResult, ◌∷◌, []};
-ghost use Rattle.oat_world.specs.Outside.{Rose};
-ghost use Rattle.oat_map.specs.Rows.{IsOperation};
-ghost use Rattle.oat_verify.specs.Verdict.{subject_of};
-ghost use Rattle.oat_page.specs.Answer.{IsAnswered};
+ghost use Rattle.oat_shown.specs.{Rose, IsOperation, subject_of, IsAnswered, blob_limit, case_limit, image_limit, put_of, Shows, StopsWith};
 ghost use Rattle.oat_inputs.specs.BlobText.{AreDigits};
-ghost use Rattle.oat_page.specs.Limits.{blob_limit, case_limit, image_limit};
-ghost use Rattle.oat_page.specs.Shows.{put_of, Shows};
 ghost use Rattle.oat_room_verify.specs.Settles.{ShowsOnDigits};
-ghost use Rattle.oat_page.specs.Works.{StopsWith};
 ghost use Rattle.oat_room_verify.specs.Verify.{Concludes, IsOpened, Verifies};
 
 use crate::feeding::settle;
 use crate::report::{ended, put_report};
-use oat_case::Session;
 use oat_inputs::admit::{Admitted, admit};
 use oat_inputs::digits_of;
 use oat_page::{File, Stop, close, say_starved, say_stop};
 use oat_shape::Shaped;
-use oat_world::Sink;
+use oat_shown::Sink;
+use oat_verify::Session;
 use std::alloc::Global;
 
 /// What is judged: an image and a case that are admitted, and the digits of a blob.

@@ -1,9 +1,9 @@
 -- What is left of the lines of blobs, where a piece of one is made, and where none is left.
-use Rattle.std.proofs.Common.{◌≡◌, ◌∙◌, ◌<◌, ◌≤◌, ◌+◌, ◌++◌, ℕ, Bool, true, false, List, [], ◌∷◌, length, take, drop, get_or, length-drop, drop-cons, zero, suc, codes, refl, sym, ap, append_assoc, arith}
-use Rattle.std.proofs.Math.Seq.{drop-append_seam}
-use Rattle.std.proofs.lemmas.List.{take-append-drop, drop-drop, drop_all, length-take}
+use Rattle.std.proofs.Common.{◌≡◌, ◌∙◌, ◌<◌, ◌≤◌, ◌+◌, ◌++◌, ℕ, Bool, true, false, List, [], ◌∷◌, length, take, drop, get_or, length-drop, drop-cons, zero, suc, codes, refl, sym, ap, append_assoc}
+use Rattle.std.proofs.Common.{arith}
 use Rattle.std.specs.List.{flat_map, sum_by}
-use Rattle.std.proofs.lemmas.List.Sums.{sum_by-cons}
+use Rattle.std.proofs.Math.Seq.{drop-append_seam}
+use Rattle.std.proofs.lemmas.{List.take-append-drop, List.drop-drop, List.drop_all, List.length-take, List.Sums.sum_by-cons}
 use Rattle.hex.specs.Hex.{encode_with, encode_lower}
 use Rattle.oat_lines.proofs.LowerDigits.{digits_of_joined}
 use Rattle.oat_shown.specs.BlobLine.{blob_line, line_left, lines_left, turns_of_lines}

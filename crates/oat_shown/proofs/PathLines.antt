@@ -1,9 +1,7 @@
 -- The lines of a path, of which one is the next.
 use Rattle.std.proofs.Common.{◌≡◌, ◌∙◌, ◌+◌, ◌++◌, ◌<◌, ℕ, List, ◌∷◌, length, take, drop, get_or, sym, ap, append_assoc, []}
-use Rattle.std.proofs.lemmas.Grind.{flat_map-append}
-use Rattle.std.proofs.lemmas.List.{take-append-drop, take_more}
-use Rattle.oat_map.specs.declared.edge.Edge.{Edge}
-use Rattle.oat_map.specs.declared.map.Map.{Map}
+use Rattle.std.proofs.lemmas.{Grind.flat_map-append, List.take-append-drop, List.take_more}
+use Rattle.oat_journal.specs.{Edge, Map}
 use Rattle.oat_report.specs.PathLine.{edge_line}
 use Rattle.oat_page.specs.Outcome.{line}
 use Rattle.oat_shown.specs.Report.{path_text}

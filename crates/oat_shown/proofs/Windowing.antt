@@ -2,15 +2,10 @@
 use Rattle.std.proofs.Common.{◌≡◌, ◌↔◌, ◌<◌, ◌≤◌, ℕ, Bool, true, false, length, Option, Some, None, ltb, refl, arith, option_map}
 use Rattle.std.specs.Prelude.{IfSome, IsTrue, if◌then◌else◌, nat_le, unwrap_or, MatchOption}
 use Rattle.std.proofs.lemmas.Bool.{and_parts, leb-true, ltb-true, ltb-false}
-use Rattle.oat_case.specs.Limits.{calls_fit}
-use Rattle.oat_case.specs.declared.case.Case.{Case}
-use Rattle.oat_device.proofs.Counting.{windows_are_counted}
+use Rattle.oat_journal.specs.{calls_fit, Case, Image, Measured.Run, Measured.dev, Measured.opening_of, sealed_bodies}
 use Rattle.oat_device.specs.DeviceRun.{CountsItsWindows, IsSealed}
-use Rattle.oat_image.specs.declared.image.Image.{Image}
-use Rattle.oat_journal.specs.Measured.{Run, dev, opening_of}
-use Rattle.oat_measure.specs.Shelving.{sealed_bodies}
-use Rattle.oat_page.specs.declared.page.Ended.TheVariants.{Done, Rejected, Unsealed}
-use Rattle.oat_page.specs.Answer.{status_of}
+use Rattle.oat_device.proofs.Counting.{windows_are_counted}
+use Rattle.oat_page.specs.{declared.page.Ended.TheVariants.Done, declared.page.Ended.TheVariants.Rejected, declared.page.Ended.TheVariants.Unsealed, Answer.status_of}
 
 -- ---- a case calls for few windows
 

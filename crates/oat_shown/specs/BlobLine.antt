@@ -1,6 +1,6 @@
 -- The lines of blobs, and what is left of them while they are made (docs/FORMATS.md).
-use Rattle.std.specs.Prelude.{ℕ, Bool, List, [], ◌∷◌, ◌++◌, ◌+◌, ◌-◌, length, drop, if◌then◌else◌, codes}
-use Rattle.std.specs.List.{flat_map, sum_by}
+use Rattle.std.specs.{Prelude.ℕ, Prelude.Bool, Prelude.List, Prelude.[], Prelude.◌∷◌, Prelude.◌++◌, Prelude.◌+◌, Prelude.◌-◌, Prelude.length, Prelude.drop, Prelude.if◌then◌else◌, Prelude.codes}
+use Rattle.std.specs.{List.flat_map, List.sum_by}
 use Rattle.hex.specs.Hex.{encode_lower}
 use Rattle.oat_page.specs.Outcome.{line}
 

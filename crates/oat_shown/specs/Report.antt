@@ -1,16 +1,9 @@
 -- What a verdict puts: its line, and after an acceptance the lines of the path (docs/FORMATS.md).
-use Rattle.std.specs.Prelude.{ℕ, Option, List, [], ◌++◌}
-use Rattle.std.specs.List.{flat_map}
-use Rattle.oat_map.specs.declared.map.Map.{Map}
-use Rattle.oat_map.specs.declared.edge.Edge.{Edge}
-use Rattle.oat_report.specs.PathLine.{edge_line}
-use Rattle.oat_report.specs.VerdictLine.{verdict_text}
-use Rattle.oat_verify.specs.declared.verdict.Verdict.{Verdict}
-use Rattle.oat_verify.specs.declared.verdict.Verdict.TheVariants.{Accept, Refuse}
-use Rattle.oat_page.specs.declared.page.Ended.{Ended}
-use Rattle.oat_page.specs.declared.page.Ended.TheVariants.{Done, Rejected}
-use Rattle.oat_page.specs.Outcome.{line}
-use Rattle.oat_page.specs.Answer.{Answer, shows}
+use Rattle.std.specs.{Prelude.ℕ, Prelude.Option, Prelude.List, Prelude.[], Prelude.◌++◌, List.flat_map}
+use Rattle.oat_journal.specs.{Map, Edge}
+use Rattle.oat_verify.specs.{declared.verdict.Verdict.Verdict, declared.verdict.Verdict.TheVariants.Accept, declared.verdict.Verdict.TheVariants.Refuse}
+use Rattle.oat_report.specs.{PathLine.edge_line, VerdictLine.verdict_text}
+use Rattle.oat_page.specs.{declared.page.Ended.Ended, declared.page.Ended.TheVariants.Done, declared.page.Ended.TheVariants.Rejected, Outcome.line, Answer.Answer, Answer.shows}
 
 -- the lines of a path
 abbrev pub path_text : Map → List Edge → List ℕ

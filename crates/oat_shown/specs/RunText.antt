@@ -1,16 +1,10 @@
 -- The lines of a run: its outputs, and then how it ended (docs/FORMATS.md).
-use Rattle.std.specs.Prelude.{ℕ, ℤ, List, [], ◌++◌, Option, None, Some, codes}
-use Rattle.std.specs.List.{flat_map}
-use Rattle.std.specs.Fmt.{signed_decimal}
-use Rattle.oat_a64.specs.declared.event.FaultKind.{FaultKind}
-use Rattle.oat_a64.specs.declared.event.FaultKind.TheVariants.{Access, Fetch, Undefined}
-use Rattle.oat_map.specs.declared.trap.TrapKind.{TrapKind}
-use Rattle.oat_map.specs.declared.trap.TrapKind.TheVariants.{DivZero, Index, NullCall, Depth, InputEnd}
-use Rattle.oat_journal.specs.declared.end.DeviceEnd.{DeviceEnd}
-use Rattle.oat_journal.specs.declared.end.DeviceEnd.TheVariants.{Halted, Trap, Fault, Stopped, OutOfSteps}
-use Rattle.oat_measure.specs.declared.stop.StopKind.{StopKind}
-use Rattle.oat_measure.specs.declared.stop.StopKind.TheVariants.{Nested, WrongEnd}
-use Rattle.oat_lines.specs.Hexadecimal.{hexadecimal}
+use Rattle.std.specs.{Prelude.ℕ, Prelude.ℤ, Prelude.List, Prelude.[], Prelude.◌++◌, Prelude.Option, Prelude.None, Prelude.Some, Prelude.codes, List.flat_map, Fmt.signed_decimal}
+use Rattle.oat_a64.specs.{declared.event.FaultKind.FaultKind, declared.event.FaultKind.TheVariants.Access}
+use Rattle.oat_measure.specs.{TrapKind, DivZero, Index, NullCall, Depth, InputEnd, declared.stop.StopKind.TheVariants.Nested}
+use Rattle.oat_journal.specs.{Fetch, Undefined, declared.end.DeviceEnd.DeviceEnd, declared.end.DeviceEnd.TheVariants.Halted, declared.end.DeviceEnd.TheVariants.Trap}
+use Rattle.oat_journal.specs.{declared.end.DeviceEnd.TheVariants.Fault, declared.end.DeviceEnd.TheVariants.Stopped, declared.end.DeviceEnd.TheVariants.OutOfSteps, StopKind, WrongEnd}
+use Rattle.oat_report.specs.{hexadecimal}
 use Rattle.oat_page.specs.Outcome.{line}
 
 abbrev pub trap_text : TrapKind → List ℕ

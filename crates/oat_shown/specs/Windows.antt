@@ -1,12 +1,8 @@
 -- The windows of a case, of which each that sealed has a verdict: their numbers, and how work on them ends (docs/FORMATS.md).
-use Rattle.std.specs.Prelude.{ℕ, Bool, true, false, if◌then◌else◌, nat_lt, List, [], length, codes, Option, unwrap_or}
-use Rattle.std.specs.List.{list_any}
-use Rattle.std.specs.Option.{option_map}
-use Rattle.oat_verify.specs.declared.verdict.Verdict.{Verdict}
-use Rattle.oat_verify.specs.declared.verdict.Verdict.TheVariants.{Accept, Refuse}
-use Rattle.oat_page.specs.declared.page.Ended.{Ended}
-use Rattle.oat_page.specs.declared.page.Ended.TheVariants.{Done, Rejected, Unsealed}
-use Rattle.oat_page.specs.Outcome.{line}
+use Rattle.std.specs.{Prelude.ℕ, Prelude.Bool, Prelude.true, Prelude.false, Prelude.if◌then◌else◌, Prelude.nat_lt, Prelude.List, Prelude.[], Prelude.length, Prelude.codes, Prelude.Option}
+use Rattle.std.specs.{Prelude.unwrap_or, List.list_any, Option.option_map}
+use Rattle.oat_verify.specs.{declared.verdict.Verdict.Verdict, declared.verdict.Verdict.TheVariants.Accept, declared.verdict.Verdict.TheVariants.Refuse}
+use Rattle.oat_page.specs.{declared.page.Ended.Ended, declared.page.Ended.TheVariants.Done, declared.page.Ended.TheVariants.Rejected, declared.page.Ended.TheVariants.Unsealed, Outcome.line}
 
 -- the number of window s, where the case numbers its windows
 abbrev pub window_number : Option ℕ → ℕ → Option ℕ

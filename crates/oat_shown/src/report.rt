@@ -1,5 +1,5 @@
 ghost use Rattle.std.specs.Prelude.{◌≡◌, ◌∷◌, IfOk, []};
-ghost use Rattle.oat_map.specs.declared.edge.Edge.{Edge};
+ghost use Rattle.oat_journal.specs.{Edge};
 ghost use Rattle.oat_verify.specs.declared.verdict.Verdict.{Verdict};
 ghost use Rattle.oat_report.specs.VerdictLine.{verdict_text};
 ghost use Rattle.oat_page.specs.Outcome.{line};
@@ -8,10 +8,9 @@ ghost use Rattle.oat_page.specs.Puts.{PutsAll};
 ghost use Rattle.oat_page.specs.Shows.{put_of};
 
 use oat_map::{Edge, Map};
-use oat_page::put_all;
+use oat_page::{Sink, SinkFault, put_all};
 use oat_report::{path_line, verdict_line};
 use oat_verify::Verdict;
-use oat_world::{Sink, SinkFault};
 use std::alloc::{AllocError, Global};
 
 /// The line of a verdict.

@@ -1,13 +1,9 @@
 -- A defined outcome with a status of work is one of the command that was asked for.
 use Rattle.std.proofs.Common.{refl, subst}
-use Rattle.oat_first.specs.First.{fails, passes}
-use Rattle.oat_words.specs.declared.command.Command.{Command}
-use Rattle.oat_page.specs.Loads.{AreLoaded}
-use Rattle.oat_words.specs.Commands.{numbers_of, files_of}
-use Rattle.oat_tool.specs.Defined.{Does, done, other}
-use Rattle.oat_tool.specs.DefinedLaws.{WorkIsOfCommand}
-use Rattle.oat_tool.proofs.Apart.{one_command}
-use Rattle.oat_tool.proofs.Setting.{failed_is_no_work}
+use Rattle.oat_words.specs.{declared.command.Command.Command, Commands.numbers_of, Commands.files_of}
+use Rattle.oat_room_attest.specs.{fails, passes, AreLoaded}
+use Rattle.oat_tool.specs.{Defined.Does, Defined.done, Defined.other, DefinedLaws.WorkIsOfCommand}
+use Rattle.oat_tool.proofs.{Apart.one_command, Setting.failed_is_no_work}
 
 pub work_is_of_command : WorkIsOfCommand
 work_is_of_command words contents command o asked (other none is) work = absurd (none command asked)

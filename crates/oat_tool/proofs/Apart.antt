@@ -1,11 +1,9 @@
 -- No two commands of the table share words.
 use Rattle.std.proofs.Common.{suc, zero, ◌≡◌, ◌<◌, ◌∙◌, ◌+◌, ℕ, Bool, true, false, not, ◌&&◌, ◌||◌, List, [], ◌∷◌, length, take, get_or, inl, inr, refl, sym, ap, subst, arith, IsTrue}
 use Rattle.std.specs.Str.{bytes_eq}
-use Rattle.std.proofs.lemmas.Bool.{cases_lt, eq-eqb}
-use Rattle.std.proofs.lemmas.List.{get_or_default}
-use Rattle.std.proofs.lemmas.Slice.Eq.{bytes_eq-Decides}
-use Rattle.oat_words.specs.declared.command.Command.{Command}
-use Rattle.oat_words.specs.Commands.{commands, fixed_of, bounds_of, limits_of, IsLine, differ, are_apart, is_apart_from, all_apart}
+use Rattle.std.proofs.lemmas.{Bool.cases_lt, Bool.eq-eqb, List.get_or_default, Slice.Eq.bytes_eq-Decides}
+use Rattle.oat_words.specs.{declared.command.Command.Command, Commands.commands, Commands.fixed_of, Commands.bounds_of, Commands.limits_of, Commands.IsLine, Commands.differ, Commands.are_apart}
+use Rattle.oat_words.specs.{Commands.is_apart_from, Commands.all_apart}
 
 both_true : (a b : Bool) → IsTrue (a && b) → IsTrue a × IsTrue b
 both_true true true both = (refl, refl)

@@ -1,41 +1,18 @@
 -- The room of `attest`: what its statuses say, its headline, and that it is complete.
 use Rattle.std.proofs.Common.{◌≡◌, ◌∙◌, ℕ, suc, Bool, true, false, List, [], ◌∷◌, length, Option, Some, inl, inr, refl, sym, ap, ap₂, subst, arith}
 use Rattle.std.specs.Prelude.{if◌then◌else◌, slice_get, unwrap_or}
-use Rattle.std.proofs.lemmas.Bool.{ltb-true}
-use Rattle.std.proofs.lemmas.Option.{slice_get_within}
-use Rattle.oat_world.specs.Outside.{Contents}
-use Rattle.oat_ir.specs.declared.program.Program.{Program}
-use Rattle.oat_case.specs.declared.case.Case.{Case}
-use Rattle.oat_map.specs.declared.edge.Edge.{Edge}
-use Rattle.oat_verify.specs.declared.verdict.Cause.{Cause}
-use Rattle.oat_verify.specs.declared.verdict.Verdict.{Verdict}
-use Rattle.oat_verify.specs.declared.verdict.Verdict.TheVariants.{Accept, Refuse}
-use Rattle.oat_attestation.specs.declared.attested.Attested.{Attested}
-use Rattle.oat_attestation.specs.Attestation.{Attests}
-use Rattle.oat_attestation.specs.Laws.{AcceptsAllCalls, AttestationsAreComplete, HonestRunsAreAttested, RunsAreHeadlined, WindowsAreJudged}
-use Rattle.oat_words.specs.declared.command.Command.TheVariants as commands
-use Rattle.oat_page.specs.Outcome.{Outcome}
-use Rattle.oat_page.specs.Answer.{Answer, as_outcome, status_of}
-use Rattle.oat_page.specs.declared.page.Ended.TheVariants.{Done, Rejected, Unsealed}
-use Rattle.oat_page.specs.Loads.{File, AreLoaded, Read}
-use Rattle.oat_words.specs.Commands.{files_of}
-use Rattle.oat_shown.specs.Windows.{are_few, refuses_one}
-use Rattle.oat_room_attest.specs.Attest.{AreAttestable, AttestsProgram, ShowsWindows, attested_answer}
-use Rattle.oat_tool.specs.AttestLaws.{AttestIsComplete, AttestIsHonest, AttestIsShown, CompletesInTime, IsAttestedRun, ShowsAllAccepted}
-use Rattle.oat_tool.specs.Completeness.{ShowsEnd}
-use Rattle.oat_tool.specs.CallLaws.{ShowsJust}
-use Rattle.oat_tool.specs.DefinedLaws.{IsOfWork}
-use Rattle.oat_tool.specs.OneRun.{IsOfOneRun}
-use Rattle.oat_page.specs.Shows.{Put}
-use Rattle.oat_tool.specs.Call.{IsCall}
+use Rattle.std.proofs.lemmas.{Bool.ltb-true, Option.slice_get_within}
 use Rattle.oat_page.proofs.Working.{IsDone}
-use Rattle.oat_room_attest.proofs.Attesting.{AttestsFiles-through}
-use Rattle.oat_room_attest.proofs.WindowLines.{some_verdict}
+use Rattle.oat_words.specs.Commands.{files_of}
 use Rattle.oat_shown.proofs.Windowing.{statuses}
-use Rattle.oat_tool.proofs.Setting.{work_is_done}
-use Rattle.oat_tool.proofs.Answering.{work_is_of_command}
-use Rattle.oat_tool.proofs.Following.{whole_is_put}
-use Rattle.oat_tool.proofs.Completing.{attest_works, held_files_are_answered}
+use Rattle.oat_room_attest.specs.{Contents, Program, Case, Edge, Cause, Verdict, Accept, Refuse, Attested, Attests, AcceptsAllCalls, AttestationsAreComplete, HonestRunsAreAttested, RunsAreHeadlined}
+use Rattle.oat_room_attest.specs.{WindowsAreJudged, Outcome, Answer, as_outcome, status_of, Done, Rejected, Unsealed, File, AreLoaded, Read, are_few, refuses_one, Attest.AreAttestable}
+use Rattle.oat_room_attest.specs.{Attest.AttestsProgram, Attest.ShowsWindows, Attest.attested_answer, Put}
+use Rattle.oat_room_attest.proofs.{Attesting.AttestsFiles-through, WindowLines.some_verdict}
+use Rattle.oat_tool.specs.{AttestLaws.AttestIsComplete, AttestLaws.AttestIsHonest, AttestLaws.AttestIsShown, AttestLaws.CompletesInTime, AttestLaws.IsAttestedRun, AttestLaws.ShowsAllAccepted}
+use Rattle.oat_tool.specs.{Completeness.ShowsEnd, CallLaws.ShowsJust, DefinedLaws.IsOfWork, OneRun.IsOfOneRun, Call.IsCall}
+use Rattle.oat_tool.proofs.{Setting.work_is_done, Answering.work_is_of_command, Following.whole_is_put, Completing.attest_works, Completing.held_files_are_answered}
+use Rattle.oat_words.specs.declared.command.Command.TheVariants as commands
 
 -- ---- what the statuses say
 

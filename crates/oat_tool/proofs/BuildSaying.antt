@@ -1,21 +1,14 @@
 -- What is said of `build`: that it has one answer but for the image, and what its status says.
 use Rattle.std.proofs.Common.{◌≡◌, ◌∙◌, ◌⊎◌, ℕ, List, ◌∷◌, inl, inr, ap, sym, subst, arith, []}
-use Rattle.oat_world.specs.Outside.{Contents}
-use Rattle.oat_ir.specs.declared.program.Program.{Program}
-use Rattle.oat_first.specs.First.{fails, passes, IsDecisive}
 use Rattle.oat_first.proofs.FirstLaws.{First-through, Tests-decisive}
-use Rattle.oat_words.specs.declared.command.Command.TheVariants as commands
-use Rattle.oat_page.specs.Outcome.{Outcome}
-use Rattle.oat_page.specs.Answer.{Answer, as_outcome, refused}
-use Rattle.oat_page.specs.Loads.{File, AreLoaded}
-use Rattle.oat_words.specs.Commands.{files_of}
-use Rattle.oat_programs.specs.Programs.{IsCheckedText, RefusesProgram, CodeFits, RefusesCode}
-use Rattle.oat_room_program.specs.Build.{Builds, Compiles, ShowsImage}
-use Rattle.oat_tool.specs.BuildLaws.{AreBuilt, IsBuiltImage, BuildIsShown, OneBuildRefusal}
 use Rattle.oat_page.proofs.Working.{IsDone, refused_is_not_done}
+use Rattle.oat_words.specs.Commands.{files_of}
 use Rattle.oat_programs.proofs.Programming.{program_is_decisive, refused_program_is_not_done}
-use Rattle.oat_tool.proofs.Setting.{work_is_done}
-use Rattle.oat_tool.proofs.Answering.{work_is_of_command}
+use Rattle.oat_room_program.specs.Build.{Builds, Compiles, ShowsImage}
+use Rattle.oat_room_attest.specs.{Contents, Program, fails, passes, IsDecisive, Outcome, Answer, as_outcome, refused, File, AreLoaded, IsCheckedText, RefusesProgram, CodeFits, RefusesCode}
+use Rattle.oat_tool.specs.BuildLaws.{AreBuilt, IsBuiltImage, BuildIsShown, OneBuildRefusal}
+use Rattle.oat_tool.proofs.{Setting.work_is_done, Answering.work_is_of_command}
+use Rattle.oat_words.specs.declared.command.Command.TheVariants as commands
 
 -- ---- one answer, but for the image
 

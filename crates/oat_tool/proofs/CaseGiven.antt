@@ -1,20 +1,10 @@
 -- A case that a text stands for can be given to a run.
 use Rattle.std.proofs.Common.{◌≡◌, ◌<◌, ◌^◌, ℕ, ℤ, pos, negsuc, List, [], ◌∷◌, Option, Some, None, refl, subst}
-use Rattle.std.specs.Prelude.{FitsSigned, IsTrue}
-use Rattle.std.specs.Int.{w64}
-use Rattle.std.specs.List.{All, AllByRecursion, cons_option, filter_map}
-use Rattle.std.proofs.lemmas.Bool.{ltb-true}
-use Rattle.std.proofs.lemmas.List.{get_or_default}
-use Rattle.std.proofs.lemmas.List.Elements.{All-from_recursion}
+use Rattle.std.specs.{Prelude.FitsSigned, Prelude.IsTrue, Int.w64, List.All, List.AllByRecursion, List.cons_option, List.filter_map}
+use Rattle.std.proofs.lemmas.{Bool.ltb-true, List.get_or_default, List.Elements.All-from_recursion}
 use Rattle.hex.proofs.HexLemmas.{decode_of-ok}
-use Rattle.oat_lines.specs.Integer.{is_i64}
-use Rattle.oat_lines.specs.Lines.{TextWord}
 use Rattle.oat_lines.proofs.Steps.{some_is}
-use Rattle.oat_case.specs.declared.case.Case.{Case}
-use Rattle.oat_case.specs.declared.case.Write.{Write}
-use Rattle.oat_case.specs.Grammar.{IsCaseText, SaysStatement, SayStatements, Statement, InputIs, WriteIs, input_in, write_in}
-use Rattle.oat_case.specs.Laws.{WritesCanBeMade}
-use Rattle.oat_journal.specs.Run.{AreGiven}
+use Rattle.oat_room_attest.specs.{is_i64, TextWord, Case, Write, IsCaseText, SaysStatement, SayStatements, Statement, InputIs, WriteIs, input_in, write_in, WritesCanBeMade, AreGiven}
 
 -- what each statement gives, all those that are said give
 all_said : {X : Type 0} (gives : Statement → Option X) (P : X → Type 0)

@@ -1,56 +1,22 @@
 -- Files that are held are answered; and such as the command takes, with a status of work.
 use Rattle.std.proofs.Common.{◌≡◌, ◌∙◌, ◌⊎◌, ℕ, List, [], ◌∷◌, Ok, Err, inl, inr, refl, sym, ap, subst}
-use Rattle.oat_world.specs.Outside.{Contents}
-use Rattle.oat_ir.specs.declared.program.Program.{Program}
-use Rattle.oat_image.specs.declared.image.Image.{Image}
-use Rattle.oat_case.specs.declared.case.Case.{Case}
-use Rattle.oat_image.specs.Grammar.{IsImageText}
-use Rattle.oat_owner.specs.declared.device.Known.{Known}
-use Rattle.oat_owner.specs.declared.call.OwnerCall.{OwnerCall}
-use Rattle.oat_policy.specs.declared.policy.PolicyRule.{PolicyRule}
-use Rattle.oat_script.specs.declared.script.Script.{Script}
-use Rattle.oat_script.specs.declared.script.ScriptDevice.{ScriptDevice}
-use Rattle.oat_shape.specs.Shape.{IsShaped}
 use Rattle.hex.specs.Hex.{decode_of}
-use Rattle.oat_measure.specs.declared.opening.Opening.{Opening}
-use Rattle.oat_journal.specs.Measured.{Run}
-use Rattle.oat_attestation.specs.declared.attested.Attested.{Attested}
-use Rattle.oat_first.specs.First.{First, fails, passes, IsDecisive}
-use Rattle.oat_words.specs.declared.command.Command.{Command}
-use Rattle.oat_words.specs.declared.command.Command.TheVariants as commands
-use Rattle.oat_page.specs.declared.page.Ended.{Ended}
-use Rattle.oat_page.specs.declared.page.Ended.TheVariants.{Done, Rejected, Unsealed}
-use Rattle.oat_page.specs.Outcome.{Outcome}
-use Rattle.oat_page.specs.Answer.{Answer, IsAnswered, shows, as_outcome}
-use Rattle.oat_page.specs.Loads.{File, AreLoaded}
-use Rattle.oat_words.specs.Commands.{IsLine, numbers_of, files_of}
-use Rattle.oat_tool.specs.Defined.{Does, Defined, done, other}
-use Rattle.oat_tool.specs.DefinedLaws.{IsOfWork}
-use Rattle.oat_page.specs.Shows.{Put}
-use Rattle.oat_tool.specs.CallLaws.{ShowsJust}
-use Rattle.oat_tool.specs.Completeness.{CallsAreComplete, EndsWork, HeldFilesAreAnswered, IsServable, ShowsEnd, TakenFilesAreWorkedOn}
-use Rattle.oat_inputs.specs.BlobText.{HasDigits, IsBlobText}
-use Rattle.oat_inputs.specs.Admits.{Admits, AreAdmitted}
-use Rattle.oat_shown.specs.Report.{ended_of}
-use Rattle.oat_programs.specs.Programs.{IsCaseOf, IsCheckedText, CodeFits}
-use Rattle.oat_room_program.specs.Interpret.{Interprets}
-use Rattle.oat_room_program.specs.Build.{Builds}
-use Rattle.oat_room_verify.specs.Verify.{IsOpened, Verifies}
-use Rattle.oat_room_device.specs.Device.{Runs, RunsCase, ShowsRun, sealed, unsealed}
-use Rattle.oat_room_device.specs.Trace.{Traces, TracesCase}
-use Rattle.oat_room_verify.specs.Policy.{IsOpenedWith, Polices, with_policy}
-use Rattle.oat_room_drill.specs.Drill.{Drills}
-use Rattle.oat_inputs.specs.Refusals.{RefusesImage, RefusesShape}
-use Rattle.oat_room_owner.specs.Owner.{AreEnrolled, EnrolmentFails, EnrolmentsFail, IsEnrolled, RepliesTo, Serves, ServesScript, image_file, to_all, to_some}
-use Rattle.oat_room_attest.specs.Attest.{AreAttestable, AttestsFiles, AttestsProgram, ShowsAttested, ShowsWindows}
-use Rattle.oat_room_attest.specs.Json.{AttestsInJson, TellsWindows}
-use Rattle.oat_tool.proofs.Apart.{one_command}
+use Rattle.oat_words.specs.{declared.command.Command.Command, Commands.IsLine, Commands.numbers_of, Commands.files_of}
 use Rattle.oat_inputs.proofs.Refusing.{blob_is_decisive, case_is_decisive, image_is_decisive, operation_is_decisive, shape_is_decisive}
 use Rattle.oat_programs.proofs.Programming.{case_of_is_decisive, program_is_decisive}
-use Rattle.oat_tool.proofs.BuildSaying.{code_is_decisive}
-use Rattle.oat_tool.proofs.PolicySaying.{policy_is_decisive}
-use Rattle.oat_tool.proofs.One.{load_is_decisive, loads_are_decisive}
-use Rattle.oat_tool.proofs.Following.{defined_is_shown}
+use Rattle.oat_room_verify.specs.{PolicyRule, Verify.IsOpened, Verify.Verifies, Policy.IsOpenedWith, Policy.Polices, Policy.with_policy}
+use Rattle.oat_room_device.specs.{Device.Runs, Device.RunsCase, Device.ShowsRun, Device.sealed, Device.unsealed, Trace.Traces, Trace.TracesCase}
+use Rattle.oat_room_program.specs.{Interpret.Interprets, Build.Builds}
+use Rattle.oat_room_attest.specs.{Contents, Program, Image, Case, IsImageText, IsShaped, Opening, Run, Attested, First, fails, passes, IsDecisive, Ended, Done, Rejected, Unsealed, Outcome, Answer}
+use Rattle.oat_room_attest.specs.{IsAnswered, shows, as_outcome, File, AreLoaded, Put, HasDigits, IsBlobText, Admits, AreAdmitted, ended_of, IsCaseOf, IsCheckedText, CodeFits, RefusesImage}
+use Rattle.oat_room_attest.specs.{RefusesShape, Attest.AreAttestable, Attest.AttestsFiles, Attest.AttestsProgram, Attest.ShowsAttested, Attest.ShowsWindows, Json.AttestsInJson, Json.TellsWindows}
+use Rattle.oat_room_drill.specs.Drill.{Drills}
+use Rattle.oat_room_owner.specs.{Known, OwnerCall, Script, ScriptDevice, Owner.AreEnrolled, Owner.EnrolmentFails, Owner.EnrolmentsFail, Owner.IsEnrolled, Owner.RepliesTo, Owner.Serves}
+use Rattle.oat_room_owner.specs.{Owner.ServesScript, Owner.image_file, Owner.to_all, Owner.to_some}
+use Rattle.oat_tool.specs.{Defined.Does, Defined.Defined, Defined.done, Defined.other, DefinedLaws.IsOfWork, CallLaws.ShowsJust, Completeness.CallsAreComplete, Completeness.EndsWork}
+use Rattle.oat_tool.specs.{Completeness.HeldFilesAreAnswered, Completeness.IsServable, Completeness.ShowsEnd, Completeness.TakenFilesAreWorkedOn}
+use Rattle.oat_tool.proofs.{Apart.one_command, BuildSaying.code_is_decisive, PolicySaying.policy_is_decisive, One.load_is_decisive, One.loads_are_decisive, Following.defined_is_shown}
+use Rattle.oat_words.specs.declared.command.Command.TheVariants as commands
 
 -- ---- files that are held
 

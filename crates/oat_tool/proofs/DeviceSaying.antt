@@ -1,32 +1,17 @@
 -- What is said of `device`: that it has one answer, and what its statuses say.
 use Rattle.std.proofs.Common.{◌≡◌, ◌↔◌, ◌∙◌, ℕ, List, ◌∷◌, inl, inr, refl, sym, ap, subst, codes, arith, []}
 use Rattle.std.specs.List.{AllZip}
-use Rattle.oat_world.specs.Outside.{Contents}
-use Rattle.oat_blob.specs.Body.{Body}
-use Rattle.oat_measure.specs.declared.opening.Opening.{Opening}
-use Rattle.oat_image.specs.declared.image.Image.{Image}
-use Rattle.oat_case.specs.declared.case.Case.{Case}
-use Rattle.oat_shape.specs.MapRules.{S7}
-use Rattle.oat_shape.specs.Shape.{Everywhere}
-use Rattle.oat_journal.specs.Measured.{Run, opening_of}
-use Rattle.oat_device.specs.DeviceRun.{IsSealed}
-use Rattle.oat_device.proofs.Counting.{windows_are_counted}
-use Rattle.oat_measure.specs.Shelving.{sealed_bodies}
 use Rattle.oat_shape.proofs.Laid.{opens_once}
-use Rattle.oat_first.specs.First.{IsOne}
-use Rattle.oat_page.specs.declared.page.Ended.TheVariants.{Done, Unsealed}
-use Rattle.oat_words.specs.declared.command.Command.TheVariants.{Device}
-use Rattle.oat_page.specs.Outcome.{Outcome, line}
-use Rattle.oat_page.specs.Answer.{Answer, shows, as_outcome}
-use Rattle.oat_page.specs.Loads.{File, AreLoaded}
-use Rattle.oat_words.specs.Commands.{files_of}
-use Rattle.oat_room_device.specs.Device.{IsBlobUnder, Runs, RunsCase, ShowsRun, sealed, unsealed, run_and_blobs, run_of}
-use Rattle.oat_tool.specs.DeviceLaws.{IsMeasuredRun, RunIsShown, RunIsNotRejected, OneDeviceAnswer}
+use Rattle.oat_device.proofs.Counting.{windows_are_counted}
 use Rattle.oat_page.proofs.Working.{IsDone}
+use Rattle.oat_words.specs.{declared.command.Command.TheVariants.Device, Commands.files_of}
 use Rattle.oat_inputs.proofs.Admitting.{Admits-one, Admits-through}
-use Rattle.oat_tool.proofs.Setting.{work_is_done}
-use Rattle.oat_tool.proofs.Answering.{work_is_of_command}
 use Rattle.oat_shown.proofs.Windowing.{first_window}
+use Rattle.oat_room_device.specs.Device.{IsBlobUnder, Runs, RunsCase, ShowsRun, sealed, unsealed, run_and_blobs, run_of}
+use Rattle.oat_room_attest.specs.{Contents, Body, Opening, Image, Case, S7, Everywhere, Run, opening_of, IsSealed, sealed_bodies, IsOne, Done, Unsealed, Outcome, line, Answer, shows, as_outcome, File}
+use Rattle.oat_room_attest.specs.{AreLoaded}
+use Rattle.oat_tool.specs.DeviceLaws.{IsMeasuredRun, RunIsShown, RunIsNotRejected, OneDeviceAnswer}
+use Rattle.oat_tool.proofs.{Setting.work_is_done, Answering.work_is_of_command}
 
 -- ---- one answer
 

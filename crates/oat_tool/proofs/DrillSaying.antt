@@ -2,27 +2,14 @@
 use Rattle.std.proofs.Common.{◌≡◌, ◌∙◌, ℕ, List, ◌∷◌, Option, Some, length, map, take, drop, slice_get, refl, sym, ap, subst, arith, []}
 use Rattle.std.specs.Str.Parse.{digits_value}
 use Rattle.sha2.specs.Sha256.{sha256}
-use Rattle.oat_world.specs.Outside.{Contents}
-use Rattle.oat_first.specs.First.{fails, passes}
-use Rattle.oat_check.specs.RunLaws.{CallsAreCounted}
-use Rattle.oat_map.specs.declared.map.Map.{Map}
-use Rattle.oat_map.specs.declared.edge.Edge.{Edge}
-use Rattle.oat_make.specs.Laws.{DrillsAreChecked, DrillsCanBeAttested, DrillsComplete}
-use Rattle.oat_verify.specs.declared.verdict.Verdict.{Verdict}
-use Rattle.oat_verify.specs.declared.verdict.Verdict.TheVariants.{Accept}
-use Rattle.oat_attestation.specs.Laws.{AttestationsAreComplete, HonestRunsAreAttested}
-use Rattle.oat_words.specs.declared.command.Command.{Command}
-use Rattle.oat_words.specs.declared.command.Command.TheVariants as commands
-use Rattle.oat_page.specs.Outcome.{Outcome}
-use Rattle.oat_page.specs.Answer.{Answer, shows, as_outcome, IsAnswered}
-use Rattle.oat_page.specs.Loads.{Wanted, wanted_of, LoadsFail}
-use Rattle.oat_words.specs.Commands.{IsLine, numbers_of}
-use Rattle.oat_tool.specs.Defined.{Ends, done, other, Defined}
-use Rattle.oat_shown.specs.Report.{ended_of, path_in, path_text}
-use Rattle.oat_room_drill.specs.Drill.{Drills, ShowsDrill, drill_report}
-use Rattle.oat_tool.specs.DrillLaws.{IsAcceptedDrill, DrillIsAccepted}
-use Rattle.oat_tool.proofs.Apart.{one_command}
+use Rattle.oat_words.specs.{declared.command.Command.Command, Commands.IsLine, Commands.numbers_of}
+use Rattle.oat_room_attest.specs.{Contents, fails, passes, CallsAreCounted, Map, Edge, Verdict, Accept, AttestationsAreComplete, HonestRunsAreAttested, Outcome, Answer, shows, as_outcome, IsAnswered}
+use Rattle.oat_room_attest.specs.{Wanted, wanted_of, LoadsFail, ended_of, path_in, path_text}
+use Rattle.oat_room_drill.specs.{DrillsAreChecked, DrillsCanBeAttested, DrillsComplete, Drill.Drills, Drill.ShowsDrill, Drill.drill_report}
 use Rattle.oat_room_drill.proofs.Drilling.{Laws, drill_accepts_first}
+use Rattle.oat_tool.specs.{Defined.Ends, Defined.done, Defined.other, Defined.Defined, DrillLaws.IsAcceptedDrill, DrillLaws.DrillIsAccepted}
+use Rattle.oat_tool.proofs.Apart.{one_command}
+use Rattle.oat_words.specs.declared.command.Command.TheVariants as commands
 
 -- ---- what is put
 

@@ -1,14 +1,10 @@
 -- What follows for the caller from what a call shows.
 use Rattle.std.proofs.Common.{◌≡◌, ◌∙◌, ◌<◌, ◌⊎◌, ℕ, List, [], ◌∷◌, ◌++◌, Option, inl, inr, refl, sym, ap, subst, append_assoc, arith}
 use Rattle.std.proofs.lemmas.List.{append-nil}
-use Rattle.oat_world.specs.Outside.{Contents, Rose, Adds}
-use Rattle.oat_page.specs.Outcome.{Outcome, IsPrefix}
-use Rattle.oat_tool.specs.Defined.{SetsOut, Defined}
-use Rattle.oat_tool.specs.DefinedLaws.{IsOfWork}
-use Rattle.oat_page.specs.Shows.{Put, HasFailed, OrStarved, ended, at_once, behind, IsLeft, whole, cut, cut_said, starved_said, Shows}
-use Rattle.oat_page.specs.Puts.{PutsFront}
-use Rattle.oat_tool.specs.CallLaws.{ShowsJust, ShowsDefined, WholeIsPut, DefinedIsShown, TheDefinedIsShown, FrontIsPut, RefusalsAreQuiet, ReadFaultsAreTold}
 use Rattle.oat_page.proofs.Putting.{Adds-none}
+use Rattle.oat_room_attest.specs.{Contents, Rose, Adds, Outcome, IsPrefix, Put, HasFailed, OrStarved, ended, at_once, behind, IsLeft, whole, cut, cut_said, starved_said, Shows, PutsFront}
+use Rattle.oat_tool.specs.{Defined.SetsOut, Defined.Defined, DefinedLaws.IsOfWork, CallLaws.ShowsJust, CallLaws.ShowsDefined, CallLaws.WholeIsPut, CallLaws.DefinedIsShown, CallLaws.TheDefinedIsShown}
+use Rattle.oat_tool.specs.{CallLaws.FrontIsPut, CallLaws.RefusalsAreQuiet, CallLaws.ReadFaultsAreTold}
 use Rattle.oat_tool.proofs.Setting.{SetsOut-defined, Defined-quiet, Defined-fault}
 
 -- ---- what was put, told at once

@@ -1,20 +1,13 @@
 -- The room of `attest --json`: its texts are plain, what a line tells of a verdict, and what its statuses say.
 use Rattle.std.proofs.Common.{◌∙◌, ℕ, List, sym, ap, subst}
-use Rattle.oat_attestation.specs.Laws.{WindowsAreJudged}
-use Rattle.oat_world.specs.Outside.{Contents}
-use Rattle.oat_words.specs.declared.command.Command.TheVariants as commands
-use Rattle.oat_page.specs.Outcome.{Outcome}
-use Rattle.oat_page.specs.Answer.{Answer, as_outcome}
-use Rattle.oat_words.specs.Commands.{files_of}
-use Rattle.oat_page.specs.Loads.{File, AreLoaded}
-use Rattle.oat_shown.specs.Windows.{are_few, refuses_one}
-use Rattle.oat_room_attest.specs.Json.{AttestsInJson, TellsWindows}
-use Rattle.oat_tool.specs.JsonLaws.{IsToldInJson, JsonIsShown}
 use Rattle.oat_page.proofs.Working.{IsDone}
-use Rattle.oat_room_attest.proofs.Attesting.{AttestsFiles-through}
+use Rattle.oat_words.specs.Commands.{files_of}
 use Rattle.oat_shown.proofs.Windowing.{statuses}
-use Rattle.oat_tool.proofs.Setting.{work_is_done}
-use Rattle.oat_tool.proofs.Answering.{work_is_of_command}
+use Rattle.oat_room_attest.specs.{WindowsAreJudged, Contents, Outcome, Answer, as_outcome, File, AreLoaded, are_few, refuses_one, Json.AttestsInJson, Json.TellsWindows}
+use Rattle.oat_room_attest.proofs.Attesting.{AttestsFiles-through}
+use Rattle.oat_tool.specs.JsonLaws.{IsToldInJson, JsonIsShown}
+use Rattle.oat_tool.proofs.{Setting.work_is_done, Answering.work_is_of_command}
+use Rattle.oat_words.specs.declared.command.Command.TheVariants as commands
 
 -- ---- what the statuses say
 

@@ -1,10 +1,8 @@
 -- The words of a command are those that it begins with, its numbers, and a name for each of its files.
 use Rattle.std.proofs.Common.{◌≡◌, ◌∙◌, ◌≤◌, ◌++◌, ℕ, List, [], length, take, drop, get_or, Contains, sym, ap, subst, arith, length-append, length-drop}
-use Rattle.std.proofs.Math.Seq.{take-append_seam, drop-append_seam}
-use Rattle.std.proofs.Math.ListN.{get_or-append}
+use Rattle.std.proofs.Math.{Seq.take-append_seam, Seq.drop-append_seam, ListN.get_or-append}
 use Rattle.std.proofs.lemmas.List.{take-append-drop, length-take-le, get_or-take}
-use Rattle.oat_words.specs.declared.command.Command.{Command}
-use Rattle.oat_words.specs.Commands.{commands, fixed_of, bounds_of, IsNumber, AreNumbers, IsLine}
+use Rattle.oat_words.specs.{declared.command.Command.Command, Commands.commands, Commands.fixed_of, Commands.bounds_of, Commands.IsNumber, Commands.AreNumbers, Commands.IsLine}
 use Rattle.oat_tool.specs.DefinedLaws.{IsSpelled, LinesAreSpelled}
 
 front_numbers : (bounds : List ℕ) (words : List (List ℕ)) → AreNumbers bounds words → AreNumbers bounds (take (length bounds) words)

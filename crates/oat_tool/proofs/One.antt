@@ -1,15 +1,9 @@
 -- Loads give one list of files or fail in one way, so words and contents have one outcome where the command has one answer.
 use Rattle.std.proofs.Common.{◌≡◌, ◌∙◌, ◌<◌, ℕ, List, [], ◌∷◌, length, Some, None, refl, sym, ap, subst, arith}
-use Rattle.oat_world.specs.Outside.{Contents}
-use Rattle.oat_first.specs.First.{fails, passes, IsOne, IsDecisive}
 use Rattle.oat_first.proofs.FirstLaws.{First-one}
-use Rattle.oat_words.specs.declared.command.Command.{Command}
-use Rattle.oat_page.specs.Outcome.{Outcome}
-use Rattle.oat_page.specs.Answer.{Answer, IsAnswered, as_outcome}
-use Rattle.oat_page.specs.Loads.{Wanted, File, IsLoaded, LoadFails, absent, faulted, long, AreLoaded, LoadsFail}
-use Rattle.oat_words.specs.Commands.{numbers_of, files_of}
-use Rattle.oat_tool.specs.Defined.{Does, Ends, done, other}
-use Rattle.oat_tool.specs.DefinedLaws.{OneOutcome}
+use Rattle.oat_words.specs.{declared.command.Command.Command, Commands.numbers_of, Commands.files_of}
+use Rattle.oat_room_attest.specs.{Contents, fails, passes, IsOne, IsDecisive, Outcome, Answer, IsAnswered, as_outcome, Wanted, File, IsLoaded, LoadFails, absent, faulted, long, AreLoaded, LoadsFail}
+use Rattle.oat_tool.specs.{Defined.Does, Defined.Ends, Defined.done, Defined.other, DefinedLaws.OneOutcome}
 use Rattle.oat_tool.proofs.Apart.{one_command}
 
 abbrev made : List ℕ → ℕ → List ℕ → File

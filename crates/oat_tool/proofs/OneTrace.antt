@@ -1,47 +1,18 @@
 -- The room of `trace`: it has one answer, since the windows of a run are told in one way.
 use Rattle.std.proofs.Common.{◌≡◌, ◌+◌, ◌-◌, ◌<◌, ◌++◌, ◌∙◌, ℕ, suc, List, [], ◌∷◌, length, map, get_or, Option, Some, None, inl, inr, refl, sym, ap, subst, arith, length-append}
-use Rattle.std.specs.Prelude.{slice_get}
-use Rattle.std.specs.List.{flat_map}
-use Rattle.std.proofs.lemmas.Bool.{cases_lt}
-use Rattle.std.proofs.lemmas.List.{get_or-append-add}
+use Rattle.std.specs.{Prelude.slice_get, List.flat_map}
 use Rattle.std.proofs.Math.Seq.{get_or-append_seam}
-use Rattle.oat_blob.specs.Body.{Body}
-use Rattle.oat_blob.specs.Layout.{IsBlobOf}
-use Rattle.oat_chain.specs.Chain.{messages, DiffersAt}
-use Rattle.oat_chain.specs.Clash.{bytes_of}
-use Rattle.oat_chain.specs.declared.message.Clash.{Clash}
-use Rattle.oat_case.specs.declared.case.Case.{Case}
-use Rattle.oat_case.specs.declared.case.Session.{Session}
-use Rattle.oat_first.specs.First.{IsOne}
-use Rattle.oat_image.specs.declared.image.Image.{Image}
+use Rattle.std.proofs.lemmas.{Bool.cases_lt, List.get_or-append-add}
 use Rattle.oat_lines.proofs.Steps.{some_is}
-use Rattle.oat_map.specs.declared.map.Map.{Map}
-use Rattle.oat_map.specs.Walk.{returns_of}
-use Rattle.oat_journal.specs.Measured.{Run, opening_of, window_of}
-use Rattle.oat_journal.specs.Uses.{CheckedUse}
-use Rattle.oat_journal.specs.Window.{returns_of_run}
-use Rattle.oat_measure.specs.Shelving.{serial_of}
-use Rattle.oat_report.specs.TraceLine.{use_text, apart_text}
-use Rattle.oat_report.specs.VerdictLine.{verdict_text}
-use Rattle.oat_shape.specs.MapRules.{S7}
-use Rattle.oat_shape.specs.Shape.{Everywhere}
 use Rattle.oat_shape.proofs.Laid.{opens_once}
-use Rattle.oat_verify.specs.declared.verdict.Verdict.{Verdict}
-use Rattle.oat_verify.specs.declared.verdict.Verdict.TheVariants.{Accept, Refuse}
-use Rattle.oat_verify.specs.Verdict.{IsVerdict, head_of, subject_of}
 use Rattle.oat_verify.proofs.OneVerdict.{one_verdict}
-use Rattle.oat_watch.specs.declared.watched.CheckedUse.{CheckedUse as ShownUse}
-use Rattle.oat_watch.specs.declared.watched.WatchedWindow.{WatchedWindow}
-use Rattle.oat_watch.specs.Shown.{use_of}
-use Rattle.oat_watch.specs.Watching.{HasItsVerdict, PartsFrom}
-use Rattle.oat_page.specs.Outcome.{line}
-use Rattle.oat_page.specs.Answer.{Answer, shows}
-use Rattle.oat_shown.specs.Report.{path_text}
-use Rattle.oat_room_device.specs.Device.{run_lines, run_of}
-use Rattle.oat_room_device.specs.Trace.{AreTraced, TracesCase, part_text, parting_text, parts_from, use_line, verdicts_on}
-use Rattle.oat_shown.specs.Windows.{ended_with, want_text, window_number}
-use Rattle.oat_tool.specs.TraceLaws.{OneTrace}
 use Rattle.oat_inputs.proofs.Admitting.{Admits-one}
+use Rattle.oat_room_device.specs.{bytes_of, Clash, CheckedUse as ShownUse, WatchedWindow, use_of, HasItsVerdict, PartsFrom, Device.run_lines, Device.run_of, Trace.AreTraced, Trace.TracesCase}
+use Rattle.oat_room_device.specs.{Trace.part_text, Trace.parting_text, Trace.parts_from, Trace.use_line, Trace.verdicts_on}
+use Rattle.oat_room_attest.specs.{Body, IsBlobOf, messages, DiffersAt, Case, Session, IsOne, Image, Map, returns_of, Run, opening_of, window_of, CheckedUse, returns_of_run, serial_of, use_text}
+use Rattle.oat_room_attest.specs.{apart_text, verdict_text, S7, Everywhere, Verdict, Accept, Refuse, IsVerdict, head_of, subject_of, line, Answer, shows, path_text, ended_with, want_text}
+use Rattle.oat_room_attest.specs.{window_number}
+use Rattle.oat_tool.specs.TraceLaws.{OneTrace}
 
 -- ---- one clash
 

@@ -1,34 +1,18 @@
 -- What the statuses of `owner` say, what of its replies is put, and what its acceptances are good for.
 use Rattle.std.proofs.Common.{◌≡◌, ◌∙◌, ◌⊎◌, ℕ, List, [], ◌∷◌, Option, Some, take, inl, inr, sym, ap, subst, arith}
 use Rattle.std.specs.Prelude.{◌==◌}
-use Rattle.std.proofs.lemmas.Bool.{cases_Bool}
-use Rattle.std.proofs.lemmas.List.{append-nil}
-use Rattle.oat_world.specs.Outside.{Contents}
-use Rattle.oat_first.specs.First.{fails, passes}
-use Rattle.oat_map.specs.declared.edge.Edge.{Edge}
-use Rattle.oat_verify.specs.Verdict.{subject_of}
+use Rattle.std.proofs.lemmas.{Bool.cases_Bool, List.append-nil}
 use Rattle.oat_verify.proofs.OneVerdict.{acceptance_at_once}
 use Rattle.oat_attest.proofs.Headlines.{headline}
-use Rattle.oat_owner.specs.declared.device.Known.{Known}
-use Rattle.oat_owner.specs.declared.call.OwnerCall.{OwnerCall}
-use Rattle.oat_owner.specs.Ledger.{device_of}
-use Rattle.oat_owner.specs.Replies.{challenge_session}
-use Rattle.oat_owner.specs.Exchanges.{Exchange}
-use Rattle.oat_owner.specs.Laws.{AcceptedByVerdict, AcceptedOnce, IsAcceptance}
-use Rattle.oat_script.specs.declared.script.ScriptDevice.{ScriptDevice}
-use Rattle.oat_words.specs.declared.command.Command.{Command}
-use Rattle.oat_words.specs.declared.command.Command.TheVariants as commands
-use Rattle.oat_page.specs.Outcome.{Outcome}
-use Rattle.oat_page.specs.Texts.{starved}
-use Rattle.oat_page.specs.Loads.{File, AreLoaded}
-use Rattle.oat_words.specs.Commands.{IsLine, files_of}
-use Rattle.oat_tool.specs.Defined.{Ends, Defined, done, other}
-use Rattle.oat_room_owner.specs.Owner.{IsEnrolled, AreEnrolled, to_all, to_some, replied_calls, Serves}
-use Rattle.oat_tool.specs.OwnerLaws.{IsReplied, IsOfRuns, ScriptIsServed, WantIsBehindReplies, RefusalComesFirst, ServedIsPut, RepliesArePut, NumbersAreAcceptedOnce, AcceptancesAreOfRuns}
-use Rattle.oat_page.specs.Puts.{PutsFront}
-use Rattle.oat_tool.proofs.Apart.{one_command}
-use Rattle.oat_tool.proofs.Following.{whole_is_put, front_is_put, nothing_put}
+use Rattle.oat_words.specs.{declared.command.Command.Command, Commands.IsLine, Commands.files_of}
+use Rattle.oat_room_attest.specs.{Contents, fails, passes, Edge, subject_of, Outcome, starved, File, AreLoaded, PutsFront}
+use Rattle.oat_room_owner.specs.{Known, OwnerCall, device_of, challenge_session, Exchange, AcceptedByVerdict, AcceptedOnce, IsAcceptance, ScriptDevice, Owner.IsEnrolled, Owner.AreEnrolled}
+use Rattle.oat_room_owner.specs.{Owner.to_all, Owner.to_some, Owner.replied_calls, Owner.Serves}
 use Rattle.oat_room_owner.proofs.Serving.{IsSilent, loads_silent, script_silent, enrolments_silent}
+use Rattle.oat_tool.specs.{Defined.Ends, Defined.Defined, Defined.done, Defined.other, OwnerLaws.IsReplied, OwnerLaws.IsOfRuns, OwnerLaws.ScriptIsServed, OwnerLaws.WantIsBehindReplies}
+use Rattle.oat_tool.specs.{OwnerLaws.RefusalComesFirst, OwnerLaws.ServedIsPut, OwnerLaws.RepliesArePut, OwnerLaws.NumbersAreAcceptedOnce, OwnerLaws.AcceptancesAreOfRuns}
+use Rattle.oat_tool.proofs.{Apart.one_command, Following.whole_is_put, Following.front_is_put, Following.nothing_put}
+use Rattle.oat_words.specs.declared.command.Command.TheVariants as commands
 
 -- ---- how an outcome came about
 

@@ -1,47 +1,19 @@
 -- What the statuses of `policy` say, and what of it is `verify`'s.
 use Rattle.std.proofs.Common.{◌≡◌, ◌≢◌, ◌↔◌, ◌∙◌, ◌++◌, ℕ, List, ◌∷◌, length, take, drop, Option, Some, None, refl, sym, ap, subst, arith, length-drop, []}
 use Rattle.std.proofs.lemmas.List.{append-nil, length-take-le}
-use Rattle.oat_world.specs.Outside.{Contents}
-use Rattle.oat_map.specs.declared.map.Map.{Map}
-use Rattle.oat_image.specs.declared.image.Image.{Image}
-use Rattle.oat_case.specs.declared.case.Case.{Case}
-use Rattle.oat_verify.specs.declared.verdict.Verdict.{Verdict}
-use Rattle.oat_verify.specs.declared.verdict.Verdict.TheVariants.{Accept, Refuse}
-use Rattle.oat_policy.specs.declared.policy.PolicyRule.{PolicyRule}
-use Rattle.oat_policy.specs.declared.verdict.PolicyVerdict.{PolicyVerdict}
-use Rattle.oat_policy.specs.declared.verdict.PolicyVerdict.TheVariants.{Holds, Breaks}
-use Rattle.oat_policy.specs.Verdict.{verdict_of}
-use Rattle.oat_first.specs.First.{fails, passes, IsOne, IsDecisive}
-use Rattle.oat_words.specs.declared.command.Command.TheVariants.{Verify, Policy}
-use Rattle.oat_page.specs.declared.page.Ended.TheVariants.{Rejected}
-use Rattle.oat_page.specs.Outcome.{Outcome}
-use Rattle.oat_page.specs.Answer.{Answer, shows, as_outcome, status_of, refused}
-use Rattle.oat_page.specs.Loads.{Wanted, File, AreLoaded, wanted_of}
-use Rattle.oat_words.specs.Commands.{IsLine, files_of, limits_of}
-use Rattle.oat_inputs.specs.Admits.{AreAdmitted}
-use Rattle.oat_shown.specs.Report.{report_of}
-use Rattle.oat_tool.specs.Defined.{done}
-use Rattle.oat_tool.specs.DefinedLaws.{IsOfWork}
-use Rattle.oat_room_verify.specs.Policy.{said_of, said_text, ended_by, with_policy, Polices, IsPolicyText, RefusesPolicy, ConcludesWith}
-use Rattle.oat_tool.specs.PolicyLaws.{ReportsPolicy, PolicyIsReported, PolicyIsSaid, verify_words, PutsBehind, behind_acceptance, refusal_alone, VerifyIsPutFirst, PolicyIsHeadlined, OnePolicyAnswer}
-use Rattle.oat_page.proofs.Working.{IsDone, refused_is_not_done}
-use Rattle.oat_inputs.proofs.Admitting.{Admits-through, Admits-one}
-use Rattle.oat_tool.proofs.Setting.{work_is_done}
-use Rattle.oat_tool.proofs.Answering.{work_is_of_command}
-use Rattle.oat_tool.proofs.Following.{whole_is_put}
-use Rattle.oat_tool.proofs.Naming.{lines_are_spelled}
-use Rattle.oat_room_verify.proofs.Verifying.{verifies_concluded}
-use Rattle.oat_tool.proofs.VerifySaying.{judged_holds, one_report}
-use Rattle.oat_room_verify.proofs.Policing.{Policing, Ruling}
-use Rattle.oat_verify.specs.Verdict.{Subject, subject_of}
-use Rattle.oat_verify.proofs.OneVerdict.{one_verdict}
-use Rattle.oat_lines.specs.FaultText.{fault_text}
-use Rattle.oat_policy.specs.FaultText.{policy_fault_word}
-use Rattle.oat_policy.specs.Reading.{policy_of}
 use Rattle.oat_first.proofs.FirstLaws.{First-one}
-use Rattle.oat_inputs.specs.BlobText.{IsBlobText}
-use Rattle.oat_inputs.specs.Refusals.{RefusesBlob}
-use Rattle.oat_inputs.proofs.Refusing.{ok_one, err_one, never, blob_is_decisive}
+use Rattle.oat_verify.proofs.OneVerdict.{one_verdict}
+use Rattle.oat_page.proofs.Working.{IsDone, refused_is_not_done}
+use Rattle.oat_words.specs.{declared.command.Command.TheVariants.Verify, declared.command.Command.TheVariants.Policy, Commands.IsLine, Commands.files_of, Commands.limits_of}
+use Rattle.oat_inputs.proofs.{Admitting.Admits-through, Admitting.Admits-one, Refusing.ok_one, Refusing.err_one, Refusing.never, Refusing.blob_is_decisive}
+use Rattle.oat_room_verify.specs.{PolicyRule, PolicyVerdict, Holds, Breaks, verdict_of, Policy.said_of, Policy.said_text, Policy.ended_by, Policy.with_policy, Policy.Polices, Policy.IsPolicyText}
+use Rattle.oat_room_verify.specs.{Policy.RefusesPolicy, Policy.ConcludesWith, policy_fault_word, policy_of}
+use Rattle.oat_room_verify.proofs.{Verifying.verifies_concluded, Policing.Policing, Policing.Ruling}
+use Rattle.oat_room_attest.specs.{Contents, Map, Image, Case, Verdict, Accept, Refuse, fails, passes, IsOne, IsDecisive, Rejected, Outcome, Answer, shows, as_outcome, status_of, refused, Wanted, File}
+use Rattle.oat_room_attest.specs.{AreLoaded, wanted_of, AreAdmitted, report_of, Subject, subject_of, fault_text, IsBlobText, RefusesBlob}
+use Rattle.oat_tool.specs.{Defined.done, DefinedLaws.IsOfWork, PolicyLaws.ReportsPolicy, PolicyLaws.PolicyIsReported, PolicyLaws.PolicyIsSaid, PolicyLaws.verify_words, PolicyLaws.PutsBehind}
+use Rattle.oat_tool.specs.{PolicyLaws.behind_acceptance, PolicyLaws.refusal_alone, PolicyLaws.VerifyIsPutFirst, PolicyLaws.PolicyIsHeadlined, PolicyLaws.OnePolicyAnswer}
+use Rattle.oat_tool.proofs.{Setting.work_is_done, Answering.work_is_of_command, Following.whole_is_put, Naming.lines_are_spelled, VerifySaying.judged_holds, VerifySaying.one_report}
 
 -- ---- statuses
 

@@ -1,22 +1,14 @@
 -- What is said of `run`: that it has one answer, and what its status says.
 use Rattle.std.proofs.Common.{◌∙◌, ℕ, List, ◌∷◌, ap, sym, subst, []}
-use Rattle.oat_world.specs.Outside.{Contents}
-use Rattle.oat_ir.specs.declared.program.Program.{Program}
-use Rattle.oat_case.specs.declared.case.Case.{Case}
-use Rattle.oat_first.specs.First.{First, IsOne}
 use Rattle.oat_first.proofs.FirstLaws.{First-one, First-through}
-use Rattle.oat_words.specs.declared.command.Command.TheVariants as commands
-use Rattle.oat_page.specs.Outcome.{Outcome}
-use Rattle.oat_page.specs.Answer.{Answer, as_outcome}
-use Rattle.oat_page.specs.Loads.{File, AreLoaded}
-use Rattle.oat_words.specs.Commands.{files_of}
-use Rattle.oat_programs.specs.Programs.{IsCheckedText, RefusesProgram, IsCaseOf, RefusesCaseOf}
-use Rattle.oat_room_program.specs.Interpret.{Interprets, ShowsSource}
-use Rattle.oat_tool.specs.InterpretLaws.{IsSourceRun, SourceRunIsShown, OneInterpretation}
 use Rattle.oat_page.proofs.Working.{IsDone}
+use Rattle.oat_words.specs.Commands.{files_of}
 use Rattle.oat_programs.proofs.Programming.{program_is_decisive, case_of_is_decisive, refused_program_is_not_done, refused_case_is_not_done}
-use Rattle.oat_tool.proofs.Setting.{work_is_done}
-use Rattle.oat_tool.proofs.Answering.{work_is_of_command}
+use Rattle.oat_room_program.specs.Interpret.{Interprets, ShowsSource}
+use Rattle.oat_room_attest.specs.{Contents, Program, Case, First, IsOne, Outcome, Answer, as_outcome, File, AreLoaded, IsCheckedText, RefusesProgram, IsCaseOf, RefusesCaseOf}
+use Rattle.oat_tool.specs.InterpretLaws.{IsSourceRun, SourceRunIsShown, OneInterpretation}
+use Rattle.oat_tool.proofs.{Setting.work_is_done, Answering.work_is_of_command}
+use Rattle.oat_words.specs.declared.command.Command.TheVariants as commands
 
 -- what comes after the program
 abbrev Taking : File → Program → Answer → Type 0

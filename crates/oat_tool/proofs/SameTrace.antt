@@ -2,34 +2,14 @@
 use Rattle.std.proofs.Common.{◌≡◌, ◌∙◌, ◌<◌, ℕ, List, length, map, get_or, Option, Some, None, inl, inr, refl, sym, ap, subst, arith}
 use Rattle.std.specs.List.{All}
 use Rattle.std.proofs.lemmas.List.{get_or-map, length-map}
-use Rattle.oat_attest.proofs.Headlines.{headline}
-use Rattle.oat_attest.specs.Headline.{Followed, IsSetting, calls_before}
-use Rattle.oat_case.specs.declared.case.Case.{Case}
-use Rattle.oat_chain.specs.declared.message.Clash.{Clash}
-use Rattle.oat_image.specs.declared.image.Image.{Image}
-use Rattle.oat_map.specs.declared.edge.Edge.{Edge}
-use Rattle.oat_map.specs.Rows.{IsOperation}
-use Rattle.oat_map.specs.Walk.{returns_of}
-use Rattle.oat_journal.proofs.RunLaws.{windows_are_traces}
-use Rattle.oat_journal.specs.Measured.{opening_of, window_of}
-use Rattle.oat_journal.specs.Run.{AreGiven}
-use Rattle.oat_journal.specs.Uses.{CheckedUse, IsSound}
-use Rattle.oat_journal.specs.Window.{returns_of_run}
-use Rattle.oat_measure.specs.Shelving.{serial_of}
-use Rattle.oat_report.specs.SameLines.{IsEdgeOf}
-use Rattle.oat_report.specs.TraceLine.{same_text}
 use Rattle.oat_shape.proofs.Laid.{laid}
-use Rattle.oat_verify.specs.declared.verdict.Verdict.{Verdict}
-use Rattle.oat_verify.specs.declared.verdict.Verdict.TheVariants.{Accept, Refuse}
-use Rattle.oat_verify.specs.Verdict.{IsVerdict, head_of, subject_of}
+use Rattle.oat_journal.proofs.RunLaws.{windows_are_traces}
 use Rattle.oat_verify.proofs.OneVerdict.{acceptance_at_once}
-use Rattle.oat_watch.specs.declared.watched.CheckedUse.{CheckedUse as ShownUse}
-use Rattle.oat_watch.specs.declared.watched.WatchedWindow.{WatchedWindow}
-use Rattle.oat_watch.specs.Shown.{use_of}
-use Rattle.oat_watch.specs.Watching.{FoundDefined, HasItsVerdict, OfEach, PartsFrom}
-use Rattle.oat_page.specs.Outcome.{line}
-use Rattle.oat_room_device.specs.Device.{run_of}
-use Rattle.oat_room_device.specs.Trace.{AreTraced, parting_text}
+use Rattle.oat_attest.specs.Headline.{Followed, IsSetting, calls_before}
+use Rattle.oat_attest.proofs.Headlines.{headline}
+use Rattle.oat_room_device.specs.{Clash, CheckedUse as ShownUse, WatchedWindow, use_of, FoundDefined, HasItsVerdict, OfEach, PartsFrom, Device.run_of, Trace.AreTraced, Trace.parting_text}
+use Rattle.oat_room_attest.specs.{Case, Image, Edge, IsOperation, returns_of, opening_of, window_of, AreGiven, CheckedUse, IsSound, returns_of_run, serial_of, IsEdgeOf, same_text, Verdict, Accept}
+use Rattle.oat_room_attest.specs.{Refuse, IsVerdict, head_of, subject_of, line}
 use Rattle.oat_tool.specs.TraceLaws.{SameIsFollowed}
 use Rattle.oat_tool.proofs.TracedEdges.{takes_edges}
 

@@ -1,16 +1,10 @@
 -- What follows from the outcome that a call set out for.
 use Rattle.std.proofs.Common.{◌≡◌, ◌∙◌, ◌<◌, ◌⊎◌, ℕ, List, [], ◌∷◌, None, Contains, inl, inr, refl, ap, subst, arith, suc}
-use Rattle.oat_world.specs.Outside.{Contents}
-use Rattle.oat_first.specs.First.{fails, passes}
-use Rattle.oat_page.specs.Outcome.{Outcome}
-use Rattle.oat_page.specs.Texts.{read_fault}
-use Rattle.oat_page.specs.Loads.{Wanted, absent, faulted, long, LoadsFail}
-use Rattle.oat_words.specs.Commands.{numbers_of, files_of}
-use Rattle.oat_tool.specs.Defined.{SetsOut, done, other, Defined}
-use Rattle.oat_tool.specs.DefinedLaws.{IsOfWork}
-use Rattle.oat_tool.specs.CallLaws.{IsAbsentFirst, named, further}
-use Rattle.oat_tool.proofs.Orderly.{orderly}
 use Rattle.oat_page.proofs.Orders.{TellsFault}
+use Rattle.oat_words.specs.Commands.{numbers_of, files_of}
+use Rattle.oat_room_attest.specs.{Contents, fails, passes, Outcome, read_fault, Wanted, absent, faulted, long, LoadsFail}
+use Rattle.oat_tool.specs.{Defined.SetsOut, Defined.done, Defined.other, Defined.Defined, DefinedLaws.IsOfWork, CallLaws.IsAbsentFirst, CallLaws.named, CallLaws.further}
+use Rattle.oat_tool.proofs.Orderly.{orderly}
 
 -- ---- loads that fail
 

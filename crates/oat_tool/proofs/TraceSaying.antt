@@ -1,27 +1,15 @@
 -- What is said of `trace`: what its statuses say.
 use Rattle.std.proofs.Common.{◌∙◌, ℕ, List, ◌∷◌, refl, sym, ap, subst, []}
 use Rattle.oat_attest.specs.Headline.{IsSetting}
-use Rattle.oat_case.specs.Laws.{WritesCanBeMade}
-use Rattle.oat_world.specs.Outside.{Contents}
-use Rattle.oat_image.specs.declared.image.Image.{Image}
-use Rattle.oat_map.specs.Rows.{BeginsAt}
-use Rattle.oat_case.specs.declared.case.Case.{Case}
-use Rattle.oat_words.specs.declared.command.Command.TheVariants as commands
-use Rattle.oat_page.specs.Outcome.{Outcome}
-use Rattle.oat_page.specs.Answer.{Answer, as_outcome}
-use Rattle.oat_page.specs.Loads.{File, AreLoaded}
-use Rattle.oat_words.specs.Commands.{files_of}
-use Rattle.oat_inputs.specs.Admits.{AreAdmitted}
-use Rattle.oat_room_device.specs.Trace.{Traces, TracesCase, verdicts_on}
-use Rattle.oat_shown.specs.Windows.{are_few, refuses_one}
-use Rattle.oat_tool.specs.TraceLaws.{IsTracedRun, TraceIsShown}
-use Rattle.oat_tool.proofs.CaseGiven.{case_is_given}
-use Rattle.oat_tool.proofs.SameTrace.{same_is_followed, shown_edges}
 use Rattle.oat_page.proofs.Working.{IsDone}
+use Rattle.oat_words.specs.Commands.{files_of}
 use Rattle.oat_inputs.proofs.Admitting.{Admits-through}
 use Rattle.oat_shown.proofs.Windowing.{statuses}
-use Rattle.oat_tool.proofs.Setting.{work_is_done}
-use Rattle.oat_tool.proofs.Answering.{work_is_of_command}
+use Rattle.oat_room_device.specs.Trace.{Traces, TracesCase, verdicts_on}
+use Rattle.oat_room_attest.specs.{WritesCanBeMade, Contents, Image, BeginsAt, Case, Outcome, Answer, as_outcome, File, AreLoaded, AreAdmitted, are_few, refuses_one}
+use Rattle.oat_tool.specs.TraceLaws.{IsTracedRun, TraceIsShown}
+use Rattle.oat_tool.proofs.{CaseGiven.case_is_given, SameTrace.same_is_followed, SameTrace.shown_edges, Setting.work_is_done, Answering.work_is_of_command}
+use Rattle.oat_words.specs.declared.command.Command.TheVariants as commands
 
 -- ---- what the statuses say
 

@@ -1,28 +1,13 @@
 -- The path that a run takes in a window has edges of the image's map alone: those of rows, ends of the operation, and strays.
 use Rattle.std.proofs.Common.{◌≡◌, ◌∙◌, ◌+◌, ◌<◌, ◌≤◌, ℕ, suc, Bool, true, false, not, ◌&&◌, ◌||◌, eqb, List, [], ◌∷◌, Option, Some, None, refl, sym, ap, subst, arith}
-use Rattle.std.specs.Prelude.{Contains, IsTrue, if◌then◌else◌, nat_eq, slice_get}
-use Rattle.std.specs.List.{All, AllByRecursion, cons_option, list_any}
-use Rattle.std.proofs.lemmas.Bool.{and_parts, eqb-true, false≢true}
-use Rattle.std.proofs.lemmas.List.Elements.{All-from_recursion}
-use Rattle.oat_a64.specs.declared.inst.Inst.{Inst}
-use Rattle.oat_a64.specs.declared.inst.Inst.TheVariants.{B, Bl}
-use Rattle.oat_a64.specs.Kinds.{is_transfer}
-use Rattle.oat_a64.specs.Step.{Regs, act, branch_target, instruction_at}
-use Rattle.oat_image.specs.declared.image.Image.{Image}
+use Rattle.std.specs.{Prelude.Contains, Prelude.IsTrue, Prelude.if◌then◌else◌, Prelude.nat_eq, Prelude.slice_get, List.All, List.AllByRecursion, List.cons_option, List.list_any}
+use Rattle.std.proofs.lemmas.{Bool.and_parts, Bool.eqb-true, Bool.false≢true, List.Elements.All-from_recursion}
 use Rattle.oat_lines.proofs.Steps.{some_is}
-use Rattle.oat_map.specs.declared.edge.Edge.{Edge}
-use Rattle.oat_map.specs.declared.edge.Edge.TheVariants as edges
-use Rattle.oat_map.specs.declared.map.Function.{Function}
-use Rattle.oat_map.specs.declared.row.Row.{Row}
-use Rattle.oat_map.specs.declared.row.Row.TheVariants as rows
-use Rattle.oat_map.specs.Rows.{after, is_call, is_called_at, is_returned_to, row_over, IsIndirectTarget, IsOperation}
-use Rattle.oat_journal.specs.Journal.{IsMade, IsEntryBounded, takes_input}
-use Rattle.oat_journal.specs.Run.{Entry, pc_of, next_of}
-use Rattle.oat_journal.specs.Window.{edge_over, executed_path, made_call, seals_window, shown_edge}
-use Rattle.oat_report.specs.SameLines.{IsEdgeOf}
-use Rattle.oat_shape.specs.Groups.{Stands}
-use Rattle.oat_shape.specs.Laid.{IsLaid}
-use Rattle.oat_shape.specs.Shape.{Covers, IsReturnSite}
+use Rattle.oat_room_attest.specs.{Inst, B, Bl, is_transfer, Regs, act, branch_target, instruction_at, Image, Edge, Function, Row, after, is_call, is_called_at, is_returned_to, row_over}
+use Rattle.oat_room_attest.specs.{IsIndirectTarget, IsOperation, IsMade, IsEntryBounded, takes_input, Entry, pc_of, next_of, edge_over, executed_path, made_call, seals_window, shown_edge, IsEdgeOf}
+use Rattle.oat_room_attest.specs.{Stands, IsLaid, Covers, IsReturnSite}
+use Rattle.oat_room_attest.specs.edges as edges
+use Rattle.oat_room_attest.specs.rows as rows
 
 -- an element passes a test that some element passes
 any_found : {X : Type 0} (test : X → Bool) (xs : List X) → list_any test xs ≡ true → (x : X) × Contains xs x × (test x ≡ true)

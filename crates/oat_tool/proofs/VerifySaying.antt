@@ -1,41 +1,18 @@
 -- What is said of `verify`: that it has one answer, what its statuses say, and the headline.
 use Rattle.std.proofs.Common.{◌≡◌, ◌∙◌, ℕ, List, ◌∷◌, inl, inr, refl, sym, ap, subst, arith, []}
-use Rattle.oat_world.specs.Outside.{Contents}
-use Rattle.oat_map.specs.declared.edge.Edge.{Edge}
-use Rattle.oat_image.specs.declared.image.Image.{Image}
-use Rattle.oat_case.specs.declared.case.Case.{Case}
-use Rattle.oat_verify.specs.declared.verdict.Cause.{Cause}
-use Rattle.oat_verify.specs.declared.verdict.Verdict.{Verdict}
-use Rattle.oat_verify.specs.declared.verdict.Verdict.TheVariants.{Accept, Refuse}
-use Rattle.oat_verify.specs.Verdict.{Subject, subject_of, IsVerdict}
+use Rattle.oat_first.proofs.FirstLaws.{First-one}
 use Rattle.oat_verify.proofs.OneVerdict.{one_serial, one_verdict, acceptance_at_once}
 use Rattle.oat_attest.proofs.Headlines.{headline}
-use Rattle.oat_first.specs.First.{fails, passes, IsOne}
-use Rattle.oat_first.proofs.FirstLaws.{First-one}
-use Rattle.oat_words.specs.declared.command.Command.TheVariants.{Verify}
-use Rattle.oat_page.specs.Outcome.{Outcome}
-use Rattle.oat_page.specs.Answer.{Answer, as_outcome}
-use Rattle.oat_page.specs.Loads.{File, AreLoaded, Read}
-use Rattle.oat_words.specs.Commands.{IsLine, files_of}
-use Rattle.oat_inputs.specs.BlobText.{IsBlobText}
-use Rattle.oat_inputs.specs.Refusals.{RefusesBlob}
-use Rattle.oat_inputs.specs.Admits.{AreAdmitted}
-use Rattle.oat_shown.specs.Report.{report_of}
-use Rattle.oat_tool.specs.Defined.{Defined}
-use Rattle.oat_tool.specs.DefinedLaws.{IsOfWork}
-use Rattle.oat_room_verify.specs.Verify.{Concludes, Verifies}
-use Rattle.oat_tool.specs.VerifyLaws.{IsJudged, ReportsVerdict, AcceptanceIsReported, RefusalIsReported, VerdictIsSealed, OneVerification}
-use Rattle.oat_page.specs.Shows.{Put}
-use Rattle.oat_tool.specs.Call.{IsCall}
-use Rattle.oat_tool.specs.CallLaws.{ShowsJust}
-use Rattle.oat_tool.specs.Headline.{HeadlineHolds, ShowsAcceptance, IsHeadlined}
 use Rattle.oat_page.proofs.Working.{IsDone, refused_is_not_done}
-use Rattle.oat_inputs.proofs.Refusing.{blob_is_decisive}
-use Rattle.oat_inputs.proofs.Admitting.{Admits-one, Admits-through}
-use Rattle.oat_tool.proofs.Setting.{work_is_done}
-use Rattle.oat_tool.proofs.Answering.{work_is_of_command}
-use Rattle.oat_tool.proofs.Following.{whole_is_put}
+use Rattle.oat_words.specs.{declared.command.Command.TheVariants.Verify, Commands.IsLine, Commands.files_of}
+use Rattle.oat_inputs.proofs.{Refusing.blob_is_decisive, Admitting.Admits-one, Admitting.Admits-through}
+use Rattle.oat_room_verify.specs.Verify.{Concludes, Verifies}
 use Rattle.oat_room_verify.proofs.Verifying.{Judging}
+use Rattle.oat_room_attest.specs.{Contents, Edge, Image, Case, Cause, Verdict, Accept, Refuse, Subject, subject_of, IsVerdict, fails, passes, IsOne, Outcome, Answer, as_outcome, File, AreLoaded, Read}
+use Rattle.oat_room_attest.specs.{IsBlobText, RefusesBlob, AreAdmitted, report_of, Put}
+use Rattle.oat_tool.specs.{Defined.Defined, DefinedLaws.IsOfWork, VerifyLaws.IsJudged, VerifyLaws.ReportsVerdict, VerifyLaws.AcceptanceIsReported, VerifyLaws.RefusalIsReported}
+use Rattle.oat_tool.specs.{VerifyLaws.VerdictIsSealed, VerifyLaws.OneVerification, Call.IsCall, CallLaws.ShowsJust, Headline.HeadlineHolds, Headline.ShowsAcceptance, Headline.IsHeadlined}
+use Rattle.oat_tool.proofs.{Setting.work_is_done, Answering.work_is_of_command, Following.whole_is_put}
 
 -- ---- one answer
 

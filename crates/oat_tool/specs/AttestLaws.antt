@@ -1,26 +1,11 @@
 -- What the statuses of `attest` say of the defined outcome: what was attested, that honest runs are accepted, and that none of their windows is wanting
 -- (docs/PROMISES.md).
 use Rattle.std.specs.Prelude.{◌≡◌, ◌≤◌, ◌⊎◌, ◌↔◌, ℕ, true, false, List, []}
-use Rattle.oat_world.specs.Outside.{Contents, Rose}
-use Rattle.oat_ir.specs.declared.program.Program.{Program}
-use Rattle.oat_case.specs.declared.case.Case.{Case}
-use Rattle.oat_check.specs.Runs.{source_events}
-use Rattle.oat_events.specs.Source.{calls_done}
-use Rattle.oat_follow.specs.Steps.{instructions_for}
-use Rattle.oat_attestation.specs.declared.attested.Attested.{Attested}
-use Rattle.oat_attestation.specs.Attestation.{Attests}
-use Rattle.oat_attestation.specs.Laws.{AcceptsAllCalls, IsHonest, JudgesWindows, calls_measured}
-use Rattle.oat_words.specs.declared.command.Command.TheVariants as commands
-use Rattle.oat_page.specs.Outcome.{Outcome}
-use Rattle.oat_page.specs.Answer.{as_outcome}
-use Rattle.oat_page.specs.Loads.{File, AreLoaded}
 use Rattle.oat_words.specs.Commands.{IsLine, files_of}
-use Rattle.oat_shown.specs.Windows.{are_few, refuses_one}
-use Rattle.oat_room_attest.specs.Attest.{AreAttestable, AreAttested, attested_answer}
-use Rattle.oat_tool.specs.Defined.{Defined}
-use Rattle.oat_tool.specs.DefinedLaws.{IsOfWork}
-use Rattle.oat_page.specs.Shows.{Put, HasFailed}
-use Rattle.oat_tool.specs.CallLaws.{OfCalls, ShowsJust}
+use Rattle.oat_room_attest.specs.{Contents, Rose, Program, Case, source_events, calls_done, instructions_for, Attested, Attests, AcceptsAllCalls, IsHonest, JudgesWindows, calls_measured, Outcome}
+use Rattle.oat_room_attest.specs.{as_outcome, File, AreLoaded, are_few, refuses_one, Attest.AreAttestable, Attest.AreAttested, Attest.attested_answer, Put, HasFailed}
+use Rattle.oat_tool.specs.{Defined.Defined, DefinedLaws.IsOfWork, CallLaws.OfCalls, CallLaws.ShowsJust}
+use Rattle.oat_words.specs.declared.command.Command.TheVariants as commands
 
 -- The files that the words name hold a checked program whose code fits and a case for one of its operations, and the outcome is what is attested of both: with
 -- status 7 exactly where fewer windows sealed than the case calls for, else with status 1 exactly where a verdict refuses, and else with status 0.

@@ -1,19 +1,10 @@
 -- What the status of `build` says of the defined outcome (docs/PROMISES.md).
 use Rattle.std.specs.Prelude.{◌≡◌, ◌⊎◌, ℕ, List, [], ◌∷◌}
-use Rattle.oat_world.specs.Outside.{Contents}
-use Rattle.oat_image.specs.declared.image.Image.{Image}
-use Rattle.oat_image.specs.Grammar.{image_text}
-use Rattle.oat_ir.specs.declared.program.Program.{Program}
-use Rattle.oat_build.specs.Built.{IsImageOf}
-use Rattle.oat_words.specs.declared.command.Command.TheVariants as commands
-use Rattle.oat_page.specs.Outcome.{Outcome}
-use Rattle.oat_page.specs.Answer.{Answer}
-use Rattle.oat_page.specs.Loads.{File, AreLoaded}
 use Rattle.oat_words.specs.Commands.{IsLine, files_of}
-use Rattle.oat_programs.specs.Programs.{IsCheckedText, CodeFits}
-use Rattle.oat_tool.specs.Defined.{Defined}
-use Rattle.oat_tool.specs.DefinedLaws.{IsOfWork}
 use Rattle.oat_room_program.specs.Build.{Builds, ShowsImage}
+use Rattle.oat_room_attest.specs.{Contents, Image, image_text, Program, IsImageOf, Outcome, Answer, File, AreLoaded, IsCheckedText, CodeFits}
+use Rattle.oat_tool.specs.{Defined.Defined, DefinedLaws.IsOfWork}
+use Rattle.oat_words.specs.declared.command.Command.TheVariants as commands
 
 -- The file that the words name holds a checked program whose code fits, and the outcome is the text of an image of it, with status 0.
 pub record IsBuiltImage (words : List (List ℕ)) (contents : Contents) (o : Outcome) : Type 0 where

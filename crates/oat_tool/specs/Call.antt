@@ -1,12 +1,7 @@
 -- A call of the program, as its caller sees it: its words, what it did to the files and to the two sinks, and its status.
-use Rattle.std.specs.Prelude.{◌≡◌, ℕ, List, Some, map}
-use Rattle.std.specs.String.{string_bytes}
-use Rattle.std.specs.declared.string.String.{String}
-use Rattle.std.specs.declared.alloc.Global.{Global}
-use Rattle.oat_world.specs.Outside.{Contents, Rose}
+use Rattle.std.specs.{Prelude.◌≡◌, Prelude.ℕ, Prelude.List, Prelude.Some, Prelude.map, String.string_bytes, declared.string.String.String, declared.alloc.Global.Global}
 use Rattle.oat_words.specs.declared.command.Command.{Command}
-use Rattle.oat_page.specs.Loads.{File, Read}
-use Rattle.oat_page.specs.Shows.{Put, Shows}
+use Rattle.oat_room_attest.specs.{Contents, Rose, File, Read, Put, Shows}
 use Rattle.oat_tool.specs.Defined.{Does, SetsOut}
 
 -- Where contents are told, the work of a command on its numbers and its loaded files shows what it ends with.

@@ -1,17 +1,8 @@
 -- What follows for the caller from a call's answer: single sentences (docs/PROMISES.md).
 use Rattle.std.specs.Prelude.{◌≡◌, ◌<◌, ◌⊎◌, ℕ, List, Some, None, Contains}
-use Rattle.oat_world.specs.Outside.{Contents, Rose, Adds}
-use Rattle.oat_first.specs.First.{IsOne}
-use Rattle.oat_words.specs.declared.command.Command.{Command}
-use Rattle.oat_page.specs.Outcome.{Outcome}
-use Rattle.oat_page.specs.Texts.{read_fault}
-use Rattle.oat_page.specs.Loads.{Wanted, File, AreLoaded, Read}
-use Rattle.oat_words.specs.Commands.{IsLine, files_of}
-use Rattle.oat_tool.specs.Defined.{NamesFile, Defined}
-use Rattle.oat_tool.specs.DefinedLaws.{IsOfWork}
-use Rattle.oat_page.specs.Shows.{Put, HasFailed}
-use Rattle.oat_page.specs.Puts.{PutsFront}
-use Rattle.oat_tool.specs.Call.{IsCall}
+use Rattle.oat_words.specs.{declared.command.Command.Command, Commands.IsLine, Commands.files_of}
+use Rattle.oat_room_attest.specs.{Contents, Rose, Adds, IsOne, Outcome, read_fault, Wanted, File, AreLoaded, Read, Put, HasFailed, PutsFront}
+use Rattle.oat_tool.specs.{Defined.NamesFile, Defined.Defined, DefinedLaws.IsOfWork, Call.IsCall}
 
 -- Just this outcome was shown.
 pub record ShowsJust (o : Outcome) (out err : Put) (status : ℕ) : Type 0 where

@@ -1,28 +1,13 @@
 -- Completeness: what is answered to files that are held within their limits, where no count rises (docs/PROMISES.md).
 use Rattle.std.specs.Prelude.{◌≡◌, ◌⊎◌, ℕ, List, [], ◌∷◌, Ok}
-use Rattle.oat_world.specs.Outside.{Contents, Rose}
-use Rattle.oat_ir.specs.declared.program.Program.{Program}
-use Rattle.oat_image.specs.declared.image.Image.{Image}
-use Rattle.oat_case.specs.declared.case.Case.{Case}
-use Rattle.oat_owner.specs.declared.device.Known.{Known}
-use Rattle.oat_policy.specs.declared.policy.PolicyRule.{PolicyRule}
-use Rattle.oat_script.specs.declared.script.Script.{Script}
-use Rattle.oat_script.specs.Reading.{script_of}
-use Rattle.oat_words.specs.declared.command.Command.{Command}
-use Rattle.oat_words.specs.declared.command.Command.TheVariants.{Run, Build, Verify, Device, Trace, Policy, Owner, Attest, AttestJson, Drill}
-use Rattle.oat_page.specs.Outcome.{Outcome}
-use Rattle.oat_page.specs.Loads.{File, AreLoaded}
-use Rattle.oat_words.specs.Commands.{IsLine, numbers_of, files_of}
-use Rattle.oat_inputs.specs.Admits.{AreAdmitted}
-use Rattle.oat_programs.specs.Programs.{IsCheckedText, IsCaseOf, CodeFits}
-use Rattle.oat_room_attest.specs.Attest.{AreAttestable}
-use Rattle.oat_room_owner.specs.Owner.{AreEnrolled}
-use Rattle.oat_room_verify.specs.Policy.{IsOpenedWith}
-use Rattle.oat_room_verify.specs.Verify.{IsOpened}
-use Rattle.oat_tool.specs.Defined.{Does}
-use Rattle.oat_tool.specs.DefinedLaws.{IsOfWork}
-use Rattle.oat_page.specs.Shows.{Put, HasFailed}
-use Rattle.oat_tool.specs.CallLaws.{OfCalls, ShowsJust}
+use Rattle.oat_words.specs.{declared.command.Command.Command, declared.command.Command.TheVariants.Run, declared.command.Command.TheVariants.Build, declared.command.Command.TheVariants.Verify}
+use Rattle.oat_words.specs.{declared.command.Command.TheVariants.Device, declared.command.Command.TheVariants.Trace, declared.command.Command.TheVariants.Policy}
+use Rattle.oat_words.specs.{declared.command.Command.TheVariants.Owner, declared.command.Command.TheVariants.Attest, declared.command.Command.TheVariants.AttestJson}
+use Rattle.oat_words.specs.{declared.command.Command.TheVariants.Drill, Commands.IsLine, Commands.numbers_of, Commands.files_of}
+use Rattle.oat_room_verify.specs.{PolicyRule, Policy.IsOpenedWith, Verify.IsOpened}
+use Rattle.oat_room_attest.specs.{Contents, Rose, Program, Image, Case, Outcome, File, AreLoaded, AreAdmitted, IsCheckedText, IsCaseOf, CodeFits, Attest.AreAttestable, Put, HasFailed}
+use Rattle.oat_room_owner.specs.{Known, Script, script_of, Owner.AreEnrolled}
+use Rattle.oat_tool.specs.{Defined.Does, DefinedLaws.IsOfWork, CallLaws.OfCalls, CallLaws.ShowsJust}
 
 -- What the command ends with behind these files was shown, whole.
 pub record ShowsEnd (words : List (List ℕ)) (contents : Contents) (command : Command) (files : List File) (out err : Put) (status : ℕ) : Type 0 where

@@ -1,23 +1,15 @@
 -- Which outcome is defined for a list of words, from what each file holds alone, and which one a call sets out for (docs/DEFINITIONS.md).
 use Rattle.std.specs.Prelude.{◌≡◌, ℕ, List}
-use Rattle.oat_world.specs.Outside.{Contents}
-use Rattle.oat_first.specs.First.{First}
-use Rattle.oat_words.specs.declared.command.Command.{Command}
-use Rattle.oat_words.specs.declared.command.Command.TheVariants.{Run, Build, Verify, Device, Trace, Policy, Owner, Attest, AttestJson, Drill}
-use Rattle.oat_page.specs.Outcome.{Outcome}
-use Rattle.oat_words.specs.Commands.{usage, IsLine, numbers_of, files_of}
-use Rattle.oat_page.specs.Answer.{IsAnswered}
-use Rattle.oat_page.specs.Loads.{Wanted, File, AreLoaded, LoadsFail}
-use Rattle.oat_room_program.specs.Interpret.{Interprets}
-use Rattle.oat_room_program.specs.Build.{Builds}
-use Rattle.oat_room_verify.specs.Verify.{Verifies}
-use Rattle.oat_room_device.specs.Device.{Runs}
-use Rattle.oat_room_device.specs.Trace.{Traces}
-use Rattle.oat_room_verify.specs.Policy.{Polices}
-use Rattle.oat_room_owner.specs.Owner.{Serves, NamesImage}
-use Rattle.oat_room_attest.specs.Attest.{AttestsProgram}
-use Rattle.oat_room_attest.specs.Json.{AttestsInJson}
+use Rattle.oat_words.specs.{declared.command.Command.Command, declared.command.Command.TheVariants.Run, declared.command.Command.TheVariants.Build, declared.command.Command.TheVariants.Verify}
+use Rattle.oat_words.specs.{declared.command.Command.TheVariants.Device, declared.command.Command.TheVariants.Trace, declared.command.Command.TheVariants.Policy}
+use Rattle.oat_words.specs.{declared.command.Command.TheVariants.Owner, declared.command.Command.TheVariants.Attest, declared.command.Command.TheVariants.AttestJson}
+use Rattle.oat_words.specs.{declared.command.Command.TheVariants.Drill, Commands.usage, Commands.IsLine, Commands.numbers_of, Commands.files_of}
+use Rattle.oat_room_verify.specs.{Verify.Verifies, Policy.Polices}
+use Rattle.oat_room_device.specs.{Device.Runs, Trace.Traces}
+use Rattle.oat_room_program.specs.{Interpret.Interprets, Build.Builds}
+use Rattle.oat_room_attest.specs.{Contents, First, Outcome, IsAnswered, Wanted, File, AreLoaded, LoadsFail, Attest.AttestsProgram, Json.AttestsInJson}
 use Rattle.oat_room_drill.specs.Drill.{Drills}
+use Rattle.oat_room_owner.specs.Owner.{Serves, NamesImage}
 
 -- What a command ends with behind the loads of its files: an answer to its numbers and to these. One that loads further files looks at
 -- contents besides, and such a load may fail where the count of faults rose.

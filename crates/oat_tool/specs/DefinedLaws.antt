@@ -1,11 +1,8 @@
 -- What follows of the defined outcome, for all commands: single sentences (docs/PROMISES.md).
 use Rattle.std.specs.Prelude.{◌≡◌, ◌⊎◌, ◌↔◌, ◌++◌, ℕ, List, length, Contains}
-use Rattle.oat_world.specs.Outside.{Contents}
-use Rattle.oat_first.specs.First.{IsOne}
-use Rattle.oat_words.specs.declared.command.Command.{Command}
-use Rattle.oat_page.specs.Outcome.{Outcome}
-use Rattle.oat_page.specs.Loads.{File, AreLoaded}
-use Rattle.oat_words.specs.Commands.{commands, fixed_of, bounds_of, limits_of, AreNumbers, IsLine, numbers_of, files_of}
+use Rattle.oat_words.specs.{declared.command.Command.Command, Commands.commands, Commands.fixed_of, Commands.bounds_of, Commands.limits_of, Commands.AreNumbers, Commands.IsLine, Commands.numbers_of}
+use Rattle.oat_words.specs.{Commands.files_of}
+use Rattle.oat_room_attest.specs.{Contents, IsOne, Outcome, File, AreLoaded}
 use Rattle.oat_tool.specs.Defined.{Does, Defined}
 
 -- The words of a command are those that it begins with, its numbers, and a name for each file that it loads.

@@ -1,20 +1,9 @@
 -- What the statuses of `device` say of the defined outcome (docs/PROMISES.md).
 use Rattle.std.specs.Prelude.{◌≡◌, ◌≢◌, ◌↔◌, ℕ, List, [], ◌∷◌}
-use Rattle.oat_world.specs.Outside.{Contents}
-use Rattle.oat_image.specs.declared.image.Image.{Image}
-use Rattle.oat_case.specs.declared.case.Case.{Case}
-use Rattle.oat_journal.specs.Measured.{opening_of}
-use Rattle.oat_device.specs.DeviceRun.{CountsItsWindows, IsSealed}
-use Rattle.oat_first.specs.First.{IsOne}
-use Rattle.oat_words.specs.declared.command.Command.TheVariants.{Device}
-use Rattle.oat_page.specs.Outcome.{Outcome}
-use Rattle.oat_page.specs.Answer.{Answer, as_outcome}
-use Rattle.oat_page.specs.Loads.{File, AreLoaded}
-use Rattle.oat_words.specs.Commands.{IsLine, files_of}
-use Rattle.oat_inputs.specs.Admits.{AreAdmitted}
-use Rattle.oat_tool.specs.Defined.{Defined}
-use Rattle.oat_tool.specs.DefinedLaws.{IsOfWork}
+use Rattle.oat_words.specs.{declared.command.Command.TheVariants.Device, Commands.IsLine, Commands.files_of}
 use Rattle.oat_room_device.specs.Device.{Runs, RunsCase, run_of}
+use Rattle.oat_room_attest.specs.{Contents, Image, Case, opening_of, CountsItsWindows, IsSealed, IsOne, Outcome, Answer, as_outcome, File, AreLoaded, AreAdmitted}
+use Rattle.oat_tool.specs.{Defined.Defined, DefinedLaws.IsOfWork}
 
 -- The files that the words name hold a shaped image and a case for one of its operations, and the outcome is what is
 -- defined of the case's measured run on the image: with status 0 where its last window sealed, and else with status 7. So

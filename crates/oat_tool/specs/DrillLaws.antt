@@ -1,18 +1,11 @@
 -- What the defined outcomes of `drill` are (docs/PROMISES.md).
 use Rattle.std.specs.Prelude.{◌≡◌, ℕ, List, ◌∷◌, length, []}
 use Rattle.sha2.specs.Sha256.{sha256}
-use Rattle.oat_world.specs.Outside.{Contents}
-use Rattle.oat_map.specs.declared.edge.Edge.{Edge}
-use Rattle.oat_image.specs.declared.image.Image.{Image}
-use Rattle.oat_verify.specs.declared.verdict.Verdict.TheVariants.{Accept}
-use Rattle.oat_build.specs.Built.{IsImageOf}
-use Rattle.oat_make.specs.Drill.{drill_program}
-use Rattle.oat_words.specs.declared.command.Command.TheVariants as commands
-use Rattle.oat_page.specs.Outcome.{Outcome}
 use Rattle.oat_words.specs.Commands.{IsLine, numbers_of}
+use Rattle.oat_room_attest.specs.{Contents, Edge, Image, Accept, IsImageOf, Outcome, path_text}
+use Rattle.oat_room_drill.specs.{drill_program, Drill.drill_report}
 use Rattle.oat_tool.specs.Defined.{Defined}
-use Rattle.oat_shown.specs.Report.{path_text}
-use Rattle.oat_room_drill.specs.Drill.{drill_report}
+use Rattle.oat_words.specs.declared.command.Command.TheVariants as commands
 
 -- The words' number has an accepted drill: status 0, 80 outputs, and the 4,243 edges of the path of the source's call.
 pub record IsAcceptedDrill (n : ℕ) (o : Outcome) : Type 0 where

@@ -1,25 +1,9 @@
 -- The theorem of `verify`: what status 0 says to its caller (docs/PROMISES.md).
-use Rattle.std.specs.Prelude.{◌≡◌, ℕ, Option, List, Some, map}
-use Rattle.std.specs.String.{string_bytes}
-use Rattle.std.specs.declared.string.String.{String}
-use Rattle.std.specs.declared.alloc.Global.{Global}
-use Rattle.oat_world.specs.Outside.{Contents}
-use Rattle.oat_image.specs.declared.image.Image.{Image}
-use Rattle.oat_map.specs.declared.edge.Edge.{Edge}
-use Rattle.oat_case.specs.declared.case.Session.{Session}
-use Rattle.oat_map.specs.Rows.{BeginsAt}
-use Rattle.oat_verify.specs.declared.verdict.Verdict.{Verdict}
-use Rattle.oat_verify.specs.declared.verdict.Verdict.TheVariants.{Accept}
-use Rattle.oat_verify.specs.Verdict.{CarriesSerial}
+use Rattle.std.specs.{Prelude.◌≡◌, Prelude.ℕ, Prelude.Option, Prelude.List, Prelude.Some, Prelude.map, String.string_bytes, declared.string.String.String, declared.alloc.Global.Global}
 use Rattle.oat_attest.specs.Headline.{OfRuns, FollowedOrClashes}
-use Rattle.oat_words.specs.declared.command.Command.TheVariants.{Verify}
-use Rattle.oat_page.specs.Answer.{as_outcome}
-use Rattle.oat_words.specs.Commands.{IsLine}
-use Rattle.oat_shown.specs.Report.{report_of}
-use Rattle.oat_page.specs.Shows.{Put}
-use Rattle.oat_page.specs.Loads.{Read}
-use Rattle.oat_tool.specs.CallLaws.{ShowsJust}
-use Rattle.oat_tool.specs.VerifyLaws.{IsJudged}
+use Rattle.oat_words.specs.{declared.command.Command.TheVariants.Verify, Commands.IsLine}
+use Rattle.oat_room_attest.specs.{Contents, Image, Edge, Session, BeginsAt, Verdict, Accept, CarriesSerial, as_outcome, report_of, Put, Read}
+use Rattle.oat_tool.specs.{CallLaws.ShowsJust, VerifyLaws.IsJudged}
 
 -- A verdict was reached, and its report is what was shown, with the serial number of its blob.
 pub record ShowsVerdict (words : List (List ℕ)) (contents : Contents) (verdict : Verdict) (out err : Put) (status : ℕ) : Type 0 where

@@ -1,18 +1,10 @@
 -- What the statuses of `run` say of the defined outcome (docs/PROMISES.md).
 use Rattle.std.specs.Prelude.{◌≡◌, ℕ, List, [], ◌∷◌}
-use Rattle.oat_world.specs.Outside.{Contents}
-use Rattle.oat_ir.specs.declared.program.Program.{Program}
-use Rattle.oat_case.specs.declared.case.Case.{Case}
-use Rattle.oat_first.specs.First.{IsOne}
-use Rattle.oat_words.specs.declared.command.Command.TheVariants as commands
-use Rattle.oat_page.specs.Outcome.{Outcome}
-use Rattle.oat_page.specs.Answer.{Answer}
-use Rattle.oat_page.specs.Loads.{File, AreLoaded}
 use Rattle.oat_words.specs.Commands.{IsLine, files_of}
-use Rattle.oat_programs.specs.Programs.{IsCheckedText, IsCaseOf}
-use Rattle.oat_tool.specs.Defined.{Defined}
-use Rattle.oat_tool.specs.DefinedLaws.{IsOfWork}
 use Rattle.oat_room_program.specs.Interpret.{Interprets, case_run, source_text}
+use Rattle.oat_room_attest.specs.{Contents, Program, Case, IsOne, Outcome, Answer, File, AreLoaded, IsCheckedText, IsCaseOf}
+use Rattle.oat_tool.specs.{Defined.Defined, DefinedLaws.IsOfWork}
+use Rattle.oat_words.specs.declared.command.Command.TheVariants as commands
 
 -- The files that the words name hold a checked program and a case for one of its operations, and the outcome is the text
 -- of the run that the program makes on the case's inputs in at most so many steps, with status 0.

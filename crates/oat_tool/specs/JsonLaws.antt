@@ -1,18 +1,9 @@
 -- What the statuses of `attest --json` say of the defined outcome (docs/PROMISES.md).
 use Rattle.std.specs.Prelude.{◌≡◌, ◌↔◌, ℕ, true, false, List}
-use Rattle.oat_world.specs.Outside.{Contents}
-use Rattle.oat_case.specs.declared.case.Case.{Case}
-use Rattle.oat_attestation.specs.declared.attested.Attested.{Attested}
-use Rattle.oat_attestation.specs.Laws.{JudgesWindows, calls_measured}
-use Rattle.oat_words.specs.declared.command.Command.TheVariants as commands
-use Rattle.oat_page.specs.Outcome.{Outcome}
-use Rattle.oat_page.specs.Loads.{File, AreLoaded}
 use Rattle.oat_words.specs.Commands.{IsLine, files_of}
-use Rattle.oat_room_attest.specs.Attest.{AreAttested}
-use Rattle.oat_tool.specs.Defined.{Defined}
-use Rattle.oat_tool.specs.DefinedLaws.{IsOfWork}
-use Rattle.oat_room_attest.specs.Json.{json_lines}
-use Rattle.oat_shown.specs.Windows.{are_few, ended_with, refuses_one, want_text}
+use Rattle.oat_room_attest.specs.{Contents, Case, Attested, JudgesWindows, calls_measured, Outcome, File, AreLoaded, Attest.AreAttested, Json.json_lines, are_few, ended_with, refuses_one, want_text}
+use Rattle.oat_tool.specs.{Defined.Defined, DefinedLaws.IsOfWork}
+use Rattle.oat_words.specs.declared.command.Command.TheVariants as commands
 
 -- The files that the words name are attested, and the outcome is just the JSON line of each window that the case calls for: with status 7 exactly where fewer
 -- windows sealed than it calls for, else with status 1 exactly where a verdict refuses, and else with status 0.

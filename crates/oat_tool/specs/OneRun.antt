@@ -1,26 +1,11 @@
 -- The theorem of `attest`: what a status of work says to its caller (docs/PROMISES.md).
-use Rattle.std.specs.Prelude.{◌≡◌, ℕ, List, Some, map, slice_get}
-use Rattle.std.specs.String.{string_bytes}
-use Rattle.std.specs.declared.string.String.{String}
-use Rattle.std.specs.declared.alloc.Global.{Global}
-use Rattle.oat_world.specs.Outside.{Contents}
-use Rattle.oat_map.specs.declared.edge.Edge.{Edge}
-use Rattle.oat_case.specs.declared.case.Case.{Case}
-use Rattle.oat_measure.specs.Shelving.{serial_of}
-use Rattle.oat_journal.specs.Measured.{window_of}
-use Rattle.oat_verify.specs.declared.verdict.Verdict.TheVariants.{Accept}
+use Rattle.std.specs.{Prelude.◌≡◌, Prelude.ℕ, Prelude.List, Prelude.Some, Prelude.map, Prelude.slice_get, String.string_bytes, declared.string.String.String, declared.alloc.Global.Global}
 use Rattle.oat_attest.specs.Headline.{FollowedOrClashes, calls_before}
-use Rattle.oat_attestation.specs.declared.attested.Attested.{Attested}
-use Rattle.oat_attestation.specs.Attestation.{TellsRun}
-use Rattle.oat_attestation.specs.Laws.{opening_told, run_told}
-use Rattle.oat_words.specs.declared.command.Command.TheVariants as commands
-use Rattle.oat_page.specs.Answer.{as_outcome}
-use Rattle.oat_page.specs.Loads.{File, AreLoaded, Read}
 use Rattle.oat_words.specs.Commands.{IsLine, files_of}
-use Rattle.oat_room_attest.specs.Attest.{AreAttested, attested_answer}
-use Rattle.oat_tool.specs.DefinedLaws.{IsOfWork}
-use Rattle.oat_page.specs.Shows.{Put}
-use Rattle.oat_tool.specs.CallLaws.{ShowsJust}
+use Rattle.oat_room_attest.specs.{Contents, Edge, Case, serial_of, window_of, Accept, Attested, TellsRun, opening_told, run_told, as_outcome, File, AreLoaded, Read, Attest.AreAttested}
+use Rattle.oat_room_attest.specs.{Attest.attested_answer, Put}
+use Rattle.oat_tool.specs.{DefinedLaws.IsOfWork, CallLaws.ShowsJust}
+use Rattle.oat_words.specs.declared.command.Command.TheVariants as commands
 
 -- Window s of the run followed the path, or its returns and the path's clash.
 abbrev pub WindowIsHeadlined : (c : Case) (a : Attested) → TellsRun c a → (s : ℕ) → (path : List Edge) → Type 0

@@ -1,27 +1,12 @@
 -- What the statuses of `owner` say of the defined outcome, and what the replies that are put are good for (docs/PROMISES.md).
 use Rattle.std.specs.Prelude.{◌≡◌, ◌≢◌, ◌⊎◌, ℕ, List, [], ◌∷◌, ◌++◌, Some, Ok, take, slice_get}
-use Rattle.oat_world.specs.Outside.{Contents, Adds}
-use Rattle.oat_map.specs.declared.edge.Edge.{Edge}
-use Rattle.oat_owner.specs.declared.device.Known.{Known}
-use Rattle.oat_owner.specs.declared.owner.Answer.TheVariants.{Accepted}
-use Rattle.oat_owner.specs.declared.call.OwnerCall.{OwnerCall}
+use Rattle.oat_words.specs.Commands.{IsLine, files_of}
+use Rattle.oat_room_attest.specs.{Contents, Adds, Edge, Outcome, starved, File, AreLoaded, PutsFront}
+use Rattle.oat_room_owner.specs.{Known, Accepted, OwnerCall, challenge_session, Exchange, AreReplies, IsAcceptance, Script, script_of, Owner.AreEnrolled, Owner.replies_text, Owner.replied_calls}
+use Rattle.oat_tool.specs.{Defined.Defined, CallLaws.OfCalls, Headline.HeadlineHolds}
 use Rattle.oat_owner.specs.declared.call.OwnerCall.TheVariants as calls
 use Rattle.oat_owner.specs.declared.call.OwnerReply.TheVariants as replies
-use Rattle.oat_owner.specs.Replies.{challenge_session}
-use Rattle.oat_owner.specs.Exchanges.{Exchange, AreReplies}
-use Rattle.oat_owner.specs.Laws.{IsAcceptance}
-use Rattle.oat_script.specs.declared.script.Script.{Script}
-use Rattle.oat_script.specs.Reading.{script_of}
 use Rattle.oat_words.specs.declared.command.Command.TheVariants as commands
-use Rattle.oat_page.specs.Outcome.{Outcome}
-use Rattle.oat_page.specs.Texts.{starved}
-use Rattle.oat_page.specs.Loads.{File, AreLoaded}
-use Rattle.oat_words.specs.Commands.{IsLine, files_of}
-use Rattle.oat_room_owner.specs.Owner.{AreEnrolled, replies_text, replied_calls}
-use Rattle.oat_tool.specs.Defined.{Defined}
-use Rattle.oat_page.specs.Puts.{PutsFront}
-use Rattle.oat_tool.specs.CallLaws.{OfCalls}
-use Rattle.oat_tool.specs.Headline.{HeadlineHolds}
 
 -- The words name a script, an owner of its devices replied to its calls but these last ones, and this is the text of the replies.
 pub record IsReplied (words : List (List ℕ)) (contents : Contents) (later : List OwnerCall) (text : List ℕ) : Type 0 where

@@ -1,28 +1,9 @@
 -- What the statuses of `policy` say of the defined outcome, and what of it is `verify`'s (docs/PROMISES.md).
 use Rattle.std.specs.Prelude.{◌≡◌, ◌≢◌, ◌↔◌, ℕ, Option, Some, List, [], ◌∷◌, ◌++◌, take, drop, codes}
-use Rattle.oat_world.specs.Outside.{Contents}
-use Rattle.oat_image.specs.declared.image.Image.{Image}
-use Rattle.oat_map.specs.declared.edge.Edge.{Edge}
-use Rattle.oat_verify.specs.declared.verdict.Verdict.{Verdict}
-use Rattle.oat_verify.specs.declared.verdict.Verdict.TheVariants.{Accept}
-use Rattle.oat_verify.specs.Verdict.{CarriesSerial}
-use Rattle.oat_policy.specs.declared.policy.PolicyRule.{PolicyRule}
-use Rattle.oat_policy.specs.declared.verdict.PolicyVerdict.{PolicyVerdict}
-use Rattle.oat_policy.specs.declared.verdict.PolicyVerdict.TheVariants.{Holds}
-use Rattle.oat_first.specs.First.{IsOne}
-use Rattle.oat_words.specs.declared.command.Command.TheVariants.{Verify, Policy}
-use Rattle.oat_page.specs.Outcome.{Outcome, line}
-use Rattle.oat_page.specs.Answer.{Answer, as_outcome}
-use Rattle.oat_page.specs.Loads.{File, AreLoaded}
-use Rattle.oat_words.specs.Commands.{IsLine, fixed_of, files_of}
-use Rattle.oat_shown.specs.Report.{report_of}
-use Rattle.oat_page.specs.Shows.{Put}
-use Rattle.oat_tool.specs.CallLaws.{OfCalls, ShowsJust}
-use Rattle.oat_tool.specs.Defined.{Defined}
-use Rattle.oat_tool.specs.DefinedLaws.{IsOfWork}
-use Rattle.oat_tool.specs.VerifyLaws.{IsJudged}
-use Rattle.oat_tool.specs.Headline.{HeadlineHolds}
-use Rattle.oat_room_verify.specs.Policy.{IsPolicyText, Polices, said_of, policy_text, with_policy}
+use Rattle.oat_words.specs.{declared.command.Command.TheVariants.Verify, declared.command.Command.TheVariants.Policy, Commands.IsLine, Commands.fixed_of, Commands.files_of}
+use Rattle.oat_room_verify.specs.{PolicyRule, PolicyVerdict, Holds, Policy.IsPolicyText, Policy.Polices, Policy.said_of, Policy.policy_text, Policy.with_policy}
+use Rattle.oat_room_attest.specs.{Contents, Image, Edge, Verdict, Accept, CarriesSerial, IsOne, Outcome, line, Answer, as_outcome, File, AreLoaded, report_of, Put}
+use Rattle.oat_tool.specs.{CallLaws.OfCalls, CallLaws.ShowsJust, Defined.Defined, DefinedLaws.IsOfWork, VerifyLaws.IsJudged, Headline.HeadlineHolds}
 
 -- The first three files that the words name are judged as `verify` does, with this verdict, and the fourth holds a policy of these rules.
 pub record IsPoliced (words : List (List ℕ)) (contents : Contents) (i : Image) (verdict : Verdict) (rules : List PolicyRule) : Type 0 where

@@ -1,29 +1,12 @@
 -- What the statuses of `trace` say of the defined outcome (docs/PROMISES.md).
-use Rattle.std.specs.Prelude.{◌≡◌, ◌↔◌, ℕ, true, false, List, [], ◌∷◌}
-use Rattle.std.specs.List.{All}
-use Rattle.oat_world.specs.Outside.{Contents}
+use Rattle.std.specs.{Prelude.◌≡◌, Prelude.◌↔◌, Prelude.ℕ, Prelude.true, Prelude.false, Prelude.List, Prelude.[], Prelude.◌∷◌, List.All}
 use Rattle.oat_attest.specs.Headline.{Followed, calls_before}
-use Rattle.oat_first.specs.First.{IsOne}
-use Rattle.oat_map.specs.declared.edge.Edge.{Edge}
-use Rattle.oat_journal.specs.Measured.{opening_of, window_of}
-use Rattle.oat_report.specs.SameLines.{IsEdgeOf}
-use Rattle.oat_report.specs.TraceLine.{same_text}
-use Rattle.oat_verify.specs.declared.verdict.Verdict.TheVariants.{Accept}
-use Rattle.oat_watch.specs.declared.watched.WatchedWindow.{WatchedWindow}
-use Rattle.oat_watch.specs.Watching.{FoundDefined, OfEach}
-use Rattle.oat_image.specs.declared.image.Image.{Image}
-use Rattle.oat_case.specs.declared.case.Case.{Case}
-use Rattle.oat_words.specs.declared.command.Command.TheVariants as commands
-use Rattle.oat_page.specs.Outcome.{Outcome, line}
-use Rattle.oat_page.specs.Answer.{Answer, as_outcome}
-use Rattle.oat_page.specs.Loads.{File, AreLoaded}
 use Rattle.oat_words.specs.Commands.{IsLine, files_of}
-use Rattle.oat_inputs.specs.Admits.{AreAdmitted}
-use Rattle.oat_tool.specs.Defined.{Defined}
-use Rattle.oat_tool.specs.DefinedLaws.{IsOfWork}
-use Rattle.oat_room_device.specs.Device.{run_of}
-use Rattle.oat_room_device.specs.Trace.{Traces, TracesCase, parting_text, verdicts_on}
-use Rattle.oat_shown.specs.Windows.{are_few, refuses_one}
+use Rattle.oat_room_device.specs.{WatchedWindow, FoundDefined, OfEach, Device.run_of, Trace.Traces, Trace.TracesCase, Trace.parting_text, Trace.verdicts_on}
+use Rattle.oat_room_attest.specs.{Contents, IsOne, Edge, opening_of, window_of, IsEdgeOf, same_text, Accept, Image, Case, Outcome, line, Answer, as_outcome, File, AreLoaded, AreAdmitted, are_few}
+use Rattle.oat_room_attest.specs.{refuses_one}
+use Rattle.oat_tool.specs.{Defined.Defined, DefinedLaws.IsOfWork}
+use Rattle.oat_words.specs.declared.command.Command.TheVariants as commands
 
 -- ---- `same`
 

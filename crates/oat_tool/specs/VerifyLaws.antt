@@ -1,24 +1,10 @@
 -- What the statuses of `verify` say of the defined outcome (docs/PROMISES.md).
 use Rattle.std.specs.Prelude.{◌≡◌, ◌≢◌, ℕ, Option, List, [], ◌∷◌}
-use Rattle.oat_world.specs.Outside.{Contents}
-use Rattle.oat_image.specs.declared.image.Image.{Image}
-use Rattle.oat_map.specs.declared.edge.Edge.{Edge}
-use Rattle.oat_case.specs.declared.case.Case.{Case}
-use Rattle.oat_verify.specs.declared.verdict.Verdict.{Verdict}
-use Rattle.oat_verify.specs.declared.verdict.Verdict.TheVariants.{Accept, Refuse}
-use Rattle.oat_verify.specs.declared.verdict.Cause.{Cause}
-use Rattle.oat_verify.specs.Verdict.{subject_of, IsVerdict, CarriesSerial}
-use Rattle.oat_first.specs.First.{IsOne}
-use Rattle.oat_words.specs.declared.command.Command.TheVariants.{Verify}
-use Rattle.oat_page.specs.Outcome.{Outcome}
-use Rattle.oat_page.specs.Answer.{Answer, as_outcome}
-use Rattle.oat_page.specs.Loads.{File, AreLoaded}
-use Rattle.oat_words.specs.Commands.{IsLine, files_of}
-use Rattle.oat_inputs.specs.BlobText.{IsBlobText}
-use Rattle.oat_inputs.specs.Admits.{AreAdmitted}
-use Rattle.oat_shown.specs.Report.{report_of}
-use Rattle.oat_tool.specs.Defined.{Defined}
+use Rattle.oat_words.specs.{declared.command.Command.TheVariants.Verify, Commands.IsLine, Commands.files_of}
 use Rattle.oat_room_verify.specs.Verify.{Verifies}
+use Rattle.oat_room_attest.specs.{Contents, Image, Edge, Case, Verdict, Accept, Refuse, Cause, subject_of, IsVerdict, CarriesSerial, IsOne, Outcome, Answer, as_outcome, File, AreLoaded, IsBlobText}
+use Rattle.oat_room_attest.specs.{AreAdmitted, report_of}
+use Rattle.oat_tool.specs.Defined.{Defined}
 
 -- The files that the words name hold a shaped image, a case for one of its operations and a blob, and the verdict on
 -- the blob is this one.

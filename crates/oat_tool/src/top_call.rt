@@ -1,26 +1,25 @@
 ghost use Rattle.std.specs.Prelude.{◌≡◌, ◌<◌, ◌⊎◌, None, length, map};
-ghost use Rattle.oat_world.specs.Outside.{Rose};
+ghost use Rattle.oat_room_attest.specs.{Rose, read_of, put_of};
 ghost use Rattle.oat_words.specs.Commands.{bounds_of, limits_of};
-ghost use Rattle.oat_page.specs.Loads.{read_of};
-ghost use Rattle.oat_page.specs.Shows.{put_of};
 ghost use Rattle.oat_tool.specs.Call.{Ran, ShowsWork};
 ghost use Rattle.oat_tool.specs.Headline.{Headlined};
 ghost use Rattle.oat_tool.specs.OneRun.{OfOneRun};
 
 use oat_attestation::laws::{runs_are_headlined, windows_are_judged};
 use oat_page::{File, Halt, finish, load_all, say, say_starved};
+use oat_room_attest::Sink;
 use oat_room_attest::attest::attest_program;
 use oat_room_attest::attest_json::attest_json;
 use oat_room_device::device::device;
 use oat_room_device::trace::trace;
 use oat_room_drill::drill::drill;
+use oat_room_owner::Files;
 use oat_room_owner::owner::serve;
 use oat_room_program::build::build_program;
 use oat_room_program::interpret::interpret;
 use oat_room_verify::policy::police;
 use oat_room_verify::verify::verify;
 use oat_words::{Command, USAGE, command_of, names_of, numbers_of};
-use oat_world::{Files, Sink};
 use std::alloc::Global;
 
 /// Does the work of a command on its numbers and its files that are loaded, and answers the status.

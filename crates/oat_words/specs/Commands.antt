@@ -1,14 +1,15 @@
 -- The table of commands: the words that each begins with, the bounds of the numbers that come next, and the limits of the files that its other words name.
 -- All other lists of words are usage (docs/FORMATS.md).
-use Rattle.std.specs.Prelude.{◌≡◌, ◌<◌, ◌≤◌, ◌+◌, ℕ, Bool, true, false, not, ◌&&◌, ◌||◌, nat_eq, List, ◌∷◌, length, take, drop, map, get_or, Some, Contains, codes, []}
-use Rattle.std.specs.Str.{bytes_eq}
-use Rattle.std.specs.Str.Parse.{digits_value}
+use Rattle.std.specs.{Prelude.◌≡◌, Prelude.◌<◌, Prelude.◌≤◌, Prelude.◌+◌, Prelude.ℕ, Prelude.Bool, Prelude.true, Prelude.false, Prelude.not, Prelude.◌&&◌, Prelude.◌||◌, Prelude.nat_eq, Prelude.List}
+use Rattle.std.specs.{Prelude.◌∷◌, Prelude.length, Prelude.take, Prelude.drop, Prelude.map, Prelude.get_or, Prelude.Some, Prelude.Contains, Prelude.codes, Prelude.[], Str.bytes_eq}
+use Rattle.std.specs.{Str.Parse.digits_value}
 use Rattle.oat_lines.specs.Decimal.{numeral_of}
-use Rattle.oat_words.specs.declared.command.Command.{Command}
-use Rattle.oat_words.specs.declared.command.Command.TheVariants.{Run, Build, Verify, Device, Trace, Policy, Owner, Attest, AttestJson, Drill}
-use Rattle.oat_page.specs.Loads.{Wanted, wanted_of}
-use Rattle.oat_page.specs.Outcome.{Outcome, line, says}
-use Rattle.oat_page.specs.Limits.{blob_limit, case_limit, image_limit, policy_limit, program_limit, script_limit}
+use Rattle.oat_page.specs.{Loads.Wanted, Loads.wanted_of, Outcome.Outcome, Outcome.line, Outcome.says, Limits.blob_limit, Limits.case_limit, Limits.image_limit, Limits.policy_limit}
+use Rattle.oat_page.specs.{Limits.program_limit, Limits.script_limit}
+use Rattle.oat_words.specs.{declared.command.Command.Command, declared.command.Command.TheVariants.Run, declared.command.Command.TheVariants.Build, declared.command.Command.TheVariants.Verify}
+use Rattle.oat_words.specs.{declared.command.Command.TheVariants.Device, declared.command.Command.TheVariants.Trace, declared.command.Command.TheVariants.Policy}
+use Rattle.oat_words.specs.{declared.command.Command.TheVariants.Owner, declared.command.Command.TheVariants.Attest, declared.command.Command.TheVariants.AttestJson}
+use Rattle.oat_words.specs.{declared.command.Command.TheVariants.Drill}
 
 abbrev pub commands : List Command
 commands = Run ∷ Verify ∷ Device ∷ Policy ∷ Build ∷ Trace ∷ Owner ∷ Attest ∷ AttestJson ∷ Drill ∷ []

@@ -1,8 +1,6 @@
 use Rattle.std.proofs.Common.{rules, ◌≡◌, ◌∙◌, [], ◌∷◌, true, take, get_or, subst, sym}
-use Rattle.std.proofs.lemmas.Bool.{eqb-true, false≢true}
-use Rattle.std.proofs.lemmas.List.{take_all, take_more}
-use Rattle.std.proofs.lemmas.List.Elements.{All-append, All-cons, All-nil}
 use Rattle.std.specs.List.{AllPass}
+use Rattle.std.proofs.lemmas.{Bool.eqb-true, Bool.false≢true, List.take_all, List.take_more, List.Elements.All-append, List.Elements.All-cons, List.Elements.All-nil}
 use Rattle.hex.specs.Hex.{is_hex_digit}
 use Rattle.hex.proofs.HexLemmas.{decode_of-digits, decode_of-ok}
 use Rattle.oat_inputs.proofs.blob_text.are_digits.Goals as goal

@@ -1,7 +1,7 @@
 use Rattle.std.proofs.Common.{ap, refl, codes}
 use Rattle.oat_page.specs.Answer.{refused}
-use Rattle.oat_inputs.specs.Refusals.{RefusesBlob}
 use Rattle.oat_page.proofs.Working.{RefusesWith-stops}
+use Rattle.oat_inputs.specs.Refusals.{RefusesBlob}
 use Rattle.oat_inputs.proofs.inputs.digits_of.Goals as goal
 
 pub returns-in_ok-refused-in-None : goal.returns-in_ok-refused-in-None

@@ -1,7 +1,7 @@
 use Rattle.std.proofs.Common.{ap}
 use Rattle.oat_page.specs.Answer.{refused}
-use Rattle.oat_inputs.specs.Refusals.{RefusesShape, rule_reason}
 use Rattle.oat_page.proofs.Working.{RefusesWith-stops}
+use Rattle.oat_inputs.specs.Refusals.{RefusesShape, rule_reason}
 use Rattle.oat_inputs.proofs.inputs.shaped_of.Goals as goal
 
 pub returns-in-Rule : goal.returns-in-Rule

@@ -1,7 +1,7 @@
 use Rattle.std.proofs.Common.{ap}
 use Rattle.oat_page.specs.Answer.{no_operation}
-use Rattle.oat_inputs.specs.Refusals.{RefusesOperation}
 use Rattle.oat_page.proofs.Working.{RefusesWith-stops}
+use Rattle.oat_inputs.specs.Refusals.{RefusesOperation}
 use Rattle.oat_inputs.proofs.inputs.test_operation.Goals as goal
 
 pub returns-in_ok-no_operation-in-None : goal.returns-in_ok-no_operation-in-None

@@ -1,12 +1,9 @@
 use Rattle.std.proofs.Common.{◌≡◌, ◌∙◌, ℕ, List, ◌∷◌, [], length, map, get_or, add-one, refl, ap, sym, subst, arith}
 use Rattle.std.specs.String.{string_bytes}
-use Rattle.std.proofs.Math.ListN.{get_or-map}
-use Rattle.std.proofs.Math.Seq.{take-length, take-suc}
-use Rattle.std.proofs.lemmas.List.{length-map, map-append}
-use Rattle.std.proofs.lemmas.Result.{err_from_is_err_and}
+use Rattle.std.proofs.Math.{ListN.get_or-map, Seq.take-length, Seq.take-suc}
+use Rattle.std.proofs.lemmas.{List.length-map, List.map-append, Result.err_from_is_err_and}
 use Rattle.oat_world.specs.Outside.{Rose}
-use Rattle.oat_page.specs.Outcome.{Outcome}
-use Rattle.oat_page.specs.Loads.{File, wanted_of, IsLoaded, LoadFails}
+use Rattle.oat_page.specs.{Outcome.Outcome, Loads.File, Loads.wanted_of, Loads.IsLoaded, Loads.LoadFails}
 use Rattle.oat_page.proofs.Holding.{HaltsWith-more, LoadFails-more, AreLoaded-next, LoadsFail-next, length-wanted}
 use Rattle.oat_page.proofs.files.load_all.Goals as goal
 

@@ -1,9 +1,6 @@
 use Rattle.std.proofs.Common.{◌∙◌, refl, sym, subst, Err}
 use Rattle.oat_world.specs.declared.sink.SinkFault.{SinkFault}
-use Rattle.oat_page.specs.Texts.{starved}
-use Rattle.oat_page.specs.Answer.{shows, as_outcome}
-use Rattle.oat_page.specs.Puts.{PutsAll}
-use Rattle.oat_page.specs.Shows.{ended, behind}
+use Rattle.oat_page.specs.{Texts.starved, Answer.shows, Answer.as_outcome, Puts.PutsAll, Shows.ended, Shows.behind}
 use Rattle.oat_page.proofs.Showing.{Shows-said, Shows-cut}
 use Rattle.oat_page.proofs.put.close.Goals as goal
 

@@ -1,9 +1,6 @@
 use Rattle.std.proofs.Common.{refl}
-use Rattle.oat_page.specs.Outcome.{says}
-use Rattle.oat_page.specs.Texts.{starved}
-use Rattle.oat_page.specs.Shows.{ended, at_once}
-use Rattle.oat_page.proofs.Putting.{Adds-nothing}
-use Rattle.oat_page.proofs.Showing.{Shows-said}
+use Rattle.oat_page.specs.{Outcome.says, Texts.starved, Shows.ended, Shows.at_once}
+use Rattle.oat_page.proofs.{Putting.Adds-nothing, Showing.Shows-said}
 use Rattle.oat_page.proofs.put.say_halt.Goals as goal
 
 pub returns-in-ReadFault-clause-shows : goal.returns-in-ReadFault-clause-shows

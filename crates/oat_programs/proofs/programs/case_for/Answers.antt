@@ -1,7 +1,7 @@
 use Rattle.std.proofs.Common.{ap}
-use Rattle.oat_page.specs.Answer.{no_operation}
-use Rattle.oat_programs.specs.Programs.{RefusesCaseOf, lacking}
 use Rattle.oat_page.proofs.Working.{RefusesWith-stops}
+use Rattle.oat_inputs.specs.{no_operation}
+use Rattle.oat_programs.specs.Programs.{RefusesCaseOf, lacking}
 use Rattle.oat_programs.proofs.Programming.{isnt_held}
 use Rattle.oat_programs.proofs.programs.case_for.Goals as goal
 

@@ -1,6 +1,6 @@
 use Rattle.std.proofs.lemmas.Result.{err_from_is_err_and}
-use Rattle.oat_page.specs.Loads.{File}
 use Rattle.oat_page.proofs.Lists.{two_of}
+use Rattle.oat_shown.specs.{File}
 use Rattle.oat_room_attest.proofs.Attesting.{are_attested, refuses_case_of, refuses_code, refuses_program}
 use Rattle.oat_room_attest.proofs.attest.attest_files.Goals as goal
 

@@ -1,7 +1,6 @@
+use Rattle.oat_page.proofs.{Showing.Shows-more, Working.stops_answer}
 use Rattle.oat_room_attest.specs.Attest.{AttestsProgram, ShowsWindows}
 use Rattle.oat_room_attest.proofs.Attesting.{answers_files, attested_windows, stops_refused}
-use Rattle.oat_page.proofs.Showing.{Shows-more}
-use Rattle.oat_page.proofs.Working.{stops_answer}
 use Rattle.oat_room_attest.proofs.attest.attest_program.Goals as goal
 
 pub show_attested-requires : goal.show_attested-requires

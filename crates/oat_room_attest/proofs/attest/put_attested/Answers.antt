@@ -1,8 +1,8 @@
 use Rattle.std.proofs.Common.{◌∙◌, ℤ, List, ap}
 use Rattle.std.proofs.lemmas.Result.{err_from_is_err_and}
-use Rattle.oat_room_attest.specs.Attest.{windows_from}
-use Rattle.oat_shown.specs.RunText.{run_text}
 use Rattle.oat_page.proofs.Putting.{PutsAll-front, PutsAll-then}
+use Rattle.oat_shown.specs.RunText.{run_text}
+use Rattle.oat_room_attest.specs.Attest.{windows_from}
 use Rattle.oat_room_attest.proofs.attest.put_attested.Goals as goal
 
 pub returns-in_err-put_pieces : goal.returns-in_err-put_pieces

@@ -1,8 +1,7 @@
 use Rattle.std.proofs.Common.{refl}
 use Rattle.std.proofs.lemmas.Result.{err_from_is_err_and}
-use Rattle.oat_shown.specs.BlobLine.{blob_line}
-use Rattle.oat_shown.specs.Report.{report_text}
 use Rattle.oat_page.proofs.Putting.{PutsAll-front, PutsAll-then}
+use Rattle.oat_shown.specs.{BlobLine.blob_line, Report.report_text}
 use Rattle.oat_room_attest.proofs.attest.put_window.Goals as goal
 
 pub returns-in_err-put_blob : goal.returns-in_err-put_blob

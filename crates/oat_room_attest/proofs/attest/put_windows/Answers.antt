@@ -1,10 +1,9 @@
 use Rattle.std.proofs.Common.{◌∙◌, ◌∷◌, [], ◌+◌, ◌++◌, ℕ, List, Option, length-append, sym, ap, subst, append_assoc}
-use Rattle.std.proofs.lemmas.Result.{err_from_is_err_and}
 use Rattle.std.specs.Vec.Iter.{into_iter_items}
-use Rattle.oat_world.specs.Outside.{Adds}
-use Rattle.oat_room_attest.specs.Attest.{window_text, windows_from}
-use Rattle.oat_shown.specs.Windows.{window_number}
+use Rattle.std.proofs.lemmas.Result.{err_from_is_err_and}
 use Rattle.oat_page.proofs.Putting.{Adds-then, PutsAll-behind}
+use Rattle.oat_shown.specs.{Adds, Windows.window_number}
+use Rattle.oat_room_attest.specs.Attest.{window_text, windows_from}
 use Rattle.oat_room_attest.proofs.WindowLines.{next_window}
 use Rattle.oat_room_attest.proofs.attest.put_windows.Goals as goal
 

@@ -1,6 +1,6 @@
 use Rattle.std.proofs.Common.{◌≡◌, ◌++◌, length}
 use Rattle.std.specs.Vec.Iter.{into_iter_items}
-use Rattle.oat_world.specs.Outside.{Adds}
+use Rattle.oat_shown.specs.{Adds}
 use Rattle.oat_room_attest.specs.Attest.{windows_from}
 use Rattle.oat_room_attest.proofs.attest.put_windows.Given as goal
 

@@ -1,7 +1,7 @@
 use Rattle.std.proofs.Common.{◌∙◌, length, ap}
+use Rattle.oat_page.proofs.Showing.{Shows-more}
 use Rattle.oat_shown.specs.Windows.{refuses_one}
 use Rattle.oat_room_attest.proofs.Attesting.{answers_windows}
-use Rattle.oat_page.proofs.Showing.{Shows-more}
 use Rattle.oat_room_attest.proofs.attest.show_attested.Goals as goal
 
 pub returns-clause-shows : goal.returns-clause-shows

@@ -1,8 +1,7 @@
 use Rattle.std.proofs.Common.{◌∙◌, length, ap}
 use Rattle.std.proofs.lemmas.Result.{err_from_is_err_and}
-use Rattle.oat_page.specs.Answer.{shows}
+use Rattle.oat_shown.specs.{shows, Windows.refuses_one, Windows.want_text}
 use Rattle.oat_room_attest.specs.Json.{TellsWindows}
-use Rattle.oat_shown.specs.Windows.{refuses_one, want_text}
 use Rattle.oat_room_attest.proofs.Attesting.{shows_attested, stops_refused}
 use Rattle.oat_room_attest.proofs.attest_json.attest_json.Goals as goal
 

@@ -1,5 +1,5 @@
 use Rattle.std.proofs.Common.{◌≡◌, map, take}
-use Rattle.oat_report.specs.PathLine.{edge_line}
+use Rattle.oat_shown.specs.{edge_line}
 use Rattle.oat_room_attest.proofs.json_lines.path_lines.Given as goal
 
 abbrev pub invariant-loop-edge : goal.invariant-loop-edge

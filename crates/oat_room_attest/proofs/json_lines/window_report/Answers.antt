@@ -1,10 +1,6 @@
 use Rattle.std.proofs.Common.{◌≡◌, ◌∙◌, List, sym, ap, subst}
-use Rattle.std.specs.Prelude.{is_some, slice_get}
-use Rattle.std.specs.List.{AllByRecursion}
-use Rattle.std.specs.Option.{option_copied}
-use Rattle.oat_image.specs.declared.image.Image.{Image}
-use Rattle.oat_verify.specs.declared.verdict.Verdict.{Verdict}
-use Rattle.oat_report.specs.JsonLine.{IsPlainText, cause_member, is_accepted}
+use Rattle.std.specs.{Prelude.is_some, Prelude.slice_get, List.AllByRecursion, Option.option_copied}
+use Rattle.oat_shown.specs.{Image, Verdict, IsPlainText, cause_member, is_accepted}
 use Rattle.oat_room_attest.specs.Json.{accepted_lines}
 use Rattle.oat_room_attest.proofs.PlainWindows.{accepted_is_plain, end_is_plain, json_alike, looked_up}
 use Rattle.oat_room_attest.proofs.json_lines.window_report.Goals as goal

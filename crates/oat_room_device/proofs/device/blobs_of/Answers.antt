@@ -1,6 +1,6 @@
 use Rattle.std.proofs.Common.{◌+◌, ◌++◌, [], ◌∷◌, List, ℕ, take, sym, ap, subst, ◌∙◌, arith}
 use Rattle.std.specs.List.{AllZip}
-use Rattle.oat_device.specs.DeviceRun.{bodies_so_far}
+use Rattle.oat_shown.specs.{bodies_so_far}
 use Rattle.oat_room_device.specs.Device.{IsBlobUnder}
 use Rattle.oat_room_device.proofs.Running.{blobs_up_to}
 use Rattle.oat_room_device.proofs.device.blobs_of.Goals as goal

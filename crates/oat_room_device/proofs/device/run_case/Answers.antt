@@ -1,11 +1,8 @@
 use Rattle.std.proofs.Common.{ℕ, List, sym, ap, subst, ◌∙◌}
 use Rattle.std.specs.List.{AllZip}
 use Rattle.std.proofs.lemmas.Result.{IfOk-weaker}
-use Rattle.oat_blob.specs.Body.{Body}
-use Rattle.oat_case.specs.declared.case.Case.{Case}
-use Rattle.oat_journal.specs.Measured.{Run, end_of}
-use Rattle.oat_device.specs.DeviceRun.{DeviceRun, IsSealed, bodies_so_far}
 use Rattle.oat_device.proofs.Whole.{steps_make_the_run}
+use Rattle.oat_shown.specs.{Body, Case, Run, end_of, DeviceRun, IsSealed, bodies_so_far}
 use Rattle.oat_room_device.specs.Device.{IsBlobUnder, sealed, unsealed}
 use Rattle.oat_room_device.proofs.Running.{bodies_reported}
 use Rattle.oat_room_device.proofs.device.run_case.Goals as goal

@@ -1,7 +1,7 @@
 use Rattle.std.proofs.Common.{◌<◌, ◌≤◌, ◌∙◌, ◌++◌, ℕ, List, length, take_all, sym, ap}
 use Rattle.oat_watch.specs.declared.watched.WatchedWindow.{WatchedWindow}
-use Rattle.oat_room_device.specs.Trace.{part_text, parts_from}
 use Rattle.oat_shown.specs.Windows.{window_number}
+use Rattle.oat_room_device.specs.Trace.{part_text, parts_from}
 use Rattle.oat_room_device.proofs.Tracing.{part_taken}
 use Rattle.oat_room_device.proofs.trace.parts_of.Goals as goal
 

@@ -1,6 +1,6 @@
 use Rattle.std.proofs.lemmas.Result.{err_from_is_err_and}
-use Rattle.oat_page.specs.Loads.{File}
 use Rattle.oat_page.proofs.Lists.{two_of}
+use Rattle.oat_shown.specs.{File}
 use Rattle.oat_room_device.proofs.Tracing.{traces_rejecting, traces_admitted}
 use Rattle.oat_room_device.proofs.trace.trace.Goals as goal
 

@@ -1,13 +1,9 @@
 use Rattle.std.proofs.Common.{◌<◌, ◌∙◌, ◌++◌, ◌+◌, List, length, refl, sym, ap, subst}
 use Rattle.std.proofs.lemmas.List.{length-map}
-use Rattle.oat_image.specs.declared.image.Image.{Image}
-use Rattle.oat_map.specs.Rows.{BeginsAt}
 use Rattle.oat_watch.specs.declared.watched.WatchedWindow.{WatchedWindow}
-use Rattle.oat_page.specs.Answer.{shows}
-use Rattle.oat_shown.specs.RunText.{run_text}
-use Rattle.oat_room_device.specs.Trace.{parts_from, verdicts_on}
-use Rattle.oat_shown.specs.Windows.{ended_with, want_text}
+use Rattle.oat_shown.specs.{Image, BeginsAt, shows, RunText.run_text, Windows.ended_with, Windows.want_text}
 use Rattle.oat_shown.proofs.Windowing.{few_windows}
+use Rattle.oat_room_device.specs.Trace.{parts_from, verdicts_on}
 use Rattle.oat_room_device.proofs.Tracing.{refusals_are}
 use Rattle.oat_room_device.proofs.trace.trace_case.Goals as goal
 

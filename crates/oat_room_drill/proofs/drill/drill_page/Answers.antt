@@ -1,7 +1,6 @@
 use Rattle.std.proofs.Common.{◌∙◌, length, ap, refl}
 use Rattle.sha2.specs.Sha256.{sha256}
-use Rattle.oat_image.specs.declared.image.Image.{Image}
-use Rattle.oat_shown.specs.Report.{path_text}
+use Rattle.oat_shown.specs.{Image, Report.path_text}
 use Rattle.oat_room_drill.proofs.Making.{report_from, shown_as}
 use Rattle.oat_room_drill.proofs.drill.drill_page.Goals as goal
 

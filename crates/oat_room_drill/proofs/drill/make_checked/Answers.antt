@@ -1,5 +1,5 @@
 use Rattle.std.proofs.Common.{◌∙◌, sym, subst}
-use Rattle.oat_check.specs.Rules.{IsChecked}
+use Rattle.oat_build.specs.{IsChecked}
 use Rattle.oat_room_drill.proofs.Making.{is_drawn, is_short, is_written}
 use Rattle.oat_room_drill.proofs.drill.make_checked.Goals as goal
 

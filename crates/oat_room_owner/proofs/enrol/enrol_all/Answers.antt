@@ -1,11 +1,9 @@
 use Rattle.std.proofs.Common.{◌∙◌, arith}
 use Rattle.std.proofs.lemmas.Result.{err_from_is_err_and}
-use Rattle.oat_world.specs.Outside.{Rose}
-use Rattle.oat_page.specs.Outcome.{Outcome}
+use Rattle.oat_page.proofs.{Holding.HaltsWith-more, Orders.Rose-later}
+use Rattle.oat_shown.specs.{Rose, Outcome}
 use Rattle.oat_room_owner.specs.Owner.{EnrolmentFails, EnrolmentsFail}
 use Rattle.oat_room_owner.proofs.Enrolling.{AreEnrolled-next, EnrolmentFails-more, EnrolmentsFail-next, ids_next}
-use Rattle.oat_page.proofs.Holding.{HaltsWith-more}
-use Rattle.oat_page.proofs.Orders.{Rose-later}
 use Rattle.oat_room_owner.proofs.enrol.enrol_all.Goals as goal
 
 pub loop-device-preserved : goal.loop-device-preserved

@@ -1,6 +1,6 @@
 use Rattle.std.proofs.Common.{◌≡◌, ◌≤◌, map, take, Some}
-use Rattle.oat_world.specs.Outside.{Contents}
 use Rattle.oat_owner.specs.Ledger.{ids_of}
+use Rattle.oat_shown.specs.{Contents}
 use Rattle.oat_room_owner.specs.Owner.{AreEnrolled}
 use Rattle.oat_room_owner.proofs.enrol.enrol_all.Given as goal
 

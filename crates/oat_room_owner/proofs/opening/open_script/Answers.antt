@@ -1,10 +1,8 @@
 use Rattle.std.proofs.lemmas.Result.{err_from_is_err_and}
-use Rattle.oat_first.specs.First.{fails, passes}
-use Rattle.oat_page.specs.Outcome.{Outcome}
-use Rattle.oat_world.specs.Outside.{Rose}
+use Rattle.oat_page.proofs.Holding.{HaltsWith-more}
+use Rattle.oat_shown.specs.{fails, passes, Outcome, Rose}
 use Rattle.oat_room_owner.specs.Owner.{EnrolmentsFail, RefusesScript, ServesScript}
 use Rattle.oat_room_owner.proofs.Enrolling.{stop_halts}
-use Rattle.oat_page.proofs.Holding.{HaltsWith-more}
 use Rattle.oat_room_owner.proofs.opening.open_script.Goals as goal
 
 pub returns-in_err-script-clause-opens : goal.returns-in_err-script-clause-opens

@@ -1,11 +1,9 @@
 use Rattle.std.proofs.Common.{List, subst}
-use Rattle.oat_first.specs.First.{passes}
 use Rattle.oat_owner.specs.declared.call.OwnerCall.{OwnerCall}
-use Rattle.oat_page.specs.Loads.{File}
+use Rattle.oat_page.proofs.{Lists.one_of, Showing.Shows-more}
+use Rattle.oat_shown.specs.{passes, File}
 use Rattle.oat_room_owner.specs.Owner.{RepliesTo, ServesScript}
 use Rattle.oat_room_owner.proofs.Enrolling.{halts_so}
-use Rattle.oat_page.proofs.Lists.{one_of}
-use Rattle.oat_page.proofs.Showing.{Shows-more}
 use Rattle.oat_room_owner.proofs.owner.serve.Goals as goal
 
 pub returns-in-Ok-clause-shows : goal.returns-in-Ok-clause-shows

@@ -1,8 +1,7 @@
 use Rattle.std.proofs.Common.{ℕ, List, ap, arith, subst}
-use Rattle.oat_owner.specs.declared.call.OwnerReply.TheVariants as replies
-use Rattle.oat_page.specs.Shows.{put_of}
-use Rattle.oat_page.specs.Puts.{PutsAll}
+use Rattle.oat_shown.specs.{put_of, PutsAll}
 use Rattle.oat_room_owner.proofs.Replying.{accepted_lines}
+use Rattle.oat_owner.specs.declared.call.OwnerReply.TheVariants as replies
 use Rattle.oat_room_owner.proofs.replies.put_accepted.Goals as goal
 
 pub returns-in-Accepted : goal.returns-in-Accepted

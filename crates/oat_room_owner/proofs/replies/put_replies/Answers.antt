@@ -1,6 +1,5 @@
 use Rattle.std.proofs.Common.{◌∙◌, ◌∷◌, [], ◌+◌, ap, refl, sym, drop}
-use Rattle.std.proofs.lemmas.Result.{err_from_is_err_and}
-use Rattle.std.proofs.lemmas.List.{drop_all, drop_more}
+use Rattle.std.proofs.lemmas.{Result.err_from_is_err_and, List.drop_all, List.drop_more}
 use Rattle.oat_owner.specs.declared.call.OwnerCall.{OwnerCall}
 use Rattle.oat_page.proofs.Putting.{Adds-nothing}
 use Rattle.oat_room_owner.proofs.Replying.{all_replied, of_issued, replies_go_on, reply_is_cut, reply_is_wanting}

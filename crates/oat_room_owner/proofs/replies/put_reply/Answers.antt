@@ -1,14 +1,11 @@
 use Rattle.std.proofs.Common.{◌++◌, refl, sym, subst}
 use Rattle.std.proofs.lemmas.Result.{err_from_is_err_and}
 use Rattle.oat_owner.specs.declared.call.OwnerReply.{OwnerReply}
-use Rattle.oat_owner.specs.declared.call.OwnerReply.TheVariants as replies
 use Rattle.oat_reply.specs.ReplyLine.{reply_text}
-use Rattle.oat_page.specs.Shows.{put_of}
-use Rattle.oat_page.specs.Outcome.{line}
-use Rattle.oat_room_owner.specs.Owner.{accepted_path}
-use Rattle.oat_page.specs.Puts.{PutsAll}
-use Rattle.oat_room_owner.specs.Serving.{IsOfIssued}
 use Rattle.oat_page.proofs.Putting.{PutsAll-front, PutsAll-then}
+use Rattle.oat_shown.specs.{put_of, line, PutsAll}
+use Rattle.oat_room_owner.specs.{Owner.accepted_path, Serving.IsOfIssued}
+use Rattle.oat_owner.specs.declared.call.OwnerReply.TheVariants as replies
 use Rattle.oat_room_owner.proofs.replies.put_reply.Goals as goal
 
 pub returns-in_err-put_line : goal.returns-in_err-put_line

@@ -1,6 +1,6 @@
 use Rattle.std.proofs.lemmas.Result.{err_from_is_err_and}
-use Rattle.oat_page.specs.Loads.{File}
 use Rattle.oat_page.proofs.Lists.{one_of}
+use Rattle.oat_programs.specs.{File}
 use Rattle.oat_room_program.proofs.Building.{stops_at_program, works_on_checked}
 use Rattle.oat_room_program.proofs.build.build_program.Goals as goal
 

@@ -1,9 +1,5 @@
 use Rattle.std.proofs.Common.{◌∙◌, ℕ, List, Err, ap, ap₂}
-use Rattle.oat_image.specs.Grammar.{image_text}
-use Rattle.oat_build.specs.Built.{IsImageOf}
-use Rattle.oat_first.specs.First.{passes}
-use Rattle.oat_page.specs.declared.page.Ended.TheVariants.{Done}
-use Rattle.oat_page.specs.Answer.{shows}
+use Rattle.oat_programs.specs.{image_text, IsImageOf, passes, Done, shows}
 use Rattle.oat_programs.proofs.Programming.{refuses_words}
 use Rattle.oat_room_program.proofs.Building.{stops_at_code}
 use Rattle.oat_room_program.proofs.build.image_page.Goals as goal

@@ -1,6 +1,6 @@
 use Rattle.std.proofs.lemmas.Result.{err_from_is_err_and}
-use Rattle.oat_page.specs.Loads.{File}
 use Rattle.oat_page.proofs.Lists.{two_of}
+use Rattle.oat_programs.specs.{File}
 use Rattle.oat_room_program.proofs.Interpreting.{stops_at_program, stops_at_case, interprets_taken}
 use Rattle.oat_room_program.proofs.interpret.interpret.Goals as goal
 

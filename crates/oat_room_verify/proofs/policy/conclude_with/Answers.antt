@@ -1,16 +1,10 @@
 use Rattle.std.proofs.Common.{◌∙◌, ◌++◌, [], ap, refl, Option}
 use Rattle.oat_shape.proofs.Laid.{starts}
-use Rattle.oat_verify.specs.Verdict.{subject_of}
 use Rattle.oat_policy.specs.declared.verdict.PolicyVerdict.{PolicyVerdict}
-use Rattle.oat_page.specs.declared.page.Ended.{Ended}
-use Rattle.oat_page.specs.Answer.{as_outcome, shows}
+use Rattle.oat_page.proofs.{Putting.Adds-nothing, Showing.Shows-more, Showing.Shows-said}
+use Rattle.oat_shown.specs.{subject_of, Ended, as_outcome, shows, Report.report_of, Report.report_text, at_once, starved}
 use Rattle.oat_room_verify.specs.Policy.{said_of, said_text, with_policy}
-use Rattle.oat_shown.specs.Report.{report_of, report_text}
-use Rattle.oat_page.specs.Shows.{at_once}
-use Rattle.oat_page.specs.Texts.{starved}
-use Rattle.oat_page.proofs.Putting.{Adds-nothing}
 use Rattle.oat_room_verify.proofs.Settling.{has_path, tells}
-use Rattle.oat_page.proofs.Showing.{Shows-more, Shows-said}
 use Rattle.oat_room_verify.proofs.policy.conclude_with.Goals as goal
 
 pub put_ruled-put-requires-clause-begun : goal.put_ruled-put-requires-clause-begun

@@ -1,10 +1,8 @@
 use Rattle.std.proofs.Common.{◌∷◌, [], ◌≡◌, ℕ, List, map, get_or, ap, subst}
 use Rattle.std.proofs.lemmas.Result.{err_from_is_err_and}
-use Rattle.oat_page.specs.Limits.{blob_limit, case_limit, image_limit, policy_limit}
-use Rattle.oat_page.specs.Loads.{File}
 use Rattle.oat_page.proofs.Lists.{four_of}
-use Rattle.oat_room_verify.proofs.Digits.{blob_text}
-use Rattle.oat_room_verify.proofs.Policing.{polices_rejected, polices_no_blob, polices_no_policy}
+use Rattle.oat_shown.specs.{blob_limit, case_limit, image_limit, policy_limit, File}
+use Rattle.oat_room_verify.proofs.{Digits.blob_text, Policing.polices_rejected, Policing.polices_no_blob, Policing.polices_no_policy}
 use Rattle.oat_room_verify.proofs.policy.open_all_files.Goals as goal
 
 pub policy_in-requires : goal.policy_in-requires

@@ -1,10 +1,8 @@
 use Rattle.std.proofs.Common.{List, sym, subst}
-use Rattle.oat_page.specs.Loads.{File}
+use Rattle.oat_page.proofs.{Showing.Shows-more, Working.stops_answer}
+use Rattle.oat_shown.specs.{File}
 use Rattle.oat_room_verify.specs.Policy.{Polices}
-use Rattle.oat_room_verify.proofs.Digits.{blob_text}
-use Rattle.oat_page.proofs.Showing.{Shows-more}
-use Rattle.oat_room_verify.proofs.Policing.{polices_concluded}
-use Rattle.oat_page.proofs.Working.{stops_answer}
+use Rattle.oat_room_verify.proofs.{Digits.blob_text, Policing.polices_concluded}
 use Rattle.oat_room_verify.proofs.policy.police.Goals as goal
 
 pub returns-in-Ok-clause-shows : goal.returns-in-Ok-clause-shows

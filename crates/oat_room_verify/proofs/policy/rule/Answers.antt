@@ -1,5 +1,5 @@
 use Rattle.oat_shape.proofs.Laid.{starts}
-use Rattle.oat_verify.specs.Verdict.{subject_of}
+use Rattle.oat_shown.specs.{subject_of}
 use Rattle.oat_room_verify.proofs.Settling.{has_path, tells}
 use Rattle.oat_room_verify.proofs.policy.rule.Goals as goal
 

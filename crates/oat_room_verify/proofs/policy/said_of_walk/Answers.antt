@@ -1,13 +1,11 @@
 use Rattle.std.proofs.Common.{◌≡◌, ◌∙◌, ◌+◌, ◌++◌, ◌∷◌, [], ap, refl, sym, subst, length-append}
-use Rattle.oat_map.specs.Walk.{moved, passed, path_of}
-use Rattle.oat_policy.specs.Standing.{HasSeen}
-use Rattle.oat_policy.specs.Verdict.{verdict_of}
-use Rattle.oat_replay.proofs.ReplayLemmas.{never_both, one_path}
 use Rattle.oat_shape.proofs.Laid.{laid}
-use Rattle.oat_room_verify.proofs.Policing.{followed_is_short, has_room, walked_is_short}
-use Rattle.oat_room_verify.proofs.Retracing.{path_passed, path_pushed}
+use Rattle.oat_replay.proofs.ReplayLemmas.{never_both, one_path}
+use Rattle.oat_policy.specs.{Standing.HasSeen, Verdict.verdict_of}
+use Rattle.oat_shown.specs.{moved, passed, path_of}
+use Rattle.oat_room_verify.proofs.{Policing.followed_is_short, Policing.has_room, Policing.walked_is_short, Retracing.path_passed, Retracing.path_pushed, policy.said_of_walk.Goals.in-Moved}
+use Rattle.oat_room_verify.proofs.{policy.said_of_walk.Goals.in-Passed}
 use Rattle.oat_room_verify.proofs.policy.said_of_walk.Goals as goal
-use Rattle.oat_room_verify.proofs.policy.said_of_walk.Goals.{in-Moved, in-Passed}
 
 pub new-requires-clause-ordered : goal.new-requires-clause-ordered
 new-requires-clause-ordered c =

@@ -1,17 +1,12 @@
 use Rattle.std.proofs.Common.{◌≡◌, ◌∙◌, ◌+◌, ◌++◌, ◌∷◌, [], ℕ, List, ap, refl, sym, subst, length-append}
 use Rattle.std.proofs.lemmas.Result.{err_from_is_err_and}
-use Rattle.oat_world.specs.Outside.{Adds}
-use Rattle.oat_image.specs.declared.image.Image.{Image}
-use Rattle.oat_map.specs.Walk.{moved, passed, path_of}
-use Rattle.oat_replay.proofs.ReplayLemmas.{never_both}
 use Rattle.oat_shape.proofs.Laid.{laid}
-use Rattle.oat_page.specs.Shows.{put_of}
-use Rattle.oat_page.specs.Puts.{PutsAll}
-use Rattle.oat_shown.specs.Report.{path_text}
+use Rattle.oat_replay.proofs.ReplayLemmas.{never_both}
 use Rattle.oat_page.proofs.Putting.{Adds-nothing, Adds-then, PutsAll-behind, PutsAll-then}
-use Rattle.oat_room_verify.proofs.Retracing.{is_last, is_next, text_moved, text_passed}
+use Rattle.oat_shown.specs.{Adds, Image, moved, passed, path_of, put_of, PutsAll, Report.path_text}
+use Rattle.oat_room_verify.proofs.{Retracing.is_last, Retracing.is_next, Retracing.text_moved, Retracing.text_passed, report.put_path.Goals.in-Moved+in_ok-put_edge-in-Moved}
+use Rattle.oat_room_verify.proofs.{report.put_path.Goals.in-Passed}
 use Rattle.oat_room_verify.proofs.report.put_path.Goals as goal
-use Rattle.oat_room_verify.proofs.report.put_path.Goals.{in-Moved+in_ok-put_edge-in-Moved, in-Passed}
 
 pub new-requires-clause-ordered : goal.new-requires-clause-ordered
 new-requires-clause-ordered g c =

@@ -1,12 +1,7 @@
 use Rattle.std.proofs.Common.{◌≡◌, ◌∙◌, ◌++◌, ℕ, List, ap, sym, subst}
 use Rattle.std.proofs.lemmas.Result.{err_from_is_err_and}
-use Rattle.oat_report.specs.VerdictLine.{verdict_text}
-use Rattle.oat_verify.specs.declared.verdict.Verdict.{Verdict}
-use Rattle.oat_page.specs.Outcome.{line}
-use Rattle.oat_page.specs.Shows.{put_of}
-use Rattle.oat_page.specs.Puts.{PutsAll}
-use Rattle.oat_shown.specs.Report.{path_in, path_text}
 use Rattle.oat_page.proofs.Putting.{PutsAll-front, PutsAll-then}
+use Rattle.oat_shown.specs.{verdict_text, Verdict, line, put_of, PutsAll, Report.path_in, Report.path_text}
 use Rattle.oat_room_verify.proofs.Settling.{accepted}
 use Rattle.oat_room_verify.proofs.report.put_report.Goals as goal
 

@@ -1,6 +1,6 @@
 use Rattle.std.proofs.lemmas.Result.{err_from_is_err_and}
-use Rattle.oat_page.specs.Loads.{File}
 use Rattle.oat_page.proofs.Lists.{three_of}
+use Rattle.oat_shown.specs.{File}
 use Rattle.oat_room_verify.proofs.Verifying.{stops_admitting, stops_blob}
 use Rattle.oat_room_verify.proofs.verify.open_files.Goals as goal
 

@@ -1,8 +1,8 @@
 use Rattle.std.proofs.Common.{◌∷◌, [], ◌+◌, ◌++◌, drop, take, get_or, refl}
 use Rattle.std.proofs.lemmas.Result.{err_from_is_err_and}
 use Rattle.oat_map.specs.declared.edge.Edge.TheVariants.{Jump}
-use Rattle.oat_shown.specs.Report.{path_text}
 use Rattle.oat_page.proofs.Putting.{PutsAll-behind}
+use Rattle.oat_shown.specs.Report.{path_text}
 use Rattle.oat_shown.proofs.PathLines.{path_next}
 use Rattle.oat_shown.proofs.report.put_edges.Goals as goal
 

@@ -1,5 +1,5 @@
 use Rattle.std.proofs.Common.{◌≡◌, take}
-use Rattle.oat_world.specs.Outside.{Adds}
+use Rattle.oat_page.specs.{Adds}
 use Rattle.oat_shown.specs.Report.{path_text}
 use Rattle.oat_shown.proofs.report.put_edges.Given as goal
 

@@ -2,8 +2,8 @@ use Rattle.std.proofs.Common.{◌≡◌, ◌∙◌, ap}
 use Rattle.std.proofs.lemmas.Result.{err_from_is_err_and}
 use Rattle.oat_report.specs.VerdictLine.{verdict_text}
 use Rattle.oat_page.specs.Outcome.{line}
-use Rattle.oat_shown.specs.Report.{path_in, path_text}
 use Rattle.oat_page.proofs.Putting.{PutsAll-front, PutsAll-then}
+use Rattle.oat_shown.specs.Report.{path_in, path_text}
 use Rattle.oat_shown.proofs.report.put_verdict.Goals as goal
 
 pub returns-in_err-put_all : goal.returns-in_err-put_all

@@ -1,5 +1,4 @@
-use Rattle.oat_tool.proofs.Apart.{one_command}
-use Rattle.oat_tool.proofs.Naming.{lines_are_spelled}
+use Rattle.oat_tool.proofs.{Apart.one_command, Naming.lines_are_spelled}
 use Rattle.oat_tool.proofs.laws.words_are_of_one_command.Goals as goal
 
 pub returns : goal.returns

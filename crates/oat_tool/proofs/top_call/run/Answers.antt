@@ -1,16 +1,9 @@
 use Rattle.std.proofs.Common.{◌∙◌, refl}
-use Rattle.oat_first.specs.First.{fails, passes}
-use Rattle.oat_page.specs.Outcome.{says}
+use Rattle.oat_page.proofs.{Orders.Rose-later, Putting.Adds-nothing, Showing.Shows-said, Showing.Shows-more}
 use Rattle.oat_words.specs.Commands.{usage}
-use Rattle.oat_page.specs.Texts.{starved}
-use Rattle.oat_page.specs.Shows.{ended, at_once}
+use Rattle.oat_room_attest.specs.{fails, passes, says, starved, ended, at_once}
 use Rattle.oat_tool.specs.Defined.{done, other}
-use Rattle.oat_tool.proofs.Orderly.{orderly}
-use Rattle.oat_page.proofs.Orders.{Rose-later}
-use Rattle.oat_page.proofs.Putting.{Adds-nothing}
-use Rattle.oat_page.proofs.Showing.{Shows-said, Shows-more}
-use Rattle.oat_tool.proofs.VerifySaying.{calls_are_headlined}
-use Rattle.oat_tool.proofs.Attestations.{calls_show_one_run}
+use Rattle.oat_tool.proofs.{Orderly.orderly, VerifySaying.calls_are_headlined, Attestations.calls_show_one_run}
 use Rattle.oat_tool.proofs.top_call.run.Goals as goal
 
 pub returns-in_default-clause-answer : goal.returns-in_default-clause-answer

@@ -1,5 +1,5 @@
-use Rattle.oat_room_drill.specs.Drill.{Drills}
 use Rattle.oat_page.proofs.Working.{finished}
+use Rattle.oat_room_drill.specs.Drill.{Drills}
 use Rattle.oat_tool.proofs.top_call.work.Goals as goal
 
 pub returns-in-Drill-clause-shows : goal.returns-in-Drill-clause-shows

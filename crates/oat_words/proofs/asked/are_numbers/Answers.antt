@@ -1,11 +1,7 @@
 use Rattle.std.proofs.Common.{◌≡◌, ◌<◌, ◌+◌, ◌∙◌, ℕ, List, [], Option, None, Some, true, false, map, length, get_or, inl, inr, sym, ap, subst, arith}
-use Rattle.std.specs.Prelude.{MatchOption}
-use Rattle.std.specs.Option.{is_some}
-use Rattle.std.specs.String.{string_bytes}
-use Rattle.std.specs.Str.Parse.{digits_value}
+use Rattle.std.specs.{Prelude.MatchOption, Option.is_some, String.string_bytes, Str.Parse.digits_value}
 use Rattle.std.proofs.Math.ListN.{get_or-map}
-use Rattle.std.proofs.lemmas.Bool.{cases_lt}
-use Rattle.std.proofs.lemmas.List.{get_or_default, length-map}
+use Rattle.std.proofs.lemmas.{Bool.cases_lt, List.get_or_default, List.length-map}
 use Rattle.oat_words.specs.Commands.{IsNumber}
 use Rattle.oat_words.proofs.asked.are_numbers.Goals as goal
 

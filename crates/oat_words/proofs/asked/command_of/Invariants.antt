@@ -1,7 +1,6 @@
 use Rattle.std.proofs.Common.{◌≡◌, ◌<◌, ℕ, map, get_or}
 use Rattle.std.specs.String.{string_bytes}
-use Rattle.oat_words.specs.declared.command.Command.{Command}
-use Rattle.oat_words.specs.Commands.{commands, IsLine}
+use Rattle.oat_words.specs.{declared.command.Command.Command, Commands.commands, Commands.IsLine}
 use Rattle.oat_words.proofs.asked.command_of.Given as goal
 
 abbrev pub invariant-loop-command : goal.invariant-loop-command

@@ -1,6 +1,5 @@
 use Rattle.std.proofs.Common.{◌≡◌, map, take}
-use Rattle.std.specs.String.{string_bytes}
-use Rattle.std.specs.Str.Parse.{digits_value}
+use Rattle.std.specs.{String.string_bytes, Str.Parse.digits_value}
 use Rattle.oat_words.proofs.asked.numbers_of.Given as goal
 
 abbrev pub invariant-loop-k : goal.invariant-loop-k
