@@ -12,6 +12,8 @@ mod images;
 #[cfg(test)]
 mod maps;
 #[cfg(test)]
+mod owners;
+#[cfg(test)]
 mod policies;
 #[cfg(test)]
 mod scripts;

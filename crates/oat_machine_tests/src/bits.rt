@@ -1,4 +1,4 @@
-use oat_bits::{Field, PackedBits};
+use oat_bits::{BitsFault, Field, PackedBits};
 use oat_steps::Steps;
 use std::marker::Brand;
 use std::mem::size_of;
@@ -28,14 +28,19 @@ fn fields_and_bits_of_worked_words(rt: HostRuntime) -> Result<(), Fail> {
         }
     }
     assert!(rt; bits.bytes() == [0xBB, 0x80].as_slice());
-    for (bytes, taken) in [
-        ([0xBB, 0x80].as_slice(), true),
-        ([0xBB, 0x81].as_slice(), false),
-        ([0xBB].as_slice(), false),
-        ([0xBB, 0x80, 0x00].as_slice(), false),
+    for (bytes, refused) in [
+        ([0xBB, 0x80].as_slice(), b"taken".as_slice()),
+        ([0xBB, 0x81].as_slice(), b"padding".as_slice()),
+        ([0xBB].as_slice(), b"length".as_slice()),
+        ([0xBB, 0x80, 0x00].as_slice(), b"length".as_slice()),
     ] {
-        let read = PackedBits::from_packed(rt.alloc(), bytes, 11);
-        assert!(rt; read.is_ok() == taken, "{bytes:?}");
+        let found = match PackedBits::from_packed(rt.alloc(), bytes, 11).err() {
+            None => b"taken".as_slice(),
+            Some(BitsFault::Padding) => b"padding".as_slice(),
+            Some(BitsFault::Length) => b"length".as_slice(),
+            Some(BitsFault::Memory) => b"memory".as_slice(),
+        };
+        assert!(rt; found == refused, "{bytes:?}");
     }
     assert!(rt; size_of::<Steps<Brand>>() == 0);
     Ok(())
