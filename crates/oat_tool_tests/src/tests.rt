@@ -47,19 +47,29 @@ fn file(alloc: Global, name: &str, bytes: &[u8]) -> Result<MemoryFile, AllocErro
     })
 }
 
-/// All files that rows name, and `GIVEN` with this text.
-fn all_files(alloc: Global, given: &[u8]) -> Result<Vec<MemoryFile>, AllocError> {
+/// Whether a name is a word of a text.
+fn is_word(text: &str, name: &str) -> bool {
+    text.split_whitespace().any(|word| word == name)
+}
+
+/// The files that the words of a line name, or those of the text of `GIVEN`, and that one.
+fn files_of(alloc: Global, line: &str, given: &str) -> Result<Vec<MemoryFile>, AllocError> {
+    let named = format!(in alloc; "{line} {given}")?;
     let mut files = Vec::new(alloc);
-    files.push(file(alloc, "GIVEN", given)?)?;
+    files.push(file(alloc, "GIVEN", given.as_bytes())?)?;
     let tables: [&[Text]; 4] = [&IMAGES, &CASES, &BLOBS, &PROGRAMS];
     for table in tables {
         for (name, parts) in table {
-            files.push(file(alloc, name, joined(alloc, parts)?.as_bytes())?)?;
+            if is_word(named.as_str(), name) {
+                files.push(file(alloc, name, joined(alloc, parts)?.as_bytes())?)?;
+            }
         }
     }
     for (name, text, old, new) in CHANGED {
-        let changed = text.replacen(alloc, old, new, 1)?;
-        files.push(file(alloc, name, changed.as_bytes())?)?;
+        if is_word(named.as_str(), name) {
+            let changed = text.replacen(alloc, old, new, 1)?;
+            files.push(file(alloc, name, changed.as_bytes())?)?;
+        }
     }
     Ok(files)
 }
@@ -111,7 +121,7 @@ fn expect_row(
     failing: Failing,
 ) -> Result<(), AllocError> {
     let (line, given, status, out, err) = row;
-    let files = all_files(alloc, joined(alloc, given)?.as_bytes())?;
+    let files = files_of(alloc, line, joined(alloc, given)?.as_str())?;
     let text = joined(alloc, out)?;
     expect(
         rt,
@@ -123,29 +133,51 @@ fn expect_row(
     )
 }
 
+/// The same of the rows of tables, of which no load and no put fails.
+fn expect_rows(rt: &impl Abort, alloc: Global, tables: &[&[Row]]) -> Result<(), AllocError> {
+    for table in tables {
+        for row in *table {
+            expect_row(rt, alloc, row, [&[], &[], &[]])?;
+        }
+    }
+    Ok(())
+}
+
 #[test]
-fn calls_are_answered(rt: HostRuntime) -> Result<(), Fail> {
-    let tables: [&[Row]; 15] = [
+fn blobs_are_judged(rt: HostRuntime) -> Result<(), Fail> {
+    let tables: [&[Row]; 6] = [
         &verdicts::REFUSED,
         &verdicts::JUDGED,
         &verdicts::NUMBERED,
         &verdicts::JUDGED_CALLS,
+        &policies::POLICED,
+        &policies::NO_POLICIES,
+    ];
+    expect_rows(&rt, rt.alloc(), &tables)?;
+    Ok(())
+}
+
+#[test]
+fn runs_and_replies_are_shown(rt: HostRuntime) -> Result<(), Fail> {
+    let tables: [&[Row]; 5] = [
         &runs::MEASURED,
         &runs::OF_ELEMENTS,
         &runs::TRACED,
-        &policies::POLICED,
-        &policies::NO_POLICIES,
         &owners::REPLIED,
         &owners::NO_SCRIPTS,
+    ];
+    expect_rows(&rt, rt.alloc(), &tables)?;
+    Ok(())
+}
+
+#[test]
+fn programs_are_worked_on(rt: HostRuntime) -> Result<(), Fail> {
+    let tables: [&[Row]; 4] = [
         &programs::RAN,
         &programs::IN_JSON,
         &programs::DRILLS,
         &programs::NO_PROGRAMS,
     ];
-    for table in tables {
-        for row in table {
-            expect_row(&rt, rt.alloc(), row, [&[], &[], &[]])?;
-        }
-    }
+    expect_rows(&rt, rt.alloc(), &tables)?;
     Ok(())
 }

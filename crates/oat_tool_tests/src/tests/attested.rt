@@ -1,7 +1,7 @@
 //! Runs that are attested, beside what the device makes of the image that is built, and what the verifier says of each blob.
 
 use super::programs::ATTESTED;
-use super::{Failing, all_files, call, expect, file, joined};
+use super::{Failing, call, expect, file, files_of, joined};
 use oat_world::MemoryFile;
 use std::alloc::{AllocError, Global};
 use std::process::Abort;
@@ -9,9 +9,14 @@ use std::test::Fail;
 
 const NONE: Failing = [&[], &[], &[]];
 
-/// All files, and besides the image of a program.
-fn files_with(alloc: Global, image: &[u8], blob: &str) -> Result<Vec<MemoryFile>, AllocError> {
-    let mut files = all_files(alloc, blob.as_bytes())?;
+/// The files of a line, and besides the image of a program.
+fn files_with(
+    alloc: Global,
+    line: &str,
+    image: &[u8],
+    blob: &str,
+) -> Result<Vec<MemoryFile>, AllocError> {
+    let mut files = files_of(alloc, line, blob)?;
     files.push(file(alloc, "IMAGE", image)?)?;
     Ok(files)
 }
@@ -28,7 +33,7 @@ fn put_windows(
     for (blob, part) in blobs.split_inclusive('\n').zip(parts) {
         let report = joined(alloc, part)?;
         let status = if report.starts_with("accept") { 0 } else { 1 };
-        let files = files_with(alloc, image, blob)?;
+        let files = files_with(alloc, line.as_str(), image, blob)?;
         expect(
             rt,
             alloc,
@@ -49,9 +54,14 @@ fn runs_are_attested(rt: HostRuntime) -> Result<(), Fail> {
     let alloc = rt.alloc();
     for (program, case, status, lines, parts) in ATTESTED {
         let build = format!(in alloc; "build {program}")?;
-        let (_, image, _) = call(alloc, build.as_str(), all_files(alloc, b"")?, NONE)?;
+        let (_, image, _) = call(
+            alloc,
+            build.as_str(),
+            files_of(alloc, build.as_str(), "")?,
+            NONE,
+        )?;
         let device = format!(in alloc; "device IMAGE {case}")?;
-        let files = files_with(alloc, image.as_slice(), "")?;
+        let files = files_with(alloc, device.as_str(), image.as_slice(), "")?;
         let (_, measured, _) = call(alloc, device.as_str(), files, NONE)?;
         let blobs = str::from_utf8(measured.as_slice()).unwrap_or("");
         let blobs = blobs.strip_prefix(lines).unwrap_or("");
@@ -71,7 +81,7 @@ fn runs_are_attested(rt: HostRuntime) -> Result<(), Fail> {
             &rt,
             alloc,
             attest.as_str(),
-            all_files(alloc, b"")?,
+            files_of(alloc, attest.as_str(), "")?,
             NONE,
             want,
         )?;

@@ -2,7 +2,7 @@
 
 use super::files::BLOB_CALLS;
 use super::verdicts::CALLS_PATH;
-use super::{all_files, expect};
+use super::{expect, files_of};
 use std::alloc::{AllocError, Global};
 use std::process::Abort;
 use std::test::Fail;
@@ -120,7 +120,7 @@ fn expect_verdict(
 ) -> Result<(), AllocError> {
     let digits = hex::encode(alloc, blob)?;
     let line = format!(in alloc; "verify B {case} GIVEN")?;
-    let files = all_files(alloc, digits.as_bytes())?;
+    let files = files_of(alloc, line.as_str(), digits.as_str())?;
     expect(
         rt,
         alloc,

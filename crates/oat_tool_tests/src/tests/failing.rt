@@ -4,7 +4,7 @@ use super::verdicts::ONE_JUMP_PATH;
 use super::{Failing, Row, expect_row};
 use std::test::Fail;
 
-const USAGE: &str =
+pub const USAGE: &str =
     "usage: oat run PROG CASE | build PROG | device IMAGE CASE | verify IMAGE CASE BLOB | attest [--json] PROG CASE | drill N | trace IMAGE CASE | policy IMAGE CASE BLOB POLICY | owner SCRIPT\n";
 
 /// The usage line, and a put of it that fails; a file that isn't there, and a put of what is said of it; each load of `verify`, each put of its report, and none;

@@ -1,11 +1,13 @@
 //! Calls on a file that has the most bytes that it may have, or one more.
 
 use super::verdicts::CALLS_PATH;
-use super::{Row, all_files, expect, file, joined};
+use super::{Row, expect, files_of, joined};
+use oat_world::MemoryFile;
+use std::alloc::{AllocError, Global};
 use std::test::Fail;
 
-/// The row, and the number of the empty lines of the file `LONG`.
-const LIMITS: [(Row, usize); 8] = [
+/// The row, and the file `LONG`: so many times 65,536 empty lines, and what stands behind them.
+const LIMITS: [(Row, (usize, &[u8])); 8] = [
     (
         (
             "verify A LONG BLOB",
@@ -14,7 +16,7 @@ const LIMITS: [(Row, usize); 8] = [
             &[],
             "refused LONG TooLong 4194304\n",
         ),
-        4_194_305,
+        (64, b"\n"),
     ),
     (
         (
@@ -24,7 +26,7 @@ const LIMITS: [(Row, usize); 8] = [
             &[CALLS_PATH, "policy holds\n"],
             "",
         ),
-        65_536,
+        (1, b""),
     ),
     (
         (
@@ -34,15 +36,15 @@ const LIMITS: [(Row, usize); 8] = [
             &[],
             "refused LONG TooLong 65536\n",
         ),
-        65_537,
+        (1, b"\n"),
     ),
     (
         ("policy B KB X LONG", &[], 4, &[], "read fault X\n"),
-        65_537,
+        (1, b"\n"),
     ),
     (
         ("owner LONG", &[], 2, &[], "refused LONG TooLong 67108864\n"),
-        67_108_865,
+        (1024, b"\n"),
     ),
     (
         (
@@ -52,11 +54,11 @@ const LIMITS: [(Row, usize); 8] = [
             &[],
             "refused LONG TooLong 16777216\n",
         ),
-        16_777_217,
+        (256, b"\n"),
     ),
     (
         ("run LONG KA", &[], 2, &[], "refused LONG TooLong 1048576\n"),
-        1_048_577,
+        (16, b"\n"),
     ),
     (
         (
@@ -66,17 +68,27 @@ const LIMITS: [(Row, usize); 8] = [
             &[],
             "refused LONG TooLong 1048576\n",
         ),
-        1_048_577,
+        (16, b"\n"),
     ),
 ];
+
+fn long_file(alloc: Global, count: usize, behind: &[u8]) -> Result<MemoryFile, AllocError> {
+    let part = vec![in alloc; b'\n'; 65_536]?;
+    let mut bytes = Vec::new(alloc);
+    for _ in 0..count {
+        bytes.extend_from_slice(part.as_slice())?;
+    }
+    bytes.extend_from_slice(behind)?;
+    let name = String::from_str(alloc, "LONG")?;
+    Ok(MemoryFile { name, bytes })
+}
 
 #[test]
 fn files_have_their_limits(rt: HostRuntime) -> Result<(), Fail> {
     let alloc = rt.alloc();
-    for ((line, given, status, out, err), count) in LIMITS {
-        let mut files = all_files(alloc, joined(alloc, given)?.as_bytes())?;
-        let long = vec![in alloc; 10u8; count]?;
-        files.push(file(alloc, "LONG", long.as_slice())?)?;
+    for ((line, given, status, out, err), (count, behind)) in LIMITS {
+        let mut files = files_of(alloc, line, joined(alloc, given)?.as_str())?;
+        files.push(long_file(alloc, count, behind)?)?;
         let text = joined(alloc, out)?;
         let want = (status, text.as_str(), err);
         expect(&rt, alloc, line, files, [&[], &[], &[]], want)?;

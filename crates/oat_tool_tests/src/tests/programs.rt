@@ -1,6 +1,7 @@
 //! Calls of `run`, `build`, `attest` and `drill`.
 
 use super::Row;
+use super::failing::USAGE;
 
 const LOOP_PATH: &str =
     "jump measure.b0#0 measure.test\nbranch measure.test#0 1 measure.body\ncall measure.body#0 scale\nret scale.b0#0 measure.body#0\ncall measure.body#1 clip\nbranch clip.b0#0 0 clip.under\nret clip.under#0 measure.body#1\njump measure.body#2 measure.test\nbranch measure.test#0 1 measure.body\ncall measure.body#0 scale\nret scale.b0#0 measure.body#0\ncall measure.body#1 clip\nbranch clip.b0#0 1 clip.over\nret clip.over#0 measure.body#1\njump measure.body#2 measure.test\nbranch measure.test#0 1 measure.body\ncall measure.body#0 scale\nret scale.b0#0 measure.body#0\ncall measure.body#1 clip\nbranch clip.b0#0 0 clip.under\nret clip.under#0 measure.body#1\njump measure.body#2 measure.test\nbranch measure.test#0 1 measure.body\ncall measure.body#0 scale\nret scale.b0#0 measure.body#0\ncall measure.body#1 clip\nbranch clip.b0#0 1 clip.over\nret clip.over#0 measure.body#1\njump measure.body#2 measure.test\nbranch measure.test#0 1 measure.body\ncall measure.body#0 scale\nret scale.b0#0 measure.body#0\ncall measure.body#1 clip\nbranch clip.b0#0 0 clip.under\nret clip.under#0 measure.body#1\njump measure.body#2 measure.test\nbranch measure.test#0 0 measure.done\nend 7\n";

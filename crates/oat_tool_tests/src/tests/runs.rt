@@ -5,7 +5,6 @@ use super::files::{
     BLOB_CALLS, BLOB_DOWN, BLOBS_BETWEEN, BLOBS_TWICE, CASE, CELL_1, CELL_2, HELPER_DIGITS,
     LIMIT_DIGITS, ORDER_DIGITS, SOUND, TO_END_DIGITS, WINDOW_0, WINDOW_1, WINDOW_1_CELL_3,
 };
-use super::owners::USED;
 
 /// Runs of the image of calls: nobody writes; a lawful return address in the wrong order; returns to the end of the operation and to its begin; other functions in the table, and none; other values in the cell; a return into data; up to the step that seals the window. Then with the operation called twice: two windows are called for, three, and two with another value in the cell from between them on.
 pub const MEASURED: [Row; 15] = [
