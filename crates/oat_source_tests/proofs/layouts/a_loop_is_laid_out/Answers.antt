@@ -2,7 +2,7 @@
 use Rattle.std.proofs.Common.{sym, ◌∙◌, subst, arith}
 use Rattle.std.specs.{Prelude.⊤, List.AllByRecursion}
 use Rattle.std.proofs.lemmas.List.Elements.{All-contains, All-from_recursion}
-use Rattle.oat_shape.specs.{IsInRange}
+use Rattle.oat_a64.specs.Table.{IsInRange}
 use Rattle.oat_asm.specs.declared.item.Item.{Item}
 use Rattle.oat_asm.specs.declared.item.Item.TheVariants as item
 use Rattle.oat_source_tests.proofs.layouts.a_loop_is_laid_out.Goals as goal
