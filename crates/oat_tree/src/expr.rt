@@ -1,5 +1,6 @@
-ghost use Rattle.std.specs.Prelude.{◌≡◌, IfOk};
+ghost use Rattle.std.specs.Prelude.{◌≡◌, IfOk, map};
 ghost use Rattle.oat_tree.specs.Syntax as tree;
+ghost use Rattle.oat_tree.specs.Syntax.{exprs_of_list};
 ghost use Rattle.oat_tree.specs.Seen.{seen_expr};
 
 use crate::operator::Operator;
@@ -28,6 +29,12 @@ impl Expr {
         ensures { IfOk result (λ e. seen_expr e ≡ tree.element array (seen_expr index)) }
     {
         Ok(Expr::Element(array, Box::new(alloc, index)?))
+    }
+
+    pub fn call(function: Name, arguments: Vec<Expr>) -> Expr
+        ensures { seen_expr result ≡ tree.call function (exprs_of_list (map seen_expr arguments.items)) }
+    {
+        Expr::Call(function, arguments)
     }
 
     pub fn negative(alloc: Global, operand: Expr) -> Result<Expr, AllocError>

@@ -1,3 +1,8 @@
+ghost use Rattle.std.specs.Prelude.{◌≡◌, map};
+ghost use Rattle.oat_tree.specs.Syntax as tree;
+ghost use Rattle.oat_tree.specs.Syntax.{exprs_of_list};
+ghost use Rattle.oat_tree.specs.Seen.{seen_expr, seen_stmt, seen_stmts};
+
 use crate::expr::Expr;
 use oat_map::Name;
 
@@ -17,4 +22,20 @@ pub enum Stmt {
     Halt,
     /// A call whose value is dropped.
     Call(Name, Vec<Expr>),
+}
+
+impl Stmt {
+    #[tactic(auto, using(crate::proofs::SeenLists::if_seen))]
+    pub fn choose(condition: Expr, then: Vec<Stmt>, otherwise: Vec<Stmt>) -> Stmt
+        ensures { seen_stmt result ≡ tree.choose (seen_expr condition) (seen_stmts then.items) (seen_stmts otherwise.items) }
+    {
+        Stmt::If(condition, then, otherwise)
+    }
+
+    #[tactic(auto, using(crate::proofs::SeenLists::while_seen))]
+    pub fn repeat(condition: Expr, body: Vec<Stmt>) -> Stmt
+        ensures { seen_stmt result ≡ tree.repeat (seen_expr condition) (seen_stmts body.items) }
+    {
+        Stmt::While(condition, body)
+    }
 }
