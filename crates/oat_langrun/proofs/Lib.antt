@@ -1,3 +1,5 @@
 pub mod Fitting
 pub mod StepSizes
+pub mod Runs
+pub mod Stepping
 mod Worked
