@@ -1,5 +1,7 @@
 pub mod Fitting
-pub mod StepSizes
+pub mod Passing
 pub mod Runs
+pub mod StepSizes
 pub mod Stepping
+pub mod Words
 mod Worked

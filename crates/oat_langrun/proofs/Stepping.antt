@@ -32,7 +32,8 @@ use Rattle.oat_langrun.specs.declared.step.Use.TheVariants.{Keeps, Drops, Assign
 use Rattle.oat_langrun.specs.Fitting.{ActKeeps, UseKeeps, FunctionIs, GlobalIs, StepKeeps}
 use Rattle.oat_langrun.specs.Keeping.{Stands, Waits, IsMain, AreCallers, IsGood, active_in, operation_active, cells_at}
 use Rattle.oat_langrun.specs.Meaning.{Run, LangState, Shown, step_at, operation_at, quietly, ends_with, traps_with, shows_behind, if_any, length_of, cell_of, goes_on_at, takes_value, writes_global, uses, resumes, given_back, uses_here, gives, gives_if, reads_global, entered_with, arguments, enters, gives_input, operated, acts, acts_at, lang_step}
-use Rattle.oat_langrun.specs.Steps.{step, Routine, Routines, routines_of, routine_of, function_steps, body_steps, body_size, end_use}
+use Rattle.oat_langrun.specs.declared.routine.Routine.{Routine}
+use Rattle.oat_langrun.specs.Steps.{step, Routines, routines_of, routine_of, function_steps, body_steps, body_size, end_use}
 use Rattle.oat_langrun.proofs.Fitting.{KeepsAt, keeps_at, function_keeps}
 use Rattle.oat_langrun.proofs.StepSizes.{body_length}
 

@@ -2,5 +2,9 @@ pub mod Fitting
 pub mod Keeping
 pub mod Laws
 pub mod Meaning
+pub mod Memories
+pub mod Recording
+pub mod Running
+pub mod Standing
 pub mod Steps
 pub mod Worked

@@ -19,7 +19,8 @@ use Rattle.oat_check.specs.Steps.{operation_number}
 use Rattle.oat_tree.specs.Syntax.{Tree}
 use Rattle.oat_tree.specs.declared.operator.Operator.{Operator}
 use Rattle.oat_tree.specs.declared.operator.Operator.TheVariants.{Equal, Unequal, Less, AtMost, Greater, AtLeast, BitOr, BitXor, BitAnd, ShiftLeft, ShiftRight, Plus, Minus, Times, Quotient, Remainder}
-use Rattle.oat_langrun.specs.Steps.{Routine, Routines, routines_of}
+use Rattle.oat_langrun.specs.declared.routine.Routine.{Routine}
+use Rattle.oat_langrun.specs.Steps.{Routines, routines_of}
 use Rattle.oat_langrun.specs.declared.step.Act.{Act}
 use Rattle.oat_langrun.specs.declared.step.Act.TheVariants.{Begins, Decides, ReachesEnd, Literal, ReadsLocal, ReadsScalar, ReadsElement, Calls, TakesInput, Negates, Operates}
 use Rattle.oat_langrun.specs.declared.step.Step.{Step}

@@ -13,6 +13,7 @@ use Rattle.oat_tree.specs.Syntax.{Word, Expr, number, name, element, call, input
 use Rattle.oat_tree.specs.declared.operator.Operator.{Operator}
 use Rattle.oat_langrun.specs.declared.step.Act.{Act}
 use Rattle.oat_langrun.specs.declared.step.Act.TheVariants.{Begins, Decides, ReachesEnd, Literal, ReadsLocal, ReadsScalar, ReadsElement, Calls, TakesInput, Negates, Operates}
+use Rattle.oat_langrun.specs.declared.routine.Routine.{Routine}
 use Rattle.oat_langrun.specs.declared.step.Step.{Step}
 use Rattle.oat_langrun.specs.declared.step.Use.{Use}
 use Rattle.oat_langrun.specs.declared.step.Use.TheVariants.{Keeps, Drops, Assigns, StoresScalar, StoresElement, Puts, Chooses, Returns, Halts}
@@ -107,12 +108,6 @@ abbrev pub function_steps : Scope → Role → Body → List Step
 function_steps scope role body = body_steps body scope 0 (body_size body) ++ step ReachesEnd 0 (end_use role) ∷ []
 
 -- ---- the whole text
-
--- a function by its steps; its parameters are the first of its locals
-pub record Routine : Type 0 where
-  pub role : Role
-  pub locals : ℕ
-  pub steps : List Step
 
 pub record Routines : Type 0 where
   pub globals : List GlobalItem
