@@ -1,5 +1,7 @@
 pub mod Fitting
+pub mod Giving
 pub mod Passing
+pub mod Resuming
 pub mod Runs
 pub mod StepSizes
 pub mod Stepping

@@ -83,14 +83,14 @@ abbrev keeps : ElementsAreNumbered → (tree : Tree) → IsLang tree → (inputs
 keeps numbered tree ok inputs = record {
   Good = IsGood tree;
   good = starts_good tree ok inputs;
-  goes = λ s g. (step_lawful tree ok numbered s g).good;
+  goes = λ s g. (step_lawful tree ok s g).good;
   stays = λ s why is. ap (λ (next : Shown). next.state) (ended_step (routines_of tree) s why is);
   quiet = λ s why is. ap (λ (next : Shown). next.shown) (ended_step (routines_of tree) s why is);
   active = operation_active (routines_of tree);
   cells = cells_at (routines_of tree);
   first_active = refl;
   first_cells = refl;
-  passes = λ s g. (step_lawful tree ok numbered s g).passes;
+  passes = λ s g. (step_lawful tree ok s g).passes numbered;
 }
 
 pub runs_are_good : ElementsAreNumbered → RunsAreGood

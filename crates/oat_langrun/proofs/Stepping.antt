@@ -110,191 +110,190 @@ module _ (tree : Tree) (ok : IsLang tree) where
 
   pub record IsLawful (before : Option ℕ) (cells : Cells) (next : Shown) : Type 0 where
     pub good : IsGood tree next.state
-    pub passes : Passes before cells next.shown (operation_active c next.state) (cells_at c next.state)
+    pub passes : ElementsAreNumbered → Passes before cells next.shown (operation_active c next.state) (cells_at c next.state)
 
   abbrev Lawful : LangState → Shown → Type 0
   Lawful s next = IsLawful (operation_active c s) (cells_at c s) next
 
   behind : (before middle : Option ℕ) (cells : Cells) (shown : List (SourceEvent ℕ)) (next : Shown)
-      → Passes before cells shown middle cells → IsLawful middle cells next → IsLawful before cells (shows_behind shown next)
+      → (ElementsAreNumbered → Passes before cells shown middle cells) → IsLawful middle cells next → IsLawful before cells (shows_behind shown next)
   behind before middle cells shown next one two = record {
     good = two.good;
-    passes = passes_joined shown next.shown before middle (operation_active c next.state) cells cells (cells_at c next.state) one two.passes;
+    passes = λ n. passes_joined shown next.shown before middle (operation_active c next.state) cells cells (cells_at c next.state) (one n) (two.passes n);
   }
 
   ends_lawful : (s : LangState) (why : Finish) → IsGood tree s → Lawful s (ends_with s why)
-  ends_lawful s why g = record { good = record { stands = g.stands; callers = g.callers; few = g.few }; passes = (refl, refl) }
+  ends_lawful s why g = record { good = record { stands = g.stands; callers = g.callers; few = g.few }; passes = λ n. (refl, refl) }
 
   to_place : (s : LangState) (g : IsGood tree s) (to : ℕ) → to < body_size g.stands.its.body + 1 → IsGood tree (goes_on_at s to)
   to_place s g to low = record { stands = record { its = g.stands.its; is = g.stands.is; within = low }; callers = g.callers; few = g.few }
 
   goes_lawful : (s : LangState) (g : IsGood tree s) (to : ℕ) → to < body_size g.stands.its.body + 1 → Lawful s (quietly (goes_on_at s to))
-  goes_lawful s g to low = record { good = to_place s g to low; passes = (refl, refl) }
+  goes_lawful s g to low = record { good = to_place s g to low; passes = λ n. (refl, refl) }
 
-  module _ (numbered : ElementsAreNumbered) where
-    writes_lawful : (s : LangState) (g : IsGood tree s) (test : GlobalItem → Bool) (h i v to : ℕ) → GlobalIs tree test h → to < body_size g.stands.its.body + 1 → Lawful s (writes_global c s h i v to)
-    writes_lawful s g test h i v to named low = record {
-      good = record { stands = record { its = g.stands.its; is = g.stands.is; within = low }; callers = g.callers; few = g.few };
-      passes = passing (cell_of c h i) (λ n at. told.stored n v at) (λ at. told.stays v at);
-    } where
-      told : IsNumbered size_in_cells c.globals s.globals h i
-      told = numbered size_in_cells c.globals s.globals h i named.item named.is
+  writes_lawful : (s : LangState) (g : IsGood tree s) (test : GlobalItem → Bool) (h i v to : ℕ) → GlobalIs tree test h → to < body_size g.stands.its.body + 1 → Lawful s (writes_global c s h i v to)
+  writes_lawful s g test h i v to named low = record {
+    good = record { stands = record { its = g.stands.its; is = g.stands.is; within = low }; callers = g.callers; few = g.few };
+    passes = λ numbered. passing (cell_of c h i) (λ n at. (told numbered).stored n v at) (λ at. (told numbered).stays v at);
+  } where
+    told : ElementsAreNumbered → IsNumbered size_in_cells c.globals s.globals h i
+    told numbered = numbered size_in_cells c.globals s.globals h i named.item named.is
 
-      passing : (o : Option ℕ) → ((n : ℕ) → o ≡ Some n → defined (cells_at c s) n v ≡ cell_values c.globals (put s.globals h i v)) → (o ≡ None → cells_at c s ≡ cell_values c.globals (put s.globals h i v))
-          → Passes (operation_active c s) (cells_at c s) (if_any o (λ cell. event.stores cell v)) (operation_active c s) (cell_values c.globals (put s.globals h i v))
-      passing None there else_ = (refl, else_ refl)
-      passing (Some n) there else_ = (refl, there n refl)
+    passing : (o : Option ℕ) → ((n : ℕ) → o ≡ Some n → defined (cells_at c s) n v ≡ cell_values c.globals (put s.globals h i v)) → (o ≡ None → cells_at c s ≡ cell_values c.globals (put s.globals h i v))
+        → Passes (operation_active c s) (cells_at c s) (if_any o (λ cell. event.stores cell v)) (operation_active c s) (cell_values c.globals (put s.globals h i v))
+    passing None there else_ = (refl, else_ refl)
+    passing (Some n) there else_ = (refl, there n refl)
 
-    uses_lawful : (s : LangState) (g : IsGood tree s) (u : Use) (v : ℕ) (back : Shown) → UseKeeps tree g.stands.its (body_size g.stands.its.body + 1) (0 + s.run.place) u
-        → (is_main_role g.stands.its.role ≡ false → Lawful s back) → Lawful s (uses c s u v back)
-    uses_lawful s g Keeps v back h k = goes_lawful s g (suc s.run.place) (omega (arith, h))
-    uses_lawful s g (Drops to) v back h k = goes_lawful s g to h
-    uses_lawful s g (Assigns x to) v back h k = goes_lawful s g to h.1
-    uses_lawful s g (StoresScalar n to) v back h k = writes_lawful s g _ n 0 v to h.0 h.1
-    uses_lawful s g (StoresElement n to) v back h k = by (ltb (s.run.operands 0) (length_of c n)) where
-      by : (t : Bool) → Lawful s (cond t (writes_global c s n (s.run.operands 0) v to) (traps_with s Index))
-      by true = writes_lawful s g _ n (s.run.operands 0) v to h.0 h.1
-      by false = ends_lawful s (trapped Index) g
-    uses_lawful s g (Puts to) v back h k = record { good = to_place s g to h; passes = (refl, refl) }
-    uses_lawful s g (Chooses first second) v back h k = goes_lawful s g _ (by (Rattle.std.specs.Prelude.nat_eq v 0)) where
-      by : (t : Bool) → cond t second first < body_size g.stands.its.body + 1
-      by true = h.1
-      by false = h.0
-    uses_lawful s g Returns v back h k = k h
-    uses_lawful s g Halts v back h k = ends_lawful s halted g
+  uses_lawful : (s : LangState) (g : IsGood tree s) (u : Use) (v : ℕ) (back : Shown) → UseKeeps tree g.stands.its (body_size g.stands.its.body + 1) (0 + s.run.place) u
+      → (is_main_role g.stands.its.role ≡ false → Lawful s back) → Lawful s (uses c s u v back)
+  uses_lawful s g Keeps v back h k = goes_lawful s g (suc s.run.place) (omega (arith, h))
+  uses_lawful s g (Drops to) v back h k = goes_lawful s g to h
+  uses_lawful s g (Assigns x to) v back h k = goes_lawful s g to h.1
+  uses_lawful s g (StoresScalar n to) v back h k = writes_lawful s g _ n 0 v to h.0 h.1
+  uses_lawful s g (StoresElement n to) v back h k = by (ltb (s.run.operands 0) (length_of c n)) where
+    by : (t : Bool) → Lawful s (cond t (writes_global c s n (s.run.operands 0) v to) (traps_with s Index))
+    by true = writes_lawful s g _ n (s.run.operands 0) v to h.0 h.1
+    by false = ends_lawful s (trapped Index) g
+  uses_lawful s g (Puts to) v back h k = record { good = to_place s g to h; passes = λ n. (refl, refl) }
+  uses_lawful s g (Chooses first second) v back h k = goes_lawful s g _ (by (Rattle.std.specs.Prelude.nat_eq v 0)) where
+    by : (t : Bool) → cond t second first < body_size g.stands.its.body + 1
+    by true = h.1
+    by false = h.0
+  uses_lawful s g Returns v back h k = k h
+  uses_lawful s g Halts v back h k = ends_lawful s halted g
 
-    -- ---- returns
+  -- ---- returns
 
-    leaves_passes : (func : ℕ) (r : Run) (rs : List Run) (cells : Cells) → AreCallers tree func (r ∷ rs)
-        → Passes (active_in c func (r ∷ rs)) cells (if_any (operation_at c func) event.leaves) (active_in c r.func rs) cells
-    leaves_passes func r [] cells h = by (operation_at c func) where
-      by : (o : Option ℕ) → Passes o cells (if_any o event.leaves) None cells
-      by None = (refl, refl)
-      by (Some op) = (refl, (refl, refl))
-    leaves_passes func r (q ∷ qs) cells h =
-        subst (λ (o : Option ℕ). Passes (active_in c r.func (q ∷ qs)) cells (if_any o event.leaves) (active_in c r.func (q ∷ qs)) cells) (sym (not_operation func r q qs h)) (refl, refl)
+  leaves_passes : (func : ℕ) (r : Run) (rs : List Run) (cells : Cells) → AreCallers tree func (r ∷ rs)
+      → Passes (active_in c func (r ∷ rs)) cells (if_any (operation_at c func) event.leaves) (active_in c r.func rs) cells
+  leaves_passes func r [] cells h = by (operation_at c func) where
+    by : (o : Option ℕ) → Passes o cells (if_any o event.leaves) None cells
+    by None = (refl, refl)
+    by (Some op) = (refl, (refl, refl))
+  leaves_passes func r (q ∷ qs) cells h =
+      subst (λ (o : Option ℕ). Passes (active_in c r.func (q ∷ qs)) cells (if_any o event.leaves) (active_in c r.func (q ∷ qs)) cells) (sym (not_operation func r q qs h)) (refl, refl)
 
-    resumed : (s : LangState) (v func : ℕ) (r : Run) (rs : List Run) (h : AreCallers tree func (r ∷ rs)) → length (r ∷ rs) ≤ 256
-        → (is_main_role h.0.stands.its.role ≡ false → IsLawful (active_in c r.func rs) (cells_at c s) (given_back c s r.func v rs))
-        → IsLawful (active_in c func (r ∷ rs)) (cells_at c s) (given_back c s func v (r ∷ rs))
-    resumed s v func r rs h few k =
-        let w = h.0 in
-        let st = w.st in
-        let after : LangState = record s { run = takes_value st.use_of st.open_below r v; callers = rs } in
-        let good : IsGood tree after = record { stands = record { its = w.stands.its; is = w.stands.is; within = w.stands.within }; callers = h.1; few = omega (arith, few) } in
-        let used : Lawful after (uses c after st.use_of v (given_back c s r.func v rs)) =
-        uses_lawful after good st.use_of v (given_back c s r.func v rs) (kept r w.stands.its w.stands.is st w.there).kept.use_of k in
-        behind _ _ _ (if_any (operation_at c func) event.leaves) _ (leaves_passes func r rs (cells_at c s) h)
-        (subst (λ (o : Option Step). IsLawful (active_in c r.func rs) (cells_at c s) (resumes c s r rs o v (given_back c s r.func v rs))) (sym w.there) used)
+  resumed : (s : LangState) (v func : ℕ) (r : Run) (rs : List Run) (h : AreCallers tree func (r ∷ rs)) → length (r ∷ rs) ≤ 256
+      → (is_main_role h.0.stands.its.role ≡ false → IsLawful (active_in c r.func rs) (cells_at c s) (given_back c s r.func v rs))
+      → IsLawful (active_in c func (r ∷ rs)) (cells_at c s) (given_back c s func v (r ∷ rs))
+  resumed s v func r rs h few k =
+      let w = h.0 in
+      let st = w.st in
+      let after : LangState = record s { run = takes_value st.use_of st.open_below r v; callers = rs } in
+      let good : IsGood tree after = record { stands = record { its = w.stands.its; is = w.stands.is; within = w.stands.within }; callers = h.1; few = omega (arith, few) } in
+      let used : Lawful after (uses c after st.use_of v (given_back c s r.func v rs)) =
+      uses_lawful after good st.use_of v (given_back c s r.func v rs) (kept r w.stands.its w.stands.is st w.there).kept.use_of k in
+      behind _ _ _ (if_any (operation_at c func) event.leaves) _ (λ n. leaves_passes func r rs (cells_at c s) h)
+      (subst (λ (o : Option Step). IsLawful (active_in c r.func rs) (cells_at c s) (resumes c s r rs o v (given_back c s r.func v rs))) (sym w.there) used)
 
-    back_lawful : (s : LangState) (v func : ℕ) (r : Run) (rs : List Run) → AreCallers tree func (r ∷ rs) → length (r ∷ rs) ≤ 256
-        → IsLawful (active_in c func (r ∷ rs)) (cells_at c s) (given_back c s func v (r ∷ rs))
-    back_lawful s v func r [] h few = resumed s v func r [] h few (λ not_main. absurd (let m = h.1 in let e : h.0.stands.its ≡ m.its = (let two : Some h.0.stands.its ≡ Some m.its = sym h.0.stands.is ∙ m.is in cc) in let t : is_main_role m.its.role ≡ false = ap (λ (f : Function). is_main_role f.role) (sym e) ∙ not_main in let n = m.main in cc))
-    back_lawful s v func r (q ∷ qs) h few = resumed s v func r (q ∷ qs) h few (λ not_main. back_lawful s v r.func q qs h.1 (omega (arith, few)))
+  back_lawful : (s : LangState) (v func : ℕ) (r : Run) (rs : List Run) → AreCallers tree func (r ∷ rs) → length (r ∷ rs) ≤ 256
+      → IsLawful (active_in c func (r ∷ rs)) (cells_at c s) (given_back c s func v (r ∷ rs))
+  back_lawful s v func r [] h few = resumed s v func r [] h few (λ not_main. absurd (let m = h.1 in let e : h.0.stands.its ≡ m.its = (let two : Some h.0.stands.its ≡ Some m.its = sym h.0.stands.is ∙ m.is in cc) in let t : is_main_role m.its.role ≡ false = ap (λ (f : Function). is_main_role f.role) (sym e) ∙ not_main in let n = m.main in cc))
+  back_lawful s v func r (q ∷ qs) h few = resumed s v func r (q ∷ qs) h few (λ not_main. back_lawful s v r.func q qs h.1 (omega (arith, few)))
 
-    returns_lawful : (s : LangState) (g : IsGood tree s) (v : ℕ) → Lawful s (given_back c s s.run.func v s.callers)
-    returns_lawful s g v = by s.callers refl where
-      by : (rs : List Run) → s.callers ≡ rs → Lawful s (given_back c s s.run.func v s.callers)
-      by [] e = subst (λ (rs : List Run). Lawful s (given_back c s s.run.func v rs)) (sym e) (record { good = g; passes = (refl, refl) })
-      by (r ∷ rs) e =
-          let callers : AreCallers tree s.run.func (r ∷ rs) = subst (AreCallers tree s.run.func) e g.callers in
-          let few : length (r ∷ rs) ≤ 256 = subst (λ (l : List Run). length l ≤ 256) e g.few in
-          subst (λ (l : List Run). IsLawful (active_in c s.run.func l) (cells_at c s) (given_back c s s.run.func v l)) (sym e) (back_lawful s v s.run.func r rs callers few)
+  returns_lawful : (s : LangState) (g : IsGood tree s) (v : ℕ) → Lawful s (given_back c s s.run.func v s.callers)
+  returns_lawful s g v = by s.callers refl where
+    by : (rs : List Run) → s.callers ≡ rs → Lawful s (given_back c s s.run.func v s.callers)
+    by [] e = subst (λ (rs : List Run). Lawful s (given_back c s s.run.func v rs)) (sym e) (record { good = g; passes = λ n. (refl, refl) })
+    by (r ∷ rs) e =
+        let callers : AreCallers tree s.run.func (r ∷ rs) = subst (AreCallers tree s.run.func) e g.callers in
+        let few : length (r ∷ rs) ≤ 256 = subst (λ (l : List Run). length l ≤ 256) e g.few in
+        subst (λ (l : List Run). IsLawful (active_in c s.run.func l) (cells_at c s) (given_back c s s.run.func v l)) (sym e) (back_lawful s v s.run.func r rs callers few)
 
-    -- ---- a step
+  -- ---- a step
 
-    module _ (s : LangState) (g : IsGood tree s) (st : Step) (there : step_at c s.run ≡ Some st) where
-      abbrev its : Function
-      its = g.stands.its
+  module _ (s : LangState) (g : IsGood tree s) (st : Step) (there : step_at c s.run ≡ Some st) where
+    abbrev its : Function
+    its = g.stands.its
 
-      keeps_here : UseKeeps tree its (body_size its.body + 1) (0 + s.run.place) st.use_of
-      keeps_here = (kept s.run its g.stands.is st there).kept.use_of
+    keeps_here : UseKeeps tree its (body_size its.body + 1) (0 + s.run.place) st.use_of
+    keeps_here = (kept s.run its g.stands.is st there).kept.use_of
 
-      act_here : ActKeeps tree its (body_room its.body) st.open_below st.act
-      act_here = (kept s.run its g.stands.is st there).kept.act
+    act_here : ActKeeps tree its (body_room its.body) st.open_below st.act
+    act_here = (kept s.run its g.stands.is st there).kept.act
 
-      here_lawful : (v : ℕ) → Lawful s (uses_here c s st v)
-      here_lawful v = uses_lawful s g st.use_of v _ keeps_here (λ not_main. returns_lawful s g v)
+    here_lawful : (v : ℕ) → Lawful s (uses_here c s st v)
+    here_lawful v = uses_lawful s g st.use_of v _ keeps_here (λ not_main. returns_lawful s g v)
 
-      -- with the value held
-      gives_lawful : (inputs : List ℤ) (v : ℕ) → Lawful s (gives c (record s { inputs = inputs }) st v)
-      gives_lawful inputs v =
-          let after : LangState = record s { run = takes_value st.use_of st.open_below s.run v; inputs = inputs } in
-          let good : IsGood tree after = record { stands = record { its = its; is = g.stands.is; within = g.stands.within }; callers = g.callers; few = g.few } in
-          let used : Lawful after (uses c after st.use_of v (given_back c after s.run.func v s.callers)) =
-          uses_lawful after good st.use_of v _ keeps_here (λ not_main. returns_lawful after good v) in
-          record { good = used.good; passes = used.passes }
+    -- with the value held
+    gives_lawful : (inputs : List ℤ) (v : ℕ) → Lawful s (gives c (record s { inputs = inputs }) st v)
+    gives_lawful inputs v =
+        let after : LangState = record s { run = takes_value st.use_of st.open_below s.run v; inputs = inputs } in
+        let good : IsGood tree after = record { stands = record { its = its; is = g.stands.is; within = g.stands.within }; callers = g.callers; few = g.few } in
+        let used : Lawful after (uses c after st.use_of v (given_back c after s.run.func v s.callers)) =
+        uses_lawful after good st.use_of v _ keeps_here (λ not_main. returns_lawful after good v) in
+        record { good = used.good; passes = used.passes }
 
-      gives_if_lawful : (o : Option ℕ) → Lawful s (gives_if c s st o)
-      gives_if_lawful (Some v) = gives_lawful s.inputs v
-      gives_if_lawful None = ends_lawful s (trapped DivZero) g
+    gives_if_lawful : (o : Option ℕ) → Lawful s (gives_if c s st o)
+    gives_if_lawful (Some v) = gives_lawful s.inputs v
+    gives_if_lawful None = ends_lawful s (trapped DivZero) g
 
-      reads_lawful : (test : GlobalItem → Bool) (h i : ℕ) → GlobalIs tree test h → Lawful s (reads_global c s st h i)
-      reads_lawful test h i named =
-          behind (operation_active c s) (operation_active c s) (cells_at c s) (if_any (cell_of c h i) (λ cell. event.loads cell (s.globals h i))) (gives c s st (s.globals h i))
-          (passing (cell_of c h i) (λ n at. told.told n at)) (gives_lawful s.inputs (s.globals h i)) where
-            told : IsNumbered size_in_cells c.globals s.globals h i
-            told = numbered size_in_cells c.globals s.globals h i named.item named.is
+    reads_lawful : (test : GlobalItem → Bool) (h i : ℕ) → GlobalIs tree test h → Lawful s (reads_global c s st h i)
+    reads_lawful test h i named =
+        behind (operation_active c s) (operation_active c s) (cells_at c s) (if_any (cell_of c h i) (λ cell. event.loads cell (s.globals h i))) (gives c s st (s.globals h i))
+        (λ numbered. passing (cell_of c h i) (λ n at. (told numbered).told n at)) (gives_lawful s.inputs (s.globals h i)) where
+          told : ElementsAreNumbered → IsNumbered size_in_cells c.globals s.globals h i
+          told numbered = numbered size_in_cells c.globals s.globals h i named.item named.is
 
-            passing : (o : Option ℕ) → ((n : ℕ) → o ≡ Some n → cells_at c s n ≡ Some (s.globals h i))
-                → Passes (operation_active c s) (cells_at c s) (if_any o (λ cell. event.loads cell (s.globals h i))) (operation_active c s) (cells_at c s)
-            passing None at = (refl, refl)
-            passing (Some n) at = (at n refl, (refl, refl))
+          passing : (o : Option ℕ) → ((n : ℕ) → o ≡ Some n → cells_at c s n ≡ Some (s.globals h i))
+              → Passes (operation_active c s) (cells_at c s) (if_any o (λ cell. event.loads cell (s.globals h i))) (operation_active c s) (cells_at c s)
+          passing None at = (refl, refl)
+          passing (Some n) at = (at n refl, (refl, refl))
 
-      element_lawful : (h i : ℕ) (test : GlobalItem → Bool) → GlobalIs tree test h → (t : Bool) → Lawful s (cond t (reads_global c s st h i) (traps_with s Index))
-      element_lawful h i test named true = reads_lawful test h i named
-      element_lawful h i test named false = ends_lawful s (trapped Index) g
+    element_lawful : (h i : ℕ) (test : GlobalItem → Bool) → GlobalIs tree test h → (t : Bool) → Lawful s (cond t (reads_global c s st h i) (traps_with s Index))
+    element_lawful h i test named true = reads_lawful test h i named
+    element_lawful h i test named false = ends_lawful s (trapped Index) g
 
-      input_lawful : (inputs : List ℤ) → Lawful s (gives_input c s st inputs)
-      input_lawful [] = ends_lawful s (trapped InputEnd) g
-      input_lawful (value ∷ rest) = gives_lawful rest (number value)
+    input_lawful : (inputs : List ℤ) → Lawful s (gives_input c s st inputs)
+    input_lawful [] = ends_lawful s (trapped InputEnd) g
+    input_lawful (value ∷ rest) = gives_lawful rest (number value)
 
-      calls_lawful : (func count : ℕ) (args : List ℕ) → st.act ≡ Calls func count → FunctionIs tree its func count → Lawful s (enters c s func args)
-      calls_lawful func count args calling called_ = by (leb 256 (length s.callers)) refl where
-        waits : Waits tree s.run func
-        waits = record { stands = g.stands; st = st; there = there; count = count; calling = calling }
+    calls_lawful : (func count : ℕ) (args : List ℕ) → st.act ≡ Calls func count → FunctionIs tree its func count → Lawful s (enters c s func args)
+    calls_lawful func count args calling called_ = by (leb 256 (length s.callers)) refl where
+      waits : Waits tree s.run func
+      waits = record { stands = g.stands; st = st; there = there; count = count; calling = calling }
 
-        entering : (rs : List Run) → AreCallers tree s.run.func rs → Passes (active_in c s.run.func rs) (cells_at c s) (if_any (operation_at c func) event.enters) (active_in c func (s.run ∷ rs)) (cells_at c s)
-        entering [] h = one (operation_at c func) where
-          one : (o : Option ℕ) → Passes None (cells_at c s) (if_any o event.enters) o (cells_at c s)
-          one None = (refl, refl)
-          one (Some op) = (refl, (refl, refl))
-        entering (q ∷ qs) h =
-            subst (λ (o : Option ℕ). Passes (active_in c s.run.func (q ∷ qs)) (cells_at c s) (if_any o event.enters) (active_in c s.run.func (q ∷ qs)) (cells_at c s))
-            (sym (not_operation func s.run q qs (waits, h))) (refl, refl)
+      entering : (rs : List Run) → AreCallers tree s.run.func rs → Passes (active_in c s.run.func rs) (cells_at c s) (if_any (operation_at c func) event.enters) (active_in c func (s.run ∷ rs)) (cells_at c s)
+      entering [] h = one (operation_at c func) where
+        one : (o : Option ℕ) → Passes None (cells_at c s) (if_any o event.enters) o (cells_at c s)
+        one None = (refl, refl)
+        one (Some op) = (refl, (refl, refl))
+      entering (q ∷ qs) h =
+          subst (λ (o : Option ℕ). Passes (active_in c s.run.func (q ∷ qs)) (cells_at c s) (if_any o event.enters) (active_in c s.run.func (q ∷ qs)) (cells_at c s))
+          (sym (not_operation func s.run q qs (waits, h))) (refl, refl)
 
-        by : (t : Bool) → leb 256 (length s.callers) ≡ t → Lawful s (cond t (traps_with s Depth) (record { state = entered_with s func args; shown = if_any (operation_at c func) event.enters }))
-        by true deep = ends_lawful s (trapped Depth) g
-        by false shallow = record {
-          good = record {
-            stands = record { its = called_.callee; is = called_.is; within = omega arith };
-            callers = (waits, g.callers);
-            few = omega (arith, leb-false 256 (length s.callers) shallow);
-          };
-          passes = entering s.callers g.callers;
-        }
+      by : (t : Bool) → leb 256 (length s.callers) ≡ t → Lawful s (cond t (traps_with s Depth) (record { state = entered_with s func args; shown = if_any (operation_at c func) event.enters }))
+      by true deep = ends_lawful s (trapped Depth) g
+      by false shallow = record {
+        good = record {
+          stands = record { its = called_.callee; is = called_.is; within = omega arith };
+          callers = (waits, g.callers);
+          few = omega (arith, leb-false 256 (length s.callers) shallow);
+        };
+        passes = λ n. entering s.callers g.callers;
+      }
 
-      acts_lawful : (a : Act) → st.act ≡ a → ActKeeps tree its (body_room its.body) st.open_below a → Lawful s (acts c s st s.run.operands st.open_below a)
-      acts_lawful Begins is h = here_lawful 0
-      acts_lawful Decides is h = here_lawful (s.run.operands st.open_below)
-      acts_lawful ReachesEnd is h = here_lawful 0
-      acts_lawful (Literal value) is h = gives_lawful s.inputs (number (pos value))
-      acts_lawful (ReadsLocal x) is h = gives_lawful s.inputs (s.run.locals x)
-      acts_lawful (ReadsScalar n) is h = reads_lawful _ n 0 h.1
-      acts_lawful (ReadsElement n) is h = element_lawful n (s.run.operands st.open_below) _ h.1 (ltb (s.run.operands st.open_below) (length_of c n))
-      acts_lawful (Calls func count) is h = calls_lawful func count (arguments s.run.operands st.open_below count) is h.2
-      acts_lawful TakesInput is h = input_lawful s.inputs
-      acts_lawful Negates is h = gives_lawful s.inputs (difference 0 (s.run.operands st.open_below))
-      acts_lawful (Operates op) is h = gives_if_lawful (operated op (s.run.operands st.open_below) (s.run.operands (st.open_below + 1)))
+    acts_lawful : (a : Act) → st.act ≡ a → ActKeeps tree its (body_room its.body) st.open_below a → Lawful s (acts c s st s.run.operands st.open_below a)
+    acts_lawful Begins is h = here_lawful 0
+    acts_lawful Decides is h = here_lawful (s.run.operands st.open_below)
+    acts_lawful ReachesEnd is h = here_lawful 0
+    acts_lawful (Literal value) is h = gives_lawful s.inputs (number (pos value))
+    acts_lawful (ReadsLocal x) is h = gives_lawful s.inputs (s.run.locals x)
+    acts_lawful (ReadsScalar n) is h = reads_lawful _ n 0 h.1
+    acts_lawful (ReadsElement n) is h = element_lawful n (s.run.operands st.open_below) _ h.1 (ltb (s.run.operands st.open_below) (length_of c n))
+    acts_lawful (Calls func count) is h = calls_lawful func count (arguments s.run.operands st.open_below count) is h.2
+    acts_lawful TakesInput is h = input_lawful s.inputs
+    acts_lawful Negates is h = gives_lawful s.inputs (difference 0 (s.run.operands st.open_below))
+    acts_lawful (Operates op) is h = gives_if_lawful (operated op (s.run.operands st.open_below) (s.run.operands (st.open_below + 1)))
 
-    pub step_lawful : (s : LangState) → IsGood tree s → Lawful s (lang_step c s)
-    step_lawful s g = by (is_some s.end) where
-      h : HasStep s.run
-      h = has_step s.run g.stands
+  pub step_lawful : (s : LangState) → IsGood tree s → Lawful s (lang_step c s)
+  step_lawful s g = by (is_some s.end) where
+    h : HasStep s.run
+    h = has_step s.run g.stands
 
-      stepped : Lawful s (acts_at c s (step_at c s.run))
-      stepped = subst (λ (o : Option Step). Lawful s (acts_at c s o)) (sym h.there) (acts_lawful s g h.st h.there h.st.act refl (act_here s g h.st h.there))
+    stepped : Lawful s (acts_at c s (step_at c s.run))
+    stepped = subst (λ (o : Option Step). Lawful s (acts_at c s o)) (sym h.there) (acts_lawful s g h.st h.there h.st.act refl (act_here s g h.st h.there))
 
-      by : (t : Bool) → Lawful s (cond t (quietly s) (acts_at c s (step_at c s.run)))
-      by true = record { good = g; passes = (refl, refl) }
-      by false = stepped
+    by : (t : Bool) → Lawful s (cond t (quietly s) (acts_at c s (step_at c s.run)))
+    by true = record { good = g; passes = λ n. (refl, refl) }
+    by false = stepped

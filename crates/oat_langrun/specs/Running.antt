@@ -1,16 +1,19 @@
 -- The state of a run for which an interpreter stands, and what it keeps.
-use Rattle.std.specs.Prelude.{◌≡◌, ◌+◌, ◌<◌, ◌≤◌, ◌^◌, ℕ, [], length, get_or, map, Some}
+use Rattle.std.specs.Prelude.{◌≡◌, ◌+◌, ◌<◌, ◌≤◌, ◌^◌, ℕ, false, List, [], ◌∷◌, length, get_or, map, slice_get, Option, Some}
+use Rattle.oat_check.specs.Rules.{is_main_role}
+use Rattle.oat_events.specs.Events.{leaves}
 use Rattle.oat_meaning.specs.Standing.{finish_of}
 use Rattle.oat_tree.specs.Rules.{IsLang}
-use Rattle.oat_tree.specs.Scopes.{globals_of}
+use Rattle.oat_tree.specs.Scopes.{functions_of, globals_of}
 use Rattle.oat_tree.specs.Seen.{seen_tree}
-use Rattle.oat_tree.specs.Syntax.{Tree}
+use Rattle.oat_tree.specs.Syntax.{Function, Tree}
+use Rattle.oat_langrun.specs.declared.activation.Activation.{Activation}
 use Rattle.oat_langrun.specs.declared.interpreter.Interpreter.{Interpreter}
 use Rattle.oat_langrun.specs.declared.step.Step.{Step}
 use Rattle.oat_langrun.specs.declared.step.Use.{Use}
 use Rattle.oat_langrun.specs.declared.step.Use.TheVariants.{Keeps, StoresScalar, Returns}
 use Rattle.oat_langrun.specs.Keeping.{IsGood}
-use Rattle.oat_langrun.specs.Meaning.{LangState, Shown, first_of, step_at}
+use Rattle.oat_langrun.specs.Meaning.{LangState, Shown, first_of, if_any, operation_at, step_at, takes_value}
 use Rattle.oat_langrun.specs.Memories.{AreWordsOf, values_of}
 use Rattle.oat_langrun.specs.Recording.{events_added}
 use Rattle.oat_langrun.specs.Standing.{run_of}
@@ -61,3 +64,22 @@ pub record IsReady (m : Interpreter) : Type 0 where
 -- at this step
 abbrev pub StandsAt : Interpreter → Step → Type 0
 StandsAt m st = step_at (code_of m) (run_of m.running) ≡ Some st
+
+-- its function was called
+abbrev pub IsCalled : Interpreter → Type 0
+IsCalled m = (f : Function) → slice_get (functions_of (tree_of m)) m.running.func ≡ Some f → is_main_role f.role ≡ false
+
+-- The last caller runs again: the value is put where its step uses it.
+pub record HasResumed (old : Interpreter) (value : ℕ) (use_of : Option Use) (new : Interpreter) : Type 0 where
+  pub caller : Activation
+  pub rest : List Activation
+  pub callers : old.callers ≡ caller ∷ rest
+  pub st : Step
+  pub there : step_at (code_of old) (run_of caller) ≡ Some st
+  pub use_is : use_of ≡ Some st.use_of
+  pub state : state_of new ≡ record (state_of old) { run = takes_value st.use_of st.open_below (run_of caller) value; callers = map run_of rest }
+  pub recorded : new.kept.recorded ≡ events_added old.kept.recorded (if_any (operation_at (code_of old) old.running.func) leaves)
+  pub left : new.kept.left ≡ old.kept.left
+  pub items : new.items.now ≡ old.items.now
+  pub routines : new.routines ≡ old.routines
+  pub memory : new.memory ≡ old.memory

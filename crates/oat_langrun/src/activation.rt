@@ -1,7 +1,7 @@
 //! A function that runs, or waits at the step of its call.
 ghost use Rattle.std.specs.Prelude.{◌≡◌, ℕ, get_or};
 ghost use Rattle.oat_langrun.specs.Meaning.{arguments, takes_value};
-ghost use Rattle.oat_langrun.specs.Standing.{operands_of, run_of};
+ghost use Rattle.oat_langrun.specs.Standing.{locals_of, operands_of, run_of};
 
 use crate::step::Use;
 
@@ -22,6 +22,12 @@ impl Activation {
             Some(value) => *value,
             None => 0,
         }
+    }
+
+    pub fn local(&self, x: u8) -> u64
+        ensures { result ≡ locals_of self.now x }
+    {
+        self.locals[x as usize]
     }
 
     /// Holds a value: as a local where it is assigned, else as an operand.

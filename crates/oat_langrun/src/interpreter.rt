@@ -84,7 +84,7 @@ fn operated(operator: Operator, a: u64, b: u64) -> Option<u64>
 
 impl<'a> Interpreter<'a> {
     ghost use Rattle.oat_langrun.specs.Standing.{operands_of, run_of};
-    ghost use Rattle.oat_langrun.specs.Running.{CanUse, HasStepped, HasWords, code_of, state_of};
+    ghost use Rattle.oat_langrun.specs.Running.{CanUse, HasStepped, HasResumed, HasWords, IsCalled, IsReady, StandsAt, code_of, state_of};
 
     pub fn has_ended(&self) -> bool
         ensures { result ≡ is_some (finish_of self.now.end) }
@@ -172,6 +172,172 @@ impl<'a> Interpreter<'a> {
             }
             Use::Returns => unreachable!(),
             Use::Halts => self.halt(),
+        }
+    }
+
+    /// Goes back to the last caller with a value, and tells what becomes of it there.
+    fn resume(&mut self, value: u64) -> Option<Use>
+        requires ready { IsReady self.old }
+        requires called { IsCalled self.old }
+        ensures { HasResumed self.old value result self.new }
+    {
+        let caller = self.callers.pop()?;
+        let func = self.running.func;
+        let left = self.operation_of(func);
+        self.kept.leave(left);
+        self.running = caller;
+        let step = self.current()?;
+        self.running.take(step.use_of, step.open_below, value);
+        Some(step.use_of)
+    }
+
+    /// Returns a value, also on through callers that return it in turn.
+    fn ret(&mut self, value: u64)
+        requires ready { IsReady self.old }
+        requires called { IsCalled self.old }
+        requires left { 0 < self.old.kept.left }
+        ensures { HasStepped self.old (given_back (code_of self.old) (state_of self.old) self.old.running.func value (state_of self.old).callers) self.new }
+    {
+        let Some(use_of) = self.resume(value) else {
+            unreachable!()
+        };
+        match use_of {
+            Use::Returns => self.ret(value),
+            _ => self.use_value(use_of, value),
+        }
+    }
+
+    /// Uses the value of the step that is made.
+    fn finish(&mut self, step: Step, value: u64)
+        requires ready { IsReady self.old }
+        requires there { StandsAt self.old step }
+        requires left { 0 < self.old.kept.left }
+        ensures { HasStepped self.old (uses_here (code_of self.old) (state_of self.old) step value) self.new }
+    {
+        match step.use_of {
+            Use::Returns => self.ret(value),
+            _ => self.use_value(step.use_of, value),
+        }
+    }
+
+    /// Holds the value of a node, and uses it.
+    fn give(&mut self, step: Step, value: u64)
+        requires ready { IsReady self.old }
+        requires there { StandsAt self.old step }
+        requires left { 0 < self.old.kept.left }
+        ensures { HasStepped self.old (gives (code_of self.old) (state_of self.old) step value) self.new }
+    {
+        self.running.take(step.use_of, step.open_below, value);
+        self.finish(step, value);
+    }
+
+    fn compute(&mut self, step: Step, outcome: Option<u64>)
+        requires ready { IsReady self.old }
+        requires there { StandsAt self.old step }
+        requires left { 0 < self.old.kept.left }
+        ensures { HasStepped self.old (gives_if (code_of self.old) (state_of self.old) step outcome) self.new }
+    {
+        match outcome {
+            Some(value) => self.give(step, value),
+            None => self.trap(TrapKind::DivZero),
+        }
+    }
+
+    fn read(&mut self, step: Step, global: u32, i: usize)
+        requires ready { IsReady self.old }
+        requires there { StandsAt self.old step }
+        requires held { i < length (get_or self.old.memory global []) }
+        requires left { 0 < self.old.kept.left }
+        ensures { HasStepped self.old (reads_global (code_of self.old) (state_of self.old) step global i) self.new }
+    {
+        let value = self.memory.get(global, i);
+        self.give(step, value);
+    }
+
+    fn read_element(&mut self, step: Step, global: u32, i: u64)
+        requires ready { IsReady self.old }
+        requires there { StandsAt self.old step }
+        requires left { 0 < self.old.kept.left }
+        ensures { HasStepped self.old (if nat_lt i (length_of (code_of self.old) global) then reads_global (code_of self.old) (state_of self.old) step global i else traps_with (state_of self.old) Index) self.new }
+    {
+        if i < self.memory.len(global) as u64 {
+            self.read(step, global, i as usize);
+        } else {
+            self.trap(TrapKind::Index);
+        }
+    }
+
+    fn input(&mut self, step: Step)
+        requires ready { IsReady self.old }
+        requires there { StandsAt self.old step }
+        requires left { 0 < self.old.kept.left }
+        ensures { HasStepped self.old (gives_input (code_of self.old) (state_of self.old) step self.old.inputs.now) self.new }
+    {
+        match self.inputs.split_first() {
+            Some((value, rest)) => {
+                self.inputs = rest;
+                self.give(step, value.cast_unsigned());
+            }
+            None => self.trap(TrapKind::InputEnd),
+        }
+    }
+
+    /// Calls a function with some of the operands.
+    fn enter(&mut self, func: u32, below: u8, count: u8)
+        ensures { HasStepped self.old (enters (code_of self.old) (state_of self.old) func (arguments (operands_of self.old.running) below count)) self.new }
+    {
+        if self.callers.len() >= MOST_CALLERS {
+            self.trap(TrapKind::Depth);
+            return;
+        }
+        let callee = Activation {
+            func,
+            place: 0,
+            locals: self.running.pass(below, count),
+            operands: [0; 256],
+        };
+        let caller = mem::replace(&mut self.running, callee);
+        self.callers.push(caller);
+        let entered = self.operation_of(func);
+        self.kept.enter(entered);
+    }
+
+    fn act(&mut self, step: Step)
+        requires ready { IsReady self.old }
+        requires there { StandsAt self.old step }
+        requires left { 0 < self.old.kept.left }
+        ensures { HasStepped self.old (acts (code_of self.old) (state_of self.old) step (operands_of self.old.running) step.open_below step.act) self.new }
+    {
+        let operand = self.running.operand(step.open_below as usize);
+        match step.act {
+            Act::Begins | Act::ReachesEnd => self.finish(step, 0),
+            Act::Decides => self.finish(step, operand),
+            Act::Literal(value) => self.give(step, value),
+            Act::ReadsLocal(x) => {
+                let value = self.running.local(x);
+                self.give(step, value);
+            }
+            Act::ReadsScalar(global) => self.read(step, global, 0),
+            Act::ReadsElement(global) => self.read_element(step, global, operand),
+            Act::Calls(func, count) => self.enter(func, step.open_below, count),
+            Act::TakesInput => self.input(step),
+            Act::Negates => self.give(step, 0_u64.wrapping_sub(operand)),
+            Act::Operates(operator) => {
+                let right = self.running.operand(step.open_below as usize + 1);
+                self.compute(step, operated(operator, operand, right));
+            }
+        }
+    }
+
+    /// Makes a step.
+    pub fn step(&mut self)
+        requires ready { IsReady self.old }
+        requires going { finish_of self.old.end ≡ None }
+        requires left { 0 < self.old.kept.left }
+        ensures { HasStepped self.old (lang_step (code_of self.old) (state_of self.old)) self.new }
+    {
+        if let Some(step) = self.current() {
+            self.act(step);
         }
     }
 }
