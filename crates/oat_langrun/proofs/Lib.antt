@@ -1,5 +1,6 @@
 pub mod Fitting
 pub mod Giving
+pub mod Making
 pub mod Passing
 pub mod Resuming
 pub mod Runs

@@ -1,6 +1,8 @@
 pub mod Fitting
 pub mod Keeping
+pub mod LangRuns
 pub mod Laws
+pub mod Made
 pub mod Meaning
 pub mod Memories
 pub mod Recording

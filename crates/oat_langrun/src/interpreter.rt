@@ -332,7 +332,7 @@ impl<'a> Interpreter<'a> {
     /// Makes a step.
     pub fn step(&mut self)
         requires ready { IsReady self.old }
-        requires going { finish_of self.old.end ≡ None }
+        requires going { is_some (finish_of self.old.end) ≡ false }
         requires left { 0 < self.old.kept.left }
         ensures { HasStepped self.old (lang_step (code_of self.old) (state_of self.old)) self.new }
     {

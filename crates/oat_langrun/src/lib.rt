@@ -8,7 +8,9 @@ pub mod laws;
 mod memory;
 mod record;
 mod routine;
+mod run;
 mod step;
 
 pub use routine::Routine;
+pub use run::LangRun;
 pub use step::{Act, Step, Use};
