@@ -70,7 +70,7 @@ finds_main tree (f ∷ fs) h = by (is_main_role f.role) refl h (finds_main tree 
   by true e k rest = (f, refl, e)
   by false e k rest = rest k
 
-starts_good : (tree : Tree) → IsLang tree → (inputs : List ℤ) → IsGood tree (lang_start (routines_of tree) inputs)
+pub starts_good : (tree : Tree) → IsLang tree → (inputs : List ℤ) → IsGood tree (lang_start (routines_of tree) inputs)
 starts_good tree ok inputs =
     let m = finds_main tree (functions_of tree) ok.main in
     record {
