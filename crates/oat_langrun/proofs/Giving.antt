@@ -1,18 +1,16 @@
 -- What follows where a value was held, read or passed.
-use Rattle.std.proofs.Common.{◌≡◌, ◌+◌, ◌<◌, ◌≤◌, ℕ, List, [], ◌∷◌, ◌++◌, length, get_or, map, replicate, Option, Some, None, refl, sym, ap, subst, ◌∙◌, arith}
+use Rattle.std.proofs.Common.{◌≡◌, ◌<◌, ℕ, List, [], length, get_or, replicate, Option, Some, None, refl, sym, ap, subst, ◌∙◌}
 use Rattle.std.proofs.Math.Path.{fun_ext}
 use Rattle.std.proofs.lemmas.Option.{get_or_from_slice_get, slice_get-get_or}
 use Rattle.oat_events.specs.Events as event
 use Rattle.oat_langrun.specs.declared.activation.Activation.{Activation}
 use Rattle.oat_langrun.specs.declared.interpreter.Interpreter.{Interpreter}
 use Rattle.oat_langrun.specs.declared.step.Step.{Step}
-use Rattle.oat_langrun.specs.declared.step.Use.{Use}
 use Rattle.oat_langrun.specs.Keeping.{IsGood}
-use Rattle.oat_langrun.specs.Meaning.{LangState, Run, Shown, arguments, cell_of, enters, entered_with, first_of, gives, if_any, operation_at, reads_global, shows_behind, step_at, takes_value, uses_here}
-use Rattle.oat_langrun.specs.Memories.{values_of}
+use Rattle.oat_langrun.specs.Meaning.{Run, cell_of, first_of, gives, if_any, reads_global, step_at, takes_value, uses_here}
 use Rattle.oat_langrun.specs.Recording.{entry_added, events_added}
 use Rattle.oat_langrun.specs.Running.{HasStepped, IsReady, StandsAt, code_of, state_of, tree_of}
-use Rattle.oat_langrun.specs.Standing.{locals_of, operands_of, run_of}
+use Rattle.oat_langrun.specs.Standing.{run_of}
 use Rattle.oat_langrun.proofs.Passing.{all_alike}
 use Rattle.oat_langrun.proofs.Words.{events_append, loads_nothing}
 

@@ -1,10 +1,10 @@
 -- An interpreter on its way stands for the run, step by step, and what it has recorded is what the run shows.
-use Rattle.std.proofs.Common.{◌≡◌, ◌+◌, ◌-◌, ◌≤◌, ◌<◌, ◌⊎◌, ℕ, zero, suc, Bool, true, false, cond, eqb, ◌&&◌, ◌||◌, List, [], ◌∷◌, ◌++◌, length, map, Option, Some, None, ℤ, refl, sym, ap, subst, ◌∙◌, inl, inr, arith, append_assoc, append-nil}
+use Rattle.std.proofs.Common.{◌≡◌, ◌+◌, ◌-◌, ◌≤◌, ◌<◌, ◌⊎◌, ℕ, Bool, true, false, cond, eqb, ◌&&◌, ◌||◌, List, [], ◌∷◌, ◌++◌, Option, Some, None, refl, sym, ap, subst, ◌∙◌, inl, inr, arith, append_assoc, append-nil}
 use Rattle.std.specs.Prelude.{is_some}
 use Rattle.std.specs.List.{list_any}
 use Rattle.oat_check.specs.Shown.{written_end}
 use Rattle.oat_events.specs.Events.{SourceEvent, takes, enters, leaves, loads, stores, outputs, is_entered, is_left}
-use Rattle.oat_events.specs.Source.{Finish, SourceMachine, has_completed, outputs_of}
+use Rattle.oat_events.specs.Source.{Finish, SourceMachine, outputs_of}
 use Rattle.oat_events.specs.Windows.{beyond}
 use Rattle.oat_events.proofs.SourceLaws.{shown_from_more, state_after_more}
 use Rattle.oat_ir.specs.declared.source.SourceEnd.{SourceEnd}
@@ -15,9 +15,9 @@ use Rattle.oat_langrun.specs.declared.interpreter.Interpreter.{Interpreter}
 use Rattle.oat_langrun.specs.Keeping.{IsGood}
 use Rattle.oat_langrun.specs.LangRuns.{RunSoFar, completed_so_far, end_so_far, events_so_far, outputs_so_far}
 use Rattle.oat_langrun.specs.Made.{HasReached}
-use Rattle.oat_langrun.specs.Meaning.{LangState, Shown, lang_events, lang_run, lang_start, lang_step, machine_of}
-use Rattle.oat_langrun.specs.Recording.{Recorded, event_added, events_added, nothing_recorded, output_added, when_entered, when_left}
-use Rattle.oat_langrun.specs.Running.{HasStepped, IsReady, code_of, state_of, tree_of}
+use Rattle.oat_langrun.specs.Meaning.{LangState, lang_events, lang_run, lang_start, lang_step, machine_of}
+use Rattle.oat_langrun.specs.Recording.{Recorded, events_added, nothing_recorded, output_added, when_entered, when_left}
+use Rattle.oat_langrun.specs.Running.{HasStepped, code_of, state_of, tree_of}
 use Rattle.oat_langrun.specs.Steps.{Routines, routines_of}
 use Rattle.oat_langrun.proofs.Resuming.{ready_again, same_code}
 use Rattle.oat_langrun.proofs.Runs.{ended_runs_stay}

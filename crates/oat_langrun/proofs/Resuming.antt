@@ -1,5 +1,5 @@
 -- What an interpreter that stands for a good state may rely on, and what follows where a caller is resumed.
-use Rattle.std.proofs.Common.{◌≡◌, ◌+◌, ◌*◌, ◌<◌, ◌≤◌, ◌^◌, ◌⊎◌, ℕ, zero, suc, Bool, true, false, cond, List, [], ◌∷◌, ◌++◌, length, get_or, map, Option, Some, None, refl, sym, ap, subst, ◌∙◌, inl, inr, arith}
+use Rattle.std.proofs.Common.{◌≡◌, ◌+◌, ◌*◌, ◌<◌, ◌≤◌, ◌^◌, ℕ, zero, suc, true, false, List, [], ◌∷◌, length, get_or, map, Option, Some, refl, sym, ap, subst, ◌∙◌, arith}
 use Rattle.std.specs.Prelude.{slice_get}
 use Rattle.std.specs.List.{sum_by}
 use Rattle.std.proofs.lemmas.List.{length-map}
@@ -11,7 +11,7 @@ use Rattle.oat_check.specs.Rules.{is_main_role}
 use Rattle.oat_events.specs.Events as event
 use Rattle.oat_tree.specs.Rules.{IsLang, is_number}
 use Rattle.oat_tree.specs.Scopes.{functions_of, globals_of}
-use Rattle.oat_tree.specs.Sizes.{body_room, stmt_parts, stmts_parts, else_parts, body_parts, function_size, tree_size}
+use Rattle.oat_tree.specs.Sizes.{body_room, stmt_parts, stmts_parts, else_parts, function_size}
 use Rattle.oat_tree.specs.Seen.{seen_tree}
 use Rattle.oat_tree.specs.Syntax.{Stmt, declare, assign, assign_element, choose, repeat, put, return, halt, call_only, Body, no_stmts, stmt, Function, Tree}
 use Rattle.oat_langrun.specs.declared.activation.Activation.{Activation}
@@ -24,9 +24,9 @@ use Rattle.oat_langrun.specs.declared.step.Use.{Use}
 use Rattle.oat_langrun.specs.declared.step.Use.TheVariants.{Keeps, Drops, Assigns, StoresScalar, StoresElement, Puts, Chooses, Returns, Halts}
 use Rattle.oat_langrun.specs.Fitting.{ActKeeps, UseKeeps, GlobalIs}
 use Rattle.oat_langrun.specs.Keeping.{AreCallers, IsGood, Stands, Waits}
-use Rattle.oat_langrun.specs.Meaning.{LangState, Run, Shown, given_back, if_any, operation_at, resumes, shows_behind, step_at, takes_value, uses, uses_here}
+use Rattle.oat_langrun.specs.Meaning.{LangState, Run, Shown, given_back, if_any, operation_at, resumes, shows_behind, step_at, takes_value, uses}
 use Rattle.oat_langrun.specs.Recording.{events_added}
-use Rattle.oat_langrun.specs.Running.{CanUse, HasResumed, HasStepped, HasWords, IsCalled, IsReady, StandsAt, code_of, state_of, tree_of}
+use Rattle.oat_langrun.specs.Running.{CanUse, HasResumed, HasStepped, IsCalled, IsReady, StandsAt, code_of, state_of, tree_of}
 use Rattle.oat_langrun.specs.Standing.{run_of}
 use Rattle.oat_langrun.specs.Steps.{Routines, body_size, routines_of, stmt_size}
 use Rattle.oat_langrun.proofs.Stepping.{kept}
@@ -242,7 +242,7 @@ module _ (old : Interpreter) (value : ℕ) (u : Option Use) (new : Interpreter) 
   returned_used use_of last is t =
       let same : use_of ≡ r.st.use_of = (let two : Some r.st.use_of ≡ Some use_of = sym r.use_is ∙ is in cc) in
       let here : uses (code_of new) (state_of new) use_of value back ≡ uses (code_of old) after r.st.use_of value back =
-          (λ i. uses (code_same i) (r.state i) (same i) value back) in
+      (λ i. uses (code_same i) (r.state i) (same i) value back) in
       subst (λ (n : Shown). HasStepped old n last) (sym whole)
       (behind_resumed _ last (subst (λ (n : Shown). HasStepped new n last) here (t back)))
 
@@ -258,7 +258,7 @@ module _ (old : Interpreter) (value : ℕ) (u : Option Use) (new : Interpreter) 
   returned_on last is t =
       let same : r.st.use_of ≡ Returns = (let two : Some r.st.use_of ≡ Some Returns = sym r.use_is ∙ is in cc) in
       let here : given_back (code_of new) (state_of new) new.running.func value (state_of new).callers ≡ given_back (code_of old) after back_run.func value others =
-          (λ i. given_back (code_same i) (r.state i) (r.state i).run.func value (r.state i).callers) in
+      (λ i. given_back (code_same i) (r.state i) (r.state i).run.func value (r.state i).callers) in
       let used : uses (code_of old) after r.st.use_of value back ≡ back = ap (λ (w : Use). uses (code_of old) after w value back) same in
       subst (λ (n : Shown). HasStepped old n last) (sym (whole ∙ ap (shows_behind left_events) used))
       (behind_resumed back last (subst (λ (n : Shown). HasStepped new n last) (here ∙ same_back others callers_are same) t))
@@ -266,7 +266,7 @@ module _ (old : Interpreter) (value : ℕ) (u : Option Use) (new : Interpreter) 
   pub resumed_less : suc (length new.callers) ≡ length old.callers
   resumed_less =
       let one : length new.callers ≡ length r.rest =
-          sym (length-map new.callers run_of) ∙ ap (λ (s : LangState). length s.callers) r.state ∙ length-map r.rest run_of in
+      sym (length-map new.callers run_of) ∙ ap (λ (s : LangState). length s.callers) r.state ∙ length-map r.rest run_of in
       ap suc one ∙ ap (λ (l : List Activation). length l) (sym r.callers)
 
 -- ---- what is read

@@ -1,10 +1,9 @@
 -- Whole runs: what each step keeps is kept by all.
-use Rattle.std.proofs.Common.{◌≡◌, ◌+◌, ◌≤◌, ℕ, suc, Bool, true, false, cond, ltb, ◌-◌, ◌||◌, List, [], ◌∷◌, ◌++◌, map, Option, option_map, Some, None, ℤ, refl, sym, ap, ◌∙◌, arith}
+use Rattle.std.proofs.Common.{◌≡◌, ◌+◌, ℕ, suc, Bool, true, false, cond, ltb, ◌-◌, ◌||◌, List, [], ◌∷◌, map, Option, Some, ℤ, refl, sym, ap, ◌∙◌, arith}
 use Rattle.std.specs.Prelude.{slice_get, is_some}
 use Rattle.std.specs.List.{list_any}
 use Rattle.std.proofs.lemmas.List.Elements.{filter_map-append}
 use Rattle.std.proofs.lemmas.Bool.{ltb-true, ltb-false}
-use Rattle.oat_events.specs.Events.{SourceEvent}
 use Rattle.oat_events.specs.Source.{Finish, SourceKeeps, SourceMachine, shown_from, state_after, outputs_of, output_in}
 use Rattle.oat_events.proofs.SourceLaws as source
 use Rattle.oat_check.specs.Rules.{is_main_role}
@@ -12,7 +11,7 @@ use Rattle.oat_check.specs.RunLaws.{ElementsAreNumbered}
 use Rattle.oat_tree.specs.Rules.{IsLang}
 use Rattle.oat_tree.specs.Scopes.{functions_of}
 use Rattle.oat_tree.specs.Syntax.{Function, Tree}
-use Rattle.oat_langrun.specs.Keeping.{IsGood, IsMain, operation_active, cells_at, first_cells}
+use Rattle.oat_langrun.specs.Keeping.{IsGood, operation_active, cells_at, first_cells}
 use Rattle.oat_langrun.specs.Laws.{LongerRunsGoOn, EndedRunsStay, EndsAreOne, RunsAreGood, RunsPass}
 use Rattle.oat_langrun.specs.Meaning.{LangState, Shown, quietly, acts_at, step_at, lang_step, lang_start, lang_run, lang_events, machine_of, main_at}
 use Rattle.oat_langrun.specs.Steps.{Routines, routines_of, routine_of}

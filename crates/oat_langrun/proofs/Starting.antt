@@ -1,31 +1,26 @@
 -- A run that has made no step.
-use Rattle.std.proofs.Common.{◌≡◌, ◌+◌, ◌≤◌, ◌<◌, ◌^◌, ℕ, List, [], ◌∷◌, length, get_or, map, replicate, Option, Some, None, ℤ, refl, sym, ap, subst, ◌∙◌, arith}
-use Rattle.std.specs.List.{filter_map}
+use Rattle.std.proofs.Common.{◌≡◌, ◌≤◌, ◌<◌, ◌^◌, ℕ, List, [], ◌∷◌, length, get_or, map, replicate, ℤ, sym, ap, subst, ◌∙◌, arith}
 use Rattle.std.proofs.Math.Path.{fun_ext}
 use Rattle.std.proofs.lemmas.List.{length-map}
 use Rattle.oat_check.specs.Globals.{size_in_words}
-use Rattle.oat_ir.specs.declared.source.SourceEnd.{SourceEnd}
 use Rattle.oat_ir.specs.declared.source.SourceEnd.TheVariants.{OutOfSteps}
 use Rattle.oat_meaning.specs.Standing.{finish_of}
 use Rattle.oat_tree.specs.declared.item.Item.{Item}
 use Rattle.oat_tree.specs.Rules.{IsLang}
-use Rattle.oat_tree.specs.Scopes.{function_in, functions_of, globals_of}
+use Rattle.oat_tree.specs.Scopes.{functions_of, globals_of}
 use Rattle.oat_tree.specs.Seen.{seen_tree}
-use Rattle.oat_tree.specs.Sizes.{tree_size}
 use Rattle.oat_tree.specs.Syntax as tree
 use Rattle.oat_tree.specs.Syntax.{Function, Tree}
-use Rattle.oat_langrun.specs.declared.activation.Activation.{Activation}
 use Rattle.oat_langrun.specs.declared.interpreter.Interpreter.{Interpreter}
-use Rattle.oat_langrun.specs.declared.routine.Routine.{Routine}
 use Rattle.oat_langrun.specs.Keeping.{IsGood}
 use Rattle.oat_langrun.specs.LangRuns.{first_run}
 use Rattle.oat_langrun.specs.Made.{HasReached}
-use Rattle.oat_langrun.specs.Meaning.{LangState, Run, first_of, lang_start, main_at}
+use Rattle.oat_langrun.specs.Meaning.{first_of, lang_start, main_at}
 use Rattle.oat_langrun.specs.Memories.{first_words, values_of}
 use Rattle.oat_langrun.specs.Recording.{RoomyRecord, nothing_recorded}
-use Rattle.oat_langrun.specs.Running.{IsReady, code_of, state_of, tree_of}
+use Rattle.oat_langrun.specs.Running.{code_of, state_of}
 use Rattle.oat_langrun.specs.Standing.{run_of}
-use Rattle.oat_langrun.specs.Steps.{Routines, routine_of, routines_of}
+use Rattle.oat_langrun.specs.Steps.{routine_of, routines_of}
 use Rattle.oat_langrun.proofs.Passing.{all_alike}
 use Rattle.oat_langrun.proofs.Runs.{starts_good}
 use Rattle.oat_langrun.proofs.Words.{values_start, words_start}

@@ -1,11 +1,11 @@
 -- Each step of a run leads to a good state, and what it shows keeps the rule of operations and cells.
-use Rattle.std.proofs.Common.{◌≡◌, ◌+◌, ◌<◌, ◌≤◌, inl, inr, ℕ, zero, suc, Bool, true, false, cond, List, [], ◌∷◌, ◌++◌, length, map, get_or, Option, option_map, Some, None, ℤ, pos, refl, sym, ap, subst, ◌∙◌, arith, ltb, leb, length-append}
+use Rattle.std.proofs.Common.{◌≡◌, ◌+◌, ◌<◌, ◌≤◌, inl, inr, ℕ, suc, Bool, true, false, cond, List, [], ◌∷◌, length, get_or, Option, option_map, Some, None, ℤ, pos, refl, sym, ap, subst, ◌∙◌, arith, ltb, leb, length-append}
 use Rattle.std.specs.Prelude.{slice_get, is_some, ◌⊎◌}
 use Rattle.std.specs.Option.{option_and_then}
 use Rattle.std.specs.List.{list_any}
-use Rattle.std.proofs.lemmas.Option.{slice_get-map, slice_get-get_or, slice_get_within}
+use Rattle.std.proofs.lemmas.Option.{slice_get-map, slice_get-get_or}
 use Rattle.std.proofs.lemmas.Bool.{leb-false}
-use Rattle.oat_bits.specs.Words.{signed, difference}
+use Rattle.oat_bits.specs.Words.{difference}
 use Rattle.oat_map.specs.declared.trap.TrapKind.TheVariants.{DivZero, Index, Depth, InputEnd}
 use Rattle.oat_ir.specs.declared.func.Role.{Role}
 use Rattle.oat_ir.specs.declared.func.Role.TheVariants.{Plain, Operation, Main}
@@ -29,8 +29,8 @@ use Rattle.oat_langrun.specs.declared.step.Act.TheVariants.{Begins, Decides, Rea
 use Rattle.oat_langrun.specs.declared.step.Step.{Step}
 use Rattle.oat_langrun.specs.declared.step.Use.{Use}
 use Rattle.oat_langrun.specs.declared.step.Use.TheVariants.{Keeps, Drops, Assigns, StoresScalar, StoresElement, Puts, Chooses, Returns, Halts}
-use Rattle.oat_langrun.specs.Fitting.{ActKeeps, UseKeeps, FunctionIs, GlobalIs, StepKeeps}
-use Rattle.oat_langrun.specs.Keeping.{Stands, Waits, IsMain, AreCallers, IsGood, active_in, operation_active, cells_at}
+use Rattle.oat_langrun.specs.Fitting.{ActKeeps, UseKeeps, FunctionIs, GlobalIs}
+use Rattle.oat_langrun.specs.Keeping.{Stands, Waits, AreCallers, IsGood, active_in, operation_active, cells_at}
 use Rattle.oat_langrun.specs.Meaning.{Run, LangState, Shown, step_at, operation_at, quietly, ends_with, traps_with, shows_behind, if_any, length_of, cell_of, goes_on_at, takes_value, writes_global, uses, resumes, given_back, uses_here, gives, gives_if, reads_global, entered_with, arguments, enters, gives_input, operated, acts, acts_at, lang_step}
 use Rattle.oat_langrun.specs.declared.routine.Routine.{Routine}
 use Rattle.oat_langrun.specs.Steps.{step, Routines, routines_of, routine_of, function_steps, body_steps, body_size, end_use}

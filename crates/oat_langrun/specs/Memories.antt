@@ -1,5 +1,5 @@
 -- The words in which the globals of a text are kept.
-use Rattle.std.specs.Prelude.{◌≡◌, ◌<◌, ℕ, List, [], length, map, get_or, replicate}
+use Rattle.std.specs.Prelude.{◌≡◌, ℕ, List, [], length, map, get_or, replicate}
 use Rattle.oat_ir.specs.declared.program.GlobalItem.{GlobalItem}
 use Rattle.oat_check.specs.Globals.{Values, size_in_words, start_of}
 

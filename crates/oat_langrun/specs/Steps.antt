@@ -1,16 +1,11 @@
 -- The steps of a body, in the order of the text: a statement is begun, a node is evaluated behind its operands, the test of a `while` is decided, and the end of the body is reached. Places count them from 0.
-use Rattle.std.specs.Prelude.{ℕ, suc, ◌+◌, Bool, if◌then◌else◌, List, [], ◌∷◌, ◌++◌, length, map}
-use Rattle.std.specs.Str.{bytes_eq}
-use Rattle.std.specs.List.{list_any, filter_map}
-use Rattle.std.specs.Prelude.{Option, Some, None}
+use Rattle.std.specs.Prelude.{ℕ, ◌+◌, if◌then◌else◌, List, [], ◌∷◌, ◌++◌, length, map}
 use Rattle.oat_ir.specs.declared.func.Role.{Role}
 use Rattle.oat_ir.specs.declared.func.Role.TheVariants.{Main}
 use Rattle.oat_ir.specs.declared.program.GlobalItem.{GlobalItem}
-use Rattle.oat_ir.specs.Distinct.{global_name}
 use Rattle.oat_tree.specs.Scopes.{Scope, is_in, number_of, functions_of, globals_of, scope_of, function_locals}
 use Rattle.oat_tree.specs.Sizes.{expr_size, exprs_size, exprs_count}
-use Rattle.oat_tree.specs.Syntax.{Word, Expr, number, name, element, call, input, negative, binary, Exprs, no_exprs, expr, Stmt, declare, assign, assign_element, choose, repeat, put, return, halt, call_only, Body, no_stmts, stmt, Function, Item, global, function, Tree}
-use Rattle.oat_tree.specs.declared.operator.Operator.{Operator}
+use Rattle.oat_tree.specs.Syntax.{Word, Expr, number, name, element, call, input, negative, binary, Exprs, no_exprs, expr, Stmt, declare, assign, assign_element, choose, repeat, put, return, halt, call_only, Body, no_stmts, stmt, Function, Tree}
 use Rattle.oat_langrun.specs.declared.step.Act.{Act}
 use Rattle.oat_langrun.specs.declared.step.Act.TheVariants.{Begins, Decides, ReachesEnd, Literal, ReadsLocal, ReadsScalar, ReadsElement, Calls, TakesInput, Negates, Operates}
 use Rattle.oat_langrun.specs.declared.routine.Routine.{Routine}

@@ -1,11 +1,11 @@
 -- The meaning computed on worked texts.
-use Rattle.std.specs.Prelude.{◌≡◌, ℕ, suc, ℤ, List, [], ◌∷◌, ◌++◌, Bool, length, Option, Some, None, pos, negsuc, true, false, codes, replicate}
+use Rattle.std.specs.Prelude.{◌≡◌, ℕ, suc, ℤ, List, [], ◌∷◌, length, Option, Some, None, pos, negsuc, true, false, codes, replicate}
 use Rattle.oat_map.specs.declared.trap.TrapKind.TheVariants.{DivZero, Index, Depth, InputEnd}
 use Rattle.oat_ir.specs.declared.program.GlobalItem.TheVariants.{Scalar, Array, CriticalArray}
 use Rattle.oat_ir.specs.declared.func.Role.{Role}
 use Rattle.oat_ir.specs.declared.func.Role.TheVariants.{Plain, Operation, Main}
 use Rattle.oat_events.specs.Source.{Finish, halted, trapped, CellValue, outputs_of, has_completed, loads_of_call, stores_up_to_call}
-use Rattle.oat_tree.specs.Syntax.{Word, Expr, number, name, element, call, input, negative, binary, Exprs, no_exprs, expr, Stmt, declare, assign, assign_element, choose, repeat, put, return, halt, call_only, Body, no_stmts, Item, global, function, Tree, body_of_list, exprs_of_list}
+use Rattle.oat_tree.specs.Syntax.{Word, Expr, number, name, element, call, input, negative, binary, no_exprs, Stmt, declare, assign, assign_element, choose, repeat, put, return, halt, call_only, no_stmts, Item, global, function, Tree, body_of_list, exprs_of_list}
 use Rattle.oat_tree.specs.declared.operator.Operator.TheVariants.{Less, ShiftLeft, ShiftRight, Plus, Minus, Times, Quotient, Remainder}
 use Rattle.oat_langrun.specs.Meaning.{lang_run, lang_events}
 

@@ -1,4 +1,4 @@
-use Rattle.std.proofs.Common.{◌≡◌, ◌+◌, ◌<◌, suc, length, Some, ap, ◌∙◌, arith}
+use Rattle.std.proofs.Common.{Some, ap, ◌∙◌, arith}
 use Rattle.oat_langrun.proofs.Resuming.{resumed_ready, resumed_called, resumed_uses, resumed_less, returned_on, returned_used}
 use Rattle.oat_langrun.proofs.interpreter.Interpreter.+ret.Goals as goal
 
@@ -8,8 +8,7 @@ ret-requires t c =
     let new = c.resume.new.self in
     let back = c.resume.ensures in
     let is = c.in-Some.is ∙ ap Some c.in-Returns.is in
-    let less = resumed_less old c.args.value c.resume.result new c.requires.ready back in
-    (
+    let less = resumed_less old c.args.value c.resume.result new c.requires.ready back in (
       omega (arith, less, c.decreases),
       (resumed_ready old c.args.value c.resume.result new c.requires.ready back, (resumed_called old c.args.value c.resume.result new c.requires.ready back is, omega (arith, c.requires.left, back.left))),
     )

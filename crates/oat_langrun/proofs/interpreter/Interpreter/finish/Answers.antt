@@ -1,9 +1,6 @@
-use Rattle.std.proofs.Common.{◌≡◌, ◌+◌, ap, sym, ◌∙◌, subst}
-use Rattle.oat_langrun.specs.declared.step.Use.{Use}
-use Rattle.oat_langrun.specs.declared.step.Use.TheVariants.{Returns}
+use Rattle.std.proofs.Common.{◌+◌, subst}
 use Rattle.oat_langrun.specs.Fitting.{UseKeeps}
-use Rattle.oat_langrun.specs.Meaning.{Shown, given_back, uses}
-use Rattle.oat_langrun.specs.Running.{HasStepped, code_of, state_of, tree_of}
+use Rattle.oat_langrun.specs.Running.{tree_of}
 use Rattle.oat_langrun.specs.Steps.{body_size}
 use Rattle.oat_langrun.proofs.Resuming.{can_use, is_called, use_keeps}
 use Rattle.oat_langrun.proofs.interpreter.Interpreter.finish.Goals as goal

@@ -1,6 +1,6 @@
-use Rattle.std.proofs.Common.{◌≡◌, ◌+◌, ℕ, List, [], get_or, set, map, length, ap, sym, ◌∙◌, refl, arith}
+use Rattle.std.proofs.Common.{map, length, ap, sym, ◌∙◌, refl, arith}
 use Rattle.oat_check.specs.Globals.{Values}
-use Rattle.oat_langrun.specs.Meaning.{LangState, cell_of, first_of, goes_on_at}
+use Rattle.oat_langrun.specs.Meaning.{cell_of, first_of, goes_on_at}
 use Rattle.oat_langrun.specs.Memories.{values_of}
 use Rattle.oat_langrun.specs.Running.{code_of, state_of}
 use Rattle.oat_langrun.proofs.Words.{put_lengths, put_values, stores_nothing}

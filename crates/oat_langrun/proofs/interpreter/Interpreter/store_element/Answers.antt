@@ -1,11 +1,9 @@
-use Rattle.std.proofs.Common.{◌≡◌, ◌<◌, ◌≤◌, ℕ, Bool, cond, ltb, ap, sym, subst, ◌∙◌, arith}
+use Rattle.std.proofs.Common.{◌<◌, ◌≤◌, ℕ, Bool, cond, sym, subst, ◌∙◌, arith}
 use Rattle.std.proofs.lemmas.Bool.{lt-ltb, le-ltb}
 use Rattle.oat_map.specs.declared.trap.TrapKind.TheVariants.{Index}
-use Rattle.oat_langrun.specs.declared.interpreter.Interpreter.{Interpreter}
 use Rattle.oat_langrun.specs.Meaning.{length_of, traps_with, writes_global}
 use Rattle.oat_langrun.specs.Running.{HasStepped, code_of, state_of}
 use Rattle.oat_langrun.specs.Standing.{operands_of}
-use Rattle.oat_langrun.specs.Meaning.{Shown}
 use Rattle.oat_langrun.proofs.Words.{length_is}
 use Rattle.oat_langrun.proofs.interpreter.Interpreter.store_element.Goals as goal
 

@@ -1,4 +1,4 @@
-use Rattle.std.proofs.Common.{◌≡◌, ◌<◌, ◌∙◌, List, length, replicate, refl, sym, ap, subst}
+use Rattle.std.proofs.Common.{◌<◌, ◌∙◌, List, length, refl, sym, ap, subst}
 use Rattle.oat_tree.specs.Seen.{seen_tree}
 use Rattle.oat_langrun.specs.declared.routine.Routine.{Routine}
 use Rattle.oat_langrun.specs.Meaning.{main_at}
