@@ -10,5 +10,6 @@ mod lines;
 mod record;
 mod source;
 
+pub use arithmetic::result_of;
 pub use oat_ir::{CriticalLoad, SourceEdge, SourceEnd, SourceSite};
 pub use source::Source;

@@ -1,0 +1,11 @@
+pub mod Grammar
+pub mod Machine
+pub mod Words
+pub mod Texts
+pub mod Nodes
+pub mod Spots
+pub mod FirstFaults
+pub mod Printing
+pub mod Mentions
+pub mod Spelling
+pub mod Ranges

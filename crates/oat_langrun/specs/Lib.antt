@@ -1,0 +1,12 @@
+pub mod Fitting
+pub mod Keeping
+pub mod LangRuns
+pub mod Laws
+pub mod Made
+pub mod Meaning
+pub mod Memories
+pub mod Recording
+pub mod Running
+pub mod Standing
+pub mod Steps
+pub mod Worked
