@@ -23,16 +23,28 @@ mutual
   unary_stays (numbered k) n rest few s = (few, s)
   unary_stays (named x) n rest few s = (few, s)
   unary_stays taken n rest few s = (few, s)
-  unary_stays (indexed x {ts} {e} d) n rest few s =
-      (omega arith, (omega arith, regrouped (counted (n + 1 + 0)) ts (Fixed mark.CloseSquare ∷ []) rest
-      (joined_stays d (n + 1 + 0) (Fixed mark.CloseSquare ∷ rest) (omega arith) (omega arith, at_count _ (omega arith) s))))
-  unary_stays (called f {ts} {es} d) n rest few s =
-      (omega arith, (omega arith, regrouped (counted (n + 1 + 0)) ts (Fixed mark.CloseRound ∷ []) rest
-      (arguments_stay d (n + 1 + 0) (Fixed mark.CloseRound ∷ rest) (omega arith) (omega arith, at_count _ (omega arith) s))))
+  unary_stays (indexed x {ts} {e} d) n rest few s = (
+    omega arith,
+    (
+      omega arith,
+      regrouped (counted (n + 1 + 0)) ts (Fixed mark.CloseSquare ∷ []) rest
+          (joined_stays d (n + 1 + 0) (Fixed mark.CloseSquare ∷ rest) (omega arith) (omega arith, at_count _ (omega arith) s)),
+    ),
+  )
+  unary_stays (called f {ts} {es} d) n rest few s = (
+    omega arith,
+    (
+      omega arith,
+      regrouped (counted (n + 1 + 0)) ts (Fixed mark.CloseRound ∷ []) rest
+          (arguments_stay d (n + 1 + 0) (Fixed mark.CloseRound ∷ rest) (omega arith) (omega arith, at_count _ (omega arith) s)),
+    ),
+  )
   unary_stays (negated d) n rest few s = (omega arith, unary_stays d (n + 1) rest (omega arith) (at_count _ (omega arith) s))
-  unary_stays (bracketed {ts} {e} d) n rest few s =
-      (omega arith, regrouped (counted (n + 0)) ts (Fixed mark.CloseRound ∷ []) rest
-      (joined_stays d (n + 0) (Fixed mark.CloseRound ∷ rest) (omega arith) (omega arith, at_count _ (omega arith) s)))
+  unary_stays (bracketed {ts} {e} d) n rest few s = (
+    omega arith,
+    regrouped (counted (n + 0)) ts (Fixed mark.CloseRound ∷ []) rest
+        (joined_stays d (n + 0) (Fixed mark.CloseRound ∷ rest) (omega arith) (omega arith, at_count _ (omega arith) s)),
+  )
 
   joined_stays : {k : ℕ} {ts : List Token} {e : Expr} → IsJoined k ts e → (n : ℕ) (rest : List Token) → n + expr_size e ≤ 255 → StayShort (counted (n + expr_size e)) rest → StayShort (counted n) (ts ++ rest)
   joined_stays (alone d) n rest few s = unary_stays d n rest few s
@@ -59,28 +71,46 @@ mutual
   stmt_stays : {ts : List Token} {s : Stmt} → IsStmt ts s → (rest : List Token) → IsShort s → StayShort fresh rest → StayShort fresh (ts ++ rest)
   stmt_stays (declares x d) rest few s = (omega arith, (omega arith, (omega arith, expr_stays d (0 + 0) (Fixed mark.Semicolon ∷ []) rest (omega (arith, few)) (omega arith, s))))
   stmt_stays (assigns x d) rest few s = (omega arith, (omega arith, expr_stays d (0 + 0) (Fixed mark.Semicolon ∷ []) rest (omega (arith, few)) (omega arith, s)))
-  stmt_stays (stores x {us} {e} {vs} {f} d c) rest few s =
-      (omega arith, (omega arith, regrouped (counted (0 + 0)) (us ++ Fixed mark.CloseSquare ∷ Fixed mark.Assign ∷ vs) (Fixed mark.Semicolon ∷ []) rest
-      (expr_stays d (0 + 0) (Fixed mark.CloseSquare ∷ Fixed mark.Assign ∷ vs) (Fixed mark.Semicolon ∷ rest) (omega (arith, few))
-      (omega (arith, few), (omega (arith, few), joined_stays c (0 + 0 + expr_size e + 0 + 0) (Fixed mark.Semicolon ∷ rest) (omega (arith, few)) (omega arith, s))))))
-  stmt_stays (chooses {ts} d (braced {ts = ws} ds)) rest few s =
-      (omega arith, expr_stays d (0 + 0) (Fixed mark.OpenBrace ∷ ws ++ Fixed mark.CloseBrace ∷ []) rest (omega (arith, few.0))
-      (omega arith, regrouped fresh ws (Fixed mark.CloseBrace ∷ []) rest (stmts_stay ds (Fixed mark.CloseBrace ∷ rest) few.1 (omega arith, s))))
-  stmt_stays (chooses_else {ts} d (braced {ts = ws} ds) (braced {ts = xs} fs)) rest few s =
-      (omega arith, regrouped (counted (0 + 0)) (ts ++ (Fixed mark.OpenBrace ∷ ws ++ Fixed mark.CloseBrace ∷ [])) (Fixed mark.Else ∷ Fixed mark.OpenBrace ∷ xs ++ Fixed mark.CloseBrace ∷ []) rest
-      (expr_stays d (0 + 0) (Fixed mark.OpenBrace ∷ ws ++ Fixed mark.CloseBrace ∷ []) (Fixed mark.Else ∷ Fixed mark.OpenBrace ∷ xs ++ Fixed mark.CloseBrace ∷ [] ++ rest) (omega (arith, few.0))
-      (omega arith, regrouped fresh ws (Fixed mark.CloseBrace ∷ []) (Fixed mark.Else ∷ Fixed mark.OpenBrace ∷ xs ++ Fixed mark.CloseBrace ∷ [] ++ rest)
-      (stmts_stay ds (Fixed mark.CloseBrace ∷ Fixed mark.Else ∷ Fixed mark.OpenBrace ∷ xs ++ Fixed mark.CloseBrace ∷ [] ++ rest) few.1
-      (omega arith, (omega arith, (omega arith, regrouped fresh xs (Fixed mark.CloseBrace ∷ []) rest (stmts_stay fs (Fixed mark.CloseBrace ∷ rest) few.2 (omega arith, s)))))))))
-  stmt_stays (repeats {ts} d (braced {ts = ws} ds)) rest few s =
-      (omega arith, expr_stays d (0 + 0) (Fixed mark.OpenBrace ∷ ws ++ Fixed mark.CloseBrace ∷ []) rest (omega (arith, few.0))
-      (omega arith, regrouped fresh ws (Fixed mark.CloseBrace ∷ []) rest (stmts_stay ds (Fixed mark.CloseBrace ∷ rest) few.1 (omega arith, s))))
+  stmt_stays (stores x {us} {e} {vs} {f} d c) rest few s = (
+    omega arith,
+    (
+      omega arith,
+      regrouped (counted (0 + 0)) (us ++ Fixed mark.CloseSquare ∷ Fixed mark.Assign ∷ vs) (Fixed mark.Semicolon ∷ []) rest
+          (expr_stays d (0 + 0) (Fixed mark.CloseSquare ∷ Fixed mark.Assign ∷ vs) (Fixed mark.Semicolon ∷ rest) (omega (arith, few))
+          (omega (arith, few), (omega (arith, few), joined_stays c (0 + 0 + expr_size e + 0 + 0) (Fixed mark.Semicolon ∷ rest) (omega (arith, few)) (omega arith, s)))),
+    ),
+  )
+  stmt_stays (chooses {ts} d (braced {ts = ws} ds)) rest few s = (
+    omega arith,
+    expr_stays d (0 + 0) (Fixed mark.OpenBrace ∷ ws ++ Fixed mark.CloseBrace ∷ []) rest (omega (arith, few.0))
+        (omega arith, regrouped fresh ws (Fixed mark.CloseBrace ∷ []) rest (stmts_stay ds (Fixed mark.CloseBrace ∷ rest) few.1 (omega arith, s))),
+  )
+  stmt_stays (chooses_else {ts} d (braced {ts = ws} ds) (braced {ts = xs} fs)) rest few s = (
+    omega arith,
+    regrouped (counted (0 + 0)) (ts ++ (Fixed mark.OpenBrace ∷ ws ++ Fixed mark.CloseBrace ∷ [])) (Fixed mark.Else ∷ Fixed mark.OpenBrace ∷ xs ++ Fixed mark.CloseBrace ∷ []) rest
+        (expr_stays d (0 + 0) (Fixed mark.OpenBrace ∷ ws ++ Fixed mark.CloseBrace ∷ []) (Fixed mark.Else ∷ Fixed mark.OpenBrace ∷ xs ++ Fixed mark.CloseBrace ∷ [] ++ rest) (omega (arith, few.0)) (
+          omega arith,
+          regrouped fresh ws (Fixed mark.CloseBrace ∷ []) (Fixed mark.Else ∷ Fixed mark.OpenBrace ∷ xs ++ Fixed mark.CloseBrace ∷ [] ++ rest)
+              (stmts_stay ds (Fixed mark.CloseBrace ∷ Fixed mark.Else ∷ Fixed mark.OpenBrace ∷ xs ++ Fixed mark.CloseBrace ∷ [] ++ rest) few.1
+              (omega arith, (omega arith, (omega arith, regrouped fresh xs (Fixed mark.CloseBrace ∷ []) rest (stmts_stay fs (Fixed mark.CloseBrace ∷ rest) few.2 (omega arith, s)))))),
+        )),
+  )
+  stmt_stays (repeats {ts} d (braced {ts = ws} ds)) rest few s = (
+    omega arith,
+    expr_stays d (0 + 0) (Fixed mark.OpenBrace ∷ ws ++ Fixed mark.CloseBrace ∷ []) rest (omega (arith, few.0))
+        (omega arith, regrouped fresh ws (Fixed mark.CloseBrace ∷ []) rest (stmts_stay ds (Fixed mark.CloseBrace ∷ rest) few.1 (omega arith, s))),
+  )
   stmt_stays (puts d) rest few s = (omega arith, expr_stays d (0 + 0) (Fixed mark.Semicolon ∷ []) rest (omega (arith, few)) (omega arith, s))
   stmt_stays (returns d) rest few s = (omega arith, expr_stays d (0 + 0) (Fixed mark.Semicolon ∷ []) rest (omega (arith, few)) (omega arith, s))
   stmt_stays halts rest few s = (omega arith, (omega arith, s))
-  stmt_stays (calls f {ts} d) rest few s =
-      (omega arith, (omega arith, regrouped (counted 1) ts (Fixed mark.CloseRound ∷ Fixed mark.Semicolon ∷ []) rest
-      (arguments_stay d 1 (Fixed mark.CloseRound ∷ Fixed mark.Semicolon ∷ rest) few (omega (arith, few), (omega arith, s)))))
+  stmt_stays (calls f {ts} d) rest few s = (
+    omega arith,
+    (
+      omega arith,
+      regrouped (counted 1) ts (Fixed mark.CloseRound ∷ Fixed mark.Semicolon ∷ []) rest
+          (arguments_stay d 1 (Fixed mark.CloseRound ∷ Fixed mark.Semicolon ∷ rest) few (omega (arith, few), (omega arith, s))),
+    ),
+  )
 
   stmts_stay : {ts : List Token} {b : Body} → IsStmts ts b → (rest : List Token) → AreShort b → StayShort fresh rest → StayShort fresh (ts ++ rest)
   stmts_stay empty rest few s = s
