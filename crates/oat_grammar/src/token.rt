@@ -7,7 +7,7 @@ use oat_map::Name;
 use oat_tree::Operator;
 
 /// A word or sign that always means the same.
-#[derive(Clone, Copy, Debug, PartialEq, Eq)]
+#[derive(Clone, Copy, PartialEq, Eq)]
 pub enum Mark {
     Global,
     Critical,
@@ -35,7 +35,7 @@ pub enum Mark {
 }
 
 /// A word of a text. The minus before one operand is the operator's.
-#[derive(Debug, Drop)]
+#[derive(Drop)]
 pub enum Token {
     Named(Name),
     Number(u64),

@@ -1,8 +1,8 @@
 //! Damage to the blob of a run: each of its bytes changed, or where it is cut off, and a byte that follows it.
 
-use super::files::BLOB_CALLS;
-use super::verdicts::CALLS_PATH;
-use super::{expect, files_of};
+use super::texts::{BLOB_CALLS, CASE};
+use super::{CALLS_PATH, changed_file, expect_among, file};
+use oat_image::worked::CALLS;
 use std::alloc::{AllocError, Global};
 use std::process::Abort;
 use std::test::Fail;
@@ -77,6 +77,11 @@ const NUMBERED_WINDOW: [Damage; 17] = [
 const BLOB_NUMBERED: &str =
     "blob 4f41544202000200000000000102030405060708090a0b0c0d0e0fdf36513e3ff2cfa9ec497b8e82e790f094110afe98de18608448166c0b519556bd4b2ce287b6672fc7a0138281473ed5486f21eb696bd76b3a8800d563965b5600000000018000000001000000000001009ccc18724597cfe35fb0c9b7660388bda6716afca1c7d52e9c914a5fc8768014a1\n";
 
+/// What stands in the two cases in place of the operation and the steps of the case of one jump.
+const ONE: &str = "operation 2\nsteps 100000\n";
+
+const NUMBERED: &str = "operation 2\nsteps 100000\ncalls 1\n";
+
 fn damaged(alloc: Global, blob: &[u8], at: usize, change: Change) -> Result<Vec<u8>, AllocError> {
     let mut bytes = Vec::from_slice(alloc, blob)?;
     match change {
@@ -104,48 +109,53 @@ fn refusal(alloc: Global, said: Said, at: usize) -> Result<String, AllocError> {
     }
 }
 
-/// A blob: its line, the word of its acceptance, its case, and the damage to it.
-const BLOBS: [(&str, &str, &str, &[Damage]); 2] = [
-    (BLOB_CALLS, "accept", "KB", &ONE_WINDOW),
-    (BLOB_NUMBERED, "accept 0", "KN", &NUMBERED_WINDOW),
-];
-
 /// Verifies a blob of the image of calls.
 fn expect_verdict(
     rt: &impl Abort,
     alloc: Global,
     case: &str,
-    blob: &[u8],
+    (name, blob): (&str, &[u8]),
     want: (u8, &str),
 ) -> Result<(), AllocError> {
+    let old = "operation 1\nsteps 100000\n";
     let digits = hex::encode(alloc, blob)?;
-    let line = format!(in alloc; "verify B {case} GIVEN")?;
-    let files = files_of(alloc, line.as_str(), digits.as_str())?;
-    expect(
-        rt,
-        alloc,
-        line.as_str(),
-        files,
-        [&[], &[], &[]],
-        (want.0, want.1, ""),
-    )
+    let mut files = Vec::new(alloc);
+    files.push(file(alloc, "B", CALLS.as_bytes())?)?;
+    files.push(changed_file(alloc, "KB", CASE, (old, case))?)?;
+    files.push(file(alloc, name, digits.as_bytes())?)?;
+    let line = format!(in alloc; "verify B KB {name}")?;
+    expect_among(rt, alloc, line.as_str(), files, (want.0, want.1, ""))
 }
 
-/// Each blob is accepted as it is, and refused with each damage.
-#[test]
-fn damage_is_refused(rt: HostRuntime) -> Result<(), Fail> {
-    let alloc = rt.alloc();
-    for (line, accept, case, table) in BLOBS {
-        let blob = hex::decode(alloc, line.trim_start_matches("blob ").trim_end())?;
-        let accepted = CALLS_PATH.replacen(alloc, "accept", accept, 1)?;
-        expect_verdict(&rt, alloc, case, &blob, (0, accepted.as_str()))?;
-        for (first, last, change, said) in table {
-            for at in *first..=*last {
-                let bytes = damaged(alloc, &blob, at, *change)?;
-                let text = refusal(alloc, *said, at)?;
-                expect_verdict(&rt, alloc, case, &bytes, (1, text.as_str()))?;
-            }
+/// The blob is accepted as it is, with this word and the path, and refused with each damage.
+fn expect_damage(
+    rt: &impl Abort,
+    alloc: Global,
+    (case, line, accept): (&str, &str, &str),
+    table: &[Damage],
+) -> Result<(), Fail> {
+    let blob = hex::decode(alloc, line.trim_start_matches("blob ").trim_end())?;
+    let accepted = CALLS_PATH.replacen(alloc, "accept", accept, 1)?;
+    expect_verdict(rt, alloc, case, ("WHOLE", &blob), (0, accepted.as_str()))?;
+    for (first, last, change, said) in table {
+        for at in *first..=*last {
+            let name = format!(in alloc; "AT_{at}")?;
+            let bytes = damaged(alloc, &blob, at, *change)?;
+            let text = refusal(alloc, *said, at)?;
+            expect_verdict(rt, alloc, case, (name.as_str(), &bytes), (1, text.as_str()))?;
         }
     }
     Ok(())
+}
+
+#[test]
+fn damage_is_refused(rt: HostRuntime) -> Result<(), Fail> {
+    let whole = (ONE, BLOB_CALLS, "accept");
+    expect_damage(&rt, rt.alloc(), whole, &ONE_WINDOW)
+}
+
+#[test]
+fn damage_to_numbered_windows_is_refused(rt: HostRuntime) -> Result<(), Fail> {
+    let whole = (NUMBERED, BLOB_NUMBERED, "accept 0");
+    expect_damage(&rt, rt.alloc(), whole, &NUMBERED_WINDOW)
 }

@@ -1,8 +1,13 @@
 //! Calls of `owner`.
 
-use super::Row;
-use super::files::{BLOB, FIRST_WINDOW, HELPER_DIGITS, LIMIT_DIGITS, ORDER_DIGITS, TO_END_DIGITS};
-use super::runs::{FRONT, REST};
+use super::texts::{BLOB, BLOB_HELPER, BLOB_LIMIT, BLOB_ORDER, BLOB_TO_END, FIRST_WINDOW, IMAGES};
+use super::traces::{FRONT, REST, joined};
+use super::{changed_file, expect, expect_among, file};
+use oat_image::worked::{CALLS, ONE_JUMP};
+use oat_world::{MemoryFile, MemoryFiles, MemorySink};
+use std::alloc::{AllocError, Global};
+use std::process::Abort;
+use std::test::Fail;
 
 /// Two devices with the image of one jump, one with the image of calls, and as many devices as there may be.
 const ONE: &str = "device 1 A 0b0b0b0b0b0b0b0b0b0b0b0b0b0b0b0b0b0b0b0b\n";
@@ -62,302 +67,194 @@ const MAC: &str = "refused answer verdict 0 mac\n";
 
 const UNASKED: &str = "refused answer challenge\n";
 
-/// An answer to a challenge of calls, up to its nonce.
-const ANSWERING: &str = "answer 4f4154410100000003000102030405060708090a0b0c0d0e0f";
-
-/// Scripts and their replies: a right answer twice; a forged one before it; a challenge twice, and an answer from no device; those of docs/OWNER.md; an answer before its challenge; a used nonce for another device, and when it is spent; refused challenges, which don't use their nonce; a second challenge, whose image isn't that of the first; bytes that are no frame; no calls. Then what stands behind the nonce of an answer to a challenge of calls, and how the answer is refused.
-pub const REPLIED: [Row; 23] = [
+/// Scripts and their replies, by their parts: a right answer twice; a forged one before it; a challenge twice, and an answer from no device;
+/// those of docs/OWNER.md; an answer before its challenge; a used nonce for another device, and when it is spent; refused challenges, which
+/// don't use their nonce; a second challenge, whose image isn't that of the first; bytes that are no frame; no calls.
+const REPLIED: [(&[&str], &[&str]); 10] = [
+    (&[ONE, FIRST, RIGHT, RIGHT], &[FIRST_0, ACCEPTED, SPENT]),
+    (&[ONE, FIRST, FORGED, RIGHT], &[FIRST_0, MAC, ACCEPTED]),
     (
-        "owner GIVEN",
-        &[ONE, FIRST, RIGHT, RIGHT],
-        0,
-        &[FIRST_0, ACCEPTED, SPENT],
-        "",
-    ),
-    (
-        "owner GIVEN",
-        &[ONE, FIRST, FORGED, RIGHT],
-        0,
-        &[FIRST_0, MAC, ACCEPTED],
-        "",
-    ),
-    (
-        "owner GIVEN",
         &[ONE, FIRST, FIRST, FROM_TWO, RIGHT],
-        0,
         &[FIRST_0, USED, "refused answer device\n", ACCEPTED],
-        "",
     ),
     (
-        "owner GIVEN",
         &[ONE, TWO, FIRST, SECOND, FORGED, FROM_TWO, RIGHT, RIGHT],
-        0,
         &[FIRST_0, SECOND_1, MAC, UNASKED, ACCEPTED, SPENT],
-        "",
     ),
+    (&[ONE, RIGHT, FIRST, RIGHT], &[UNASKED, FIRST_0, ACCEPTED]),
     (
-        "owner GIVEN",
-        &[ONE, RIGHT, FIRST, RIGHT],
-        0,
-        &[UNASKED, FIRST_0, ACCEPTED],
-        "",
-    ),
-    (
-        "owner GIVEN",
         &[ONE, TWO, FIRST, FIRST_NONCE_TO_TWO, FROM_TWO, RIGHT, FIRST],
-        0,
         &[FIRST_0, USED, UNASKED, ACCEPTED, USED],
-        "",
     ),
+    (&[ONE, OTHER, UNFIT, FIRST], &[ARE_UNFIT, FIRST_0]),
     (
-        "owner GIVEN",
-        &[ONE, OTHER, UNFIT, FIRST],
-        0,
-        &[ARE_UNFIT, FIRST_0],
-        "",
-    ),
-    (
-        "owner GIVEN",
         &[ONE, TWO, OTHER, SECOND, CALLING, OF_CALLS, RIGHT],
-        0,
         &[SECOND_0, CALLING_1, "accepted 1\n", FRONT, REST, UNASKED],
-        "",
     ),
     (
-        "owner GIVEN",
         &[ONE, "answer 00\nanswer 4F4154\nanswer 4f41544100"],
-        0,
         &["refused answer frame 0\nrefused answer frame 3\nrefused answer frame 4\n"],
-        "",
     ),
-    ("owner GIVEN", &["; no calls\n\n", ONE], 0, &[], ""),
+    (&["; no calls\n\n", ONE], &[]),
+];
+
+/// What stands behind the nonce of an answer to a challenge of calls, digits and a blob, and how the answer is refused.
+const BEHIND_NONCE: [(&str, &str, &str); 13] = [
+    ("", "", "frame 25"),
+    ("ffffffff", "", "frame 29"),
+    ("ffffffff", BLOB, "frame 157"),
+    ("00000081", BLOB, "frame 157"),
+    ("0000007f", BLOB, "frame 156"),
+    ("00000000", "", "verdict 0 form 0"),
+    ("00000001", "4f", "verdict 0 form 1"),
+    ("00000084", FIRST_WINDOW, "verdict 0 serial 0"),
+    ("00000080", BLOB, "verdict 0 operation"),
+    ("00000089", BLOB_ORDER, "verdict 0 hash"),
+    ("00000080", BLOB_TO_END, "verdict 0 replay 6 TargetsEnd"),
     (
-        "owner GIVEN",
-        &[OTHER, CALLING, ANSWERING, "\n"],
-        0,
-        &[CALLING_0, "refused answer frame 25\n"],
-        "",
+        "00000089",
+        BLOB_HELPER,
+        "verdict 0 replay 6 BadTarget 00010084",
     ),
+    ("0000009d", BLOB_LIMIT, "verdict 0 critical 0 10 32"),
+];
+
+/// Scripts of two parts that are refused, or an image of theirs is, and what is said behind `refused`.
+const REFUSED: [(&str, &str, &str); 20] = [
+    (ONE, "answer\n", "S 2 Token"),
+    (ONE, "answer 0", "S 2 Token"),
+    (ONE, "foo\ndevice 1 A 0b", "S 2 Token"),
+    ("", "; \0\n\ndevice 1 A\x7f 0b", "S 3 Token"),
+    ("", "device 4294967296 A 0b", "S 1 Number"),
     (
-        "owner GIVEN",
-        &[OTHER, CALLING, ANSWERING, "ffffffff", "\n"],
-        0,
-        &[CALLING_0, "refused answer frame 29\n"],
-        "",
+        "device 1 A 0b\n",
+        "challenge 1 0 000102030405060708090a0b0c0d0e0f",
+        "S 2 Number",
     ),
+    (ONE, "challenge 1 1 00", "S 2 Number"),
+    ("", "challenge 1 0 00\ndevice 1 A 0b", "S 1 Number"),
+    (ONE, "device 01 B 0c\nanswer", "S 2 Twice"),
+    (ONE, "answer 00\ndevice 1 A 0b", "S 3 Twice"),
+    (SIXTEEN, "device 15 A 0b", "S 17 Twice"),
+    (SIXTEEN, "device 16 A 0b", "S 17 Order"),
+    (ONE, "answer 00\ndevice 2 A 0b", "S 3 Order"),
+    ("", "answer 4F41544100\ndevice 1 A 0b", "S 1 Order"),
+    ("", "", "S 1 Order"),
+    ("", "\n", "S 2 Order"),
+    ("device 1 X 0b\n", "foo", "S 2 Token"),
+    ("device 2 LOWER 0b\n", "device 1 X 0b", "LOWER 3 Number"),
     (
-        "owner GIVEN",
-        &[OTHER, CALLING, ANSWERING, "ffffffff", BLOB, "\n"],
-        0,
-        &[CALLING_0, "refused answer frame 157\n"],
-        "",
-    ),
-    (
-        "owner GIVEN",
-        &[OTHER, CALLING, ANSWERING, "00000081", BLOB, "\n"],
-        0,
-        &[CALLING_0, "refused answer frame 157\n"],
-        "",
-    ),
-    (
-        "owner GIVEN",
-        &[OTHER, CALLING, ANSWERING, "0000007f", BLOB, "\n"],
-        0,
-        &[CALLING_0, "refused answer frame 156\n"],
-        "",
-    ),
-    (
-        "owner GIVEN",
-        &[OTHER, CALLING, ANSWERING, "00000000", "\n"],
-        0,
-        &[CALLING_0, "refused answer verdict 0 form 0\n"],
-        "",
-    ),
-    (
-        "owner GIVEN",
-        &[OTHER, CALLING, ANSWERING, "00000001", "4f", "\n"],
-        0,
-        &[CALLING_0, "refused answer verdict 0 form 1\n"],
-        "",
-    ),
-    (
-        "owner GIVEN",
-        &[OTHER, CALLING, ANSWERING, "00000084", FIRST_WINDOW, "\n"],
-        0,
-        &[CALLING_0, "refused answer verdict 0 serial 0\n"],
-        "",
+        "device 1 BEGINS 0b\n",
+        "device 2 LOWER 0b",
+        "BEGINS S2 000000000001000C",
     ),
     (
-        "owner GIVEN",
-        &[OTHER, CALLING, ANSWERING, "00000080", BLOB, "\n"],
-        0,
-        &[CALLING_0, "refused answer verdict 0 operation\n"],
-        "",
-    ),
-    (
-        "owner GIVEN",
-        &[OTHER, CALLING, ANSWERING, "00000089", ORDER_DIGITS, "\n"],
-        0,
-        &[CALLING_0, "refused answer verdict 0 hash\n"],
-        "",
-    ),
-    (
-        "owner GIVEN",
-        &[OTHER, CALLING, ANSWERING, "00000080", TO_END_DIGITS, "\n"],
-        0,
-        &[CALLING_0, "refused answer verdict 0 replay 6 TargetsEnd\n"],
-        "",
-    ),
-    (
-        "owner GIVEN",
-        &[OTHER, CALLING, ANSWERING, "00000089", HELPER_DIGITS, "\n"],
-        0,
-        &[
-            CALLING_0,
-            "refused answer verdict 0 replay 6 BadTarget 00010084\n",
-        ],
-        "",
-    ),
-    (
-        "owner GIVEN",
-        &[OTHER, CALLING, ANSWERING, "0000009d", LIMIT_DIGITS, "\n"],
-        0,
-        &[CALLING_0, "refused answer verdict 0 critical 0 10 32\n"],
-        "",
+        ONE,
+        "device 2 WORD 0b\nanswer 00",
+        "WORD S1 0000000000010014",
     ),
 ];
 
-/// Scripts that are refused, or an image of theirs is.
-pub const NO_SCRIPTS: [Row; 20] = [
-    (
-        "owner GIVEN",
-        &[ONE, "answer\n"],
-        2,
-        &[],
-        "refused GIVEN 2 Token\n",
-    ),
-    (
-        "owner GIVEN",
-        &[ONE, "answer 0"],
-        2,
-        &[],
-        "refused GIVEN 2 Token\n",
-    ),
-    (
-        "owner GIVEN",
-        &[ONE, "foo\ndevice 1 A 0b"],
-        2,
-        &[],
-        "refused GIVEN 2 Token\n",
-    ),
-    (
-        "owner GIVEN",
-        &["; \0\n\ndevice 1 A\x7f 0b"],
-        2,
-        &[],
-        "refused GIVEN 3 Token\n",
-    ),
-    (
-        "owner GIVEN",
-        &["device 4294967296 A 0b"],
-        2,
-        &[],
-        "refused GIVEN 1 Number\n",
-    ),
-    (
-        "owner GIVEN",
-        &[
-            "device 1 A 0b\n",
-            "challenge 1 0 000102030405060708090a0b0c0d0e0f",
-        ],
-        2,
-        &[],
-        "refused GIVEN 2 Number\n",
-    ),
-    (
-        "owner GIVEN",
-        &[ONE, "challenge 1 1 00"],
-        2,
-        &[],
-        "refused GIVEN 2 Number\n",
-    ),
-    (
-        "owner GIVEN",
-        &["challenge 1 0 00\ndevice 1 A 0b"],
-        2,
-        &[],
-        "refused GIVEN 1 Number\n",
-    ),
-    (
-        "owner GIVEN",
-        &[ONE, "device 01 B 0c\nanswer"],
-        2,
-        &[],
-        "refused GIVEN 2 Twice\n",
-    ),
-    (
-        "owner GIVEN",
-        &[ONE, "answer 00\ndevice 1 A 0b"],
-        2,
-        &[],
-        "refused GIVEN 3 Twice\n",
-    ),
-    (
-        "owner GIVEN",
-        &[SIXTEEN, "device 15 A 0b"],
-        2,
-        &[],
-        "refused GIVEN 17 Twice\n",
-    ),
-    (
-        "owner GIVEN",
-        &[SIXTEEN, "device 16 A 0b"],
-        2,
-        &[],
-        "refused GIVEN 17 Order\n",
-    ),
-    (
-        "owner GIVEN",
-        &[ONE, "answer 00\ndevice 2 A 0b"],
-        2,
-        &[],
-        "refused GIVEN 3 Order\n",
-    ),
-    (
-        "owner GIVEN",
-        &["answer 4F41544100\ndevice 1 A 0b"],
-        2,
-        &[],
-        "refused GIVEN 1 Order\n",
-    ),
-    ("owner GIVEN", &[], 2, &[], "refused GIVEN 1 Order\n"),
-    ("owner GIVEN", &["\n"], 2, &[], "refused GIVEN 2 Order\n"),
-    (
-        "owner GIVEN",
-        &["device 1 X 0b\n", "foo"],
-        2,
-        &[],
-        "refused GIVEN 2 Token\n",
-    ),
-    (
-        "owner GIVEN",
-        &["device 2 LOWER 0b\n", "device 1 X 0b"],
-        2,
-        &[],
-        "refused LOWER 3 Number\n",
-    ),
-    (
-        "owner GIVEN",
-        &["device 1 BEGINS 0b\n", "device 2 LOWER 0b"],
-        2,
-        &[],
-        "refused BEGINS S2 000000000001000C\n",
-    ),
-    (
-        "owner GIVEN",
-        &[ONE, "device 2 WORD 0b\nanswer 00"],
-        2,
-        &[],
-        "refused WORD S1 0000000000010014\n",
-    ),
+/// Scripts of which a file isn't loaded: the script, the numbers of loads that fail, and the file.
+const UNREAD: [(&str, &[u64], &str); 6] = [
+    ("device 1 X 0b\nanswer 00", &[], "X"),
+    ("device 1 B 0b\ndevice 2 X 0b", &[], "X"),
+    ("device 2 X 0b\ndevice 1 LOWER 0b", &[], "X"),
+    ("device 2 B 0b\ndevice 1 A 0b", &[0], "S"),
+    ("device 2 B 0b\ndevice 1 A 0b", &[1], "B"),
+    ("device 2 B 0b\ndevice 1 A 0b", &[2], "A"),
 ];
+
+/// Numbers of puts of 8 bytes that fail, the status, and what is put of the replies to two answers.
+const PUTS: [(u64, u8, &str); 3] = [
+    (0, 5, ""),
+    (4, 5, "refused answer frame 0\nrefused "),
+    (6, 0, "refused answer frame 0\nrefused answer frame 1\n"),
+];
+
+/// Puts a script to an owner, where loads and puts fail by their numbers, and asserts the status and what is put.
+fn expect_owner(
+    rt: &impl Abort,
+    alloc: Global,
+    script: &str,
+    failing: [&[u64]; 2],
+    want: (u8, &str, &str),
+) -> Result<(), AllocError> {
+    let mut files = Vec::new(alloc);
+    for (name, text) in [("A", ONE_JUMP), ("B", CALLS), ("S", script)] {
+        files.push(file(alloc, name, text.as_bytes())?)?;
+    }
+    for (name, old, new) in IMAGES {
+        files.push(changed_file(alloc, name, ONE_JUMP, (old, new))?)?;
+    }
+    let mut files = MemoryFiles::new(files, Vec::from_slice(alloc, failing[0])?);
+    let sinks = (
+        MemorySink::new(8, Vec::from_slice(alloc, failing[1])?),
+        MemorySink::new(8, Vec::new(alloc)),
+    );
+    expect(rt, alloc, "owner S", &mut files, sinks, want)
+}
+
+#[test]
+fn calls_are_replied_to(rt: HostRuntime) -> Result<(), Fail> {
+    for (script, replies) in REPLIED {
+        let script = joined(rt.alloc(), script)?;
+        let text = joined(rt.alloc(), replies)?;
+        let want = (0, text.as_str(), "");
+        expect_owner(&rt, rt.alloc(), script.as_str(), [&[], &[]], want)?;
+    }
+    for (digits, line, said) in BEHIND_NONCE {
+        let blob = line.trim_start_matches("blob ").trim_end();
+        let script = format!(in rt.alloc();
+            "{OTHER}{CALLING}answer 4f4154410100000003000102030405060708090a0b0c0d0e0f{digits}{blob}\n"
+        )?;
+        let text = format!(in rt.alloc(); "{CALLING_0}refused answer {said}\n")?;
+        let want = (0, text.as_str(), "");
+        expect_owner(&rt, rt.alloc(), script.as_str(), [&[], &[]], want)?;
+    }
+    for (number, status, text) in PUTS {
+        let script = "device 1 A 0b\nanswer 00\nanswer 4f\n";
+        let want = (status, text, "");
+        expect_owner(&rt, rt.alloc(), script, [&[], &[number]], want)?;
+    }
+    Ok(())
+}
+
+#[test]
+fn scripts_are_refused_by_their_first_fault(rt: HostRuntime) -> Result<(), Fail> {
+    for (front, rest, said) in REFUSED {
+        let script = format!(in rt.alloc(); "{front}{rest}")?;
+        let text = format!(in rt.alloc(); "refused {said}\n")?;
+        let want = (2, "", text.as_str());
+        expect_owner(&rt, rt.alloc(), script.as_str(), [&[], &[]], want)?;
+    }
+    for (script, failing, name) in UNREAD {
+        let text = format!(in rt.alloc(); "read fault {name}\n")?;
+        let want = (4, "", text.as_str());
+        expect_owner(&rt, rt.alloc(), script, [failing, &[]], want)?;
+    }
+    Ok(())
+}
+
+/// A script and an image with one byte more than they may have.
+#[test]
+fn scripts_and_images_have_their_limits(rt: HostRuntime) -> Result<(), Fail> {
+    let alloc = rt.alloc();
+    let table = [
+        ("owner LONG", 64, "refused LONG TooLong 67108864\n"),
+        ("owner S", 16, "refused LONG TooLong 16777216\n"),
+    ];
+    let part = vec![in alloc; 10u8; 1_048_576]?;
+    for (line, count, said) in table {
+        let mut bytes = Vec::from_slice(alloc, b"\n")?;
+        for _ in 0..count {
+            bytes.extend_from_slice(part.as_slice())?;
+        }
+        let name = String::from_str(alloc, "LONG")?;
+        let mut files = Vec::new(alloc);
+        files.push(file(alloc, "S", b"device 1 LONG 0b")?)?;
+        files.push(MemoryFile { name, bytes })?;
+        expect_among(&rt, alloc, line, files, (2, "", said))?;
+    }
+    Ok(())
+}

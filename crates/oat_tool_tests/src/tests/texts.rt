@@ -1,0 +1,291 @@
+//! The files that the rows of tests name.
+
+use oat_image::worked::{CALLS, ONE_JUMP};
+
+/// The case of the image of one jump.
+pub const CASE: &str =
+    "oat-case 1\nkey 0b0b0b0b0b0b0b0b0b0b0b0b0b0b0b0b0b0b0b0b\nnonce 000102030405060708090a0b0c0d0e0f\noperation 1\nsteps 100000\n";
+
+/// The blob of its run.
+pub const BLOB: &str =
+    "4f415442010001000102030405060708090a0b0c0d0e0fbfe3efe4b055175178c67a8c93f6d0ae70a60a153fd87742e3e744f78b114bf35060e6983fe5be0d9f20c0ff07e9b06df3ad3c7b55142456359aff4e3f5a23bb0000000000000000000e7aeb524dc9cf3a9d4bed9965389815d2ce6e194f624f7e1cfb4ffafaf558a5";
+
+/// The line of the blob of the image of calls, as its case runs it.
+pub const BLOB_CALLS: &str =
+    "blob 4f415442010002000102030405060708090a0b0c0d0e0fdf36513e3ff2cfa9ec497b8e82e790f094110afe98de18608448166c0b5195561736fb92427488462fba94dec5853808e9556a60106bccd4a74545562365355000000000018000000001000000000001009c576cd3fe5593aca3ff73a8f9dbb9cb8a060c3641c850eb039bcb9cd687b139af\n";
+
+/// That of a lawful return address in the wrong order.
+pub const BLOB_ORDER: &str =
+    "blob 4f415442010002000102030405060708090a0b0c0d0e0fdf36513e3ff2cfa9ec497b8e82e790f094110afe98de18608448166c0b519556378ff8af1f8591a80117b6d9a4ffb565394f2c08963e60a04164d4bc952ae2b300000000018000000001000000000001009c293453c30c9cce85b9359d9fdc3b50ed63c2327b2359ed859f3d3dc9d225e4db\n";
+
+/// That of a return to the end of the operation.
+pub const BLOB_TO_END: &str =
+    "blob 4f415442010002000102030405060708090a0b0c0d0e0fdf36513e3ff2cfa9ec497b8e82e790f094110afe98de18608448166c0b51955638d6bb6df95b973530143ea038d8c6584d5ee84eef1020ac7bff97db02acb3d0000000000000000000ad250e14e93abfe0b35460f7ba39b92759cb069ef707dfc3dfef239ab59857db\n";
+
+/// That of another function of the same kind in the table.
+pub const BLOB_DOWN: &str =
+    "blob 4f415442010002000102030405060708090a0b0c0d0e0fdf36513e3ff2cfa9ec497b8e82e790f094110afe98de18608448166c0b5195561736fb92427488462fba94dec5853808e9556a60106bccd4a7454556236535500000000001000000000100000000000100a89d5407e7f011dc38ac4a5e6b1b7c797ed77446558c85d5a967015796250e14ee\n";
+
+/// That of a function with a parameter in the table.
+pub const BLOB_HELPER: &str =
+    "blob 4f415442010002000102030405060708090a0b0c0d0e0fdf36513e3ff2cfa9ec497b8e82e790f094110afe98de18608448166c0b5195561736fb92427488462fba94dec5853808e9556a60106bccd4a745455623653550000000000180000000010000000000010084f932195ac13cc5ae2b9d4397fee946480d6d21ce4341be402bbdcdde9ca57112\n";
+
+/// That of another value in the cell.
+pub const BLOB_LIMIT: &str =
+    "blob 4f415442010002000102030405060708090a0b0c0d0e0fdf36513e3ff2cfa9ec497b8e82e790f094110afe98de18608448166c0b5195561736fb92427488462fba94dec5853808e9556a60106bccd4a7454556236535500100000000000000000000000a0000000000000020000000018000000001000000000001009c69c2eaef775b4e7a67fd82446a9941a961cf458a4dcba29f62f0b6bd19a5cb7d\n";
+
+/// The blobs of the first two windows of a session on the image of one jump.
+pub const FIRST_WINDOW: &str =
+    "4f41544202000100000000000102030405060708090a0b0c0d0e0fbfe3efe4b055175178c67a8c93f6d0ae70a60a153fd87742e3e744f78b114bf3bcdb47b2cd4c6f606aa91422990bc267ff209048f5081179776030e215757ce90000000000000000005eddd602a27c6031a3d5af43e42d4f09ef60f10bcdf00a0bcf9efac81a9f3438";
+
+const SECOND_WINDOW: &str =
+    "4f41544202000100000001000102030405060708090a0b0c0d0e0fbfe3efe4b055175178c67a8c93f6d0ae70a60a153fd87742e3e744f78b114bf3a8aa04d29d219fccfbc7dce968c0ca98144b9673ace997f6689b8fd9a387e0a5000000000000000000c41e46eec7db97f74d78e5396552c1c2ac1b5a5e12e33a49b892f1c64a95ef86";
+
+/// The image of calls with its operation called twice.
+const CALLS_TWICE: &str =
+    "oat-image 1\ncode 46\n94000003\n94000002\nD4000001\nD10043FF\nF90003FE\nD2800049\nD4000021\n9400001B\n9400001A\nD280010B\nF2A8000B\nF9400169\nB5000049\nD4200060\nD4000081\nD63F0120\nD280000B\nF2A8000B\nF940016A\nD2800009\nD40000E1\nEB0A001F\n9A9FA7E9\nD4000061\nB5000049\n14000003\nD4000121\n14000001\nD2800049\nD4000041\nF94003FE\n910043FF\nD40000A1\nD65F03C0\nD10043FF\nF90003FE\nF94003FE\n910043FF\nD40000A1\nD65F03C0\nD28000E0\nD40000A1\nD65F03C0\nD2800180\nD40000A1\nD65F03C0\ndata 2\n0 000000000000000A\n1 00000000000100A0\ncells 1\n0\nfunctions 5\n00010000 main 0 0\n0001000C work 0 0\n00010088 helper 1 1\n000100A0 up 0 1\n000100AC down 0 1\nblocks 2\n00010068 yes\n00010070 done\nrows 15\ncall 00010000 0001000C\ncall 00010004 0001000C\nbegin 00010014 2\ncall 0001001C 00010088\ncall 00010020 00010088\ncheck 00010030\nicall 00010038 0\nuse 00010040 0\nbranch 0001005C 00010068 00010070\njump 0001006C 00010070\nend 00010070 2\nret 00010080\nret 00010098\nret 000100A4\nret 000100B0\nend\n";
+
+/// The lines of the blobs of its two windows in one session.
+pub const BLOBS_TWICE: &str =
+    "blob 4f41544202000200000000000102030405060708090a0b0c0d0e0ff5e2e9f59649eea03de14e58f19eb1b7e9809d0d2e69fb613013cfbf7a8ad6a2a8b037467ef7cd28aa08851bbbc6938496b5d32e5dca2ace259db2766da62f8d0000000001800000000100000000000100a0259629a92f6bb68b149263c68922d118260bd4363b2bfc3ae0112b8f5937001b\nblob 4f41544202000200000001000102030405060708090a0b0c0d0e0ff5e2e9f59649eea03de14e58f19eb1b7e9809d0d2e69fb613013cfbf7a8ad6a22749de00b370cbf0676e30347c2366618838c7becd9cd63fe7779077d83cb8290000000001800000000100000000000100a093aaad6550b0a4678b0d8f6d6efd581cceb408a886b4a2958076231a3c5ea3af\n";
+
+/// The same, with another value in the cell from between the two windows on.
+pub const BLOBS_BETWEEN: &str =
+    "blob 4f41544202000200000000000102030405060708090a0b0c0d0e0ff5e2e9f59649eea03de14e58f19eb1b7e9809d0d2e69fb613013cfbf7a8ad6a2a8b037467ef7cd28aa08851bbbc6938496b5d32e5dca2ace259db2766da62f8d0000000001800000000100000000000100a0259629a92f6bb68b149263c68922d118260bd4363b2bfc3ae0112b8f5937001b\nblob 4f41544202000200000001000102030405060708090a0b0c0d0e0ff5e2e9f59649eea03de14e58f19eb1b7e9809d0d2e69fb613013cfbf7a8ad6a22749de00b370cbf0676e30347c2366618838c7becd9cd63fe7779077d83cb8290100000000000000000000000a000000000000002000000001800000000100000000000100a005567a7fa7fd55223ea8de15048d65d16fefc02b6af2f3d27247624a53d5b5bc\n";
+
+/// The texts of files.
+pub const FILES: [(&str, &str); 28] = [
+    ("A", ONE_JUMP),
+    ("B", CALLS),
+    ("D", CALLS_TWICE),
+    (
+        "STALE",
+        "4f41544202000200000001000102030405060708090a0b0c0d0e0ff5e2e9f59649eea03de14e58f19eb1b7e9809d0d2e69fb613013cfbf7a8ad6a22749de00b370cbf0676e30347c2366618838c7becd9cd63fe7779077d83cb8290100000000000000000000000a000000000000002000000001800000000100000000000100a005567a7fa7fd55223ea8de15048d65d16fefc02b6af2f3d27247624a53d5b5bc",
+    ),
+    (
+        "C",
+        "oat-image 1\ncode 3\nD2800029\nD4000021\n14000000\ndata 0\ncells 0\nfunctions 1\n00010000 main 0 0\nblocks 1\n00010008 loop\nrows 2\nbegin 00010000 1\njump 00010008 00010008\nend\n",
+    ),
+    ("KA", CASE),
+    ("BLOB", BLOB),
+    ("FIRST", FIRST_WINDOW),
+    ("SECOND", SECOND_WINDOW),
+    (
+        "REMADE",
+        "4f41544202000100000001000102030405060708090a0b0c0d0e0fbfe3efe4b055175178c67a8c93f6d0ae70a60a153fd87742e3e744f78b114bf3bcdb47b2cd4c6f606aa91422990bc267ff209048f5081179776030e215757ce9000000000000000000cc76966b7c4851adc4d17e4b54c9aeea9fe2ab9d09f4237384d67a9fa7591cee",
+    ),
+    ("BLOB_CALLS", BLOB_CALLS),
+    ("BLOB_ORDER", BLOB_ORDER),
+    ("BLOB_TO_END", BLOB_TO_END),
+    ("BLOB_DOWN", BLOB_DOWN),
+    ("BLOB_HELPER", BLOB_HELPER),
+    ("BLOB_LIMIT", BLOB_LIMIT),
+    (
+        "UPPER",
+        "4F415442010001000102030405060708090A0B0C0D0E0FBFE3EFE4B055175178C67A8C93F6D0AE70A60A153FD87742E3E744F78B114BF35060E6983FE5BE0D9F20C0FF07E9B06DF3AD3C7B55142456359AFF4E3F5A23BB0000000000000000000E7AEB524DC9CF3A9D4BED9965389815D2CE6E194F624F7E1CFB4FFAFAF558A5\n",
+    ),
+    ("EMPTY", ""),
+    ("ODD", "0g"),
+    (
+        "NONCE",
+        "4f41544201000100000000000000000000000000000000bfe3efe4b055175178c67a8c93f6d0ae70a60a153fd87742e3e744f78b114bf301b1dc98cdd8e30f0f0c954c4224edbc2d022fe69e3f3c0de5b8d2cd70aef263000000000000000000d2b13fc517bcf254d0ac22f77af95f1d9a8506cebd234c31a80c28f74a45143f",
+    ),
+    (
+        "OP2",
+        "4f415442010002000102030405060708090a0b0c0d0e0fbfe3efe4b055175178c67a8c93f6d0ae70a60a153fd87742e3e744f78b114bf379ab91f9046a227823636d10161e454250b7cdac2ba44ca348dc24d4876f7ccf00000000000000000011843d0445514b106453905a342ef78c89df91edb53ede2efa7a96563afa66de",
+    ),
+    (
+        "OTHER",
+        "4f415442010001000102030405060708090a0b0c0d0e0f000000000000000000000000000000000000000000000000000000000000000021f9dc8984a24b93af4cff1144f3535126f29e5acee8203242460abfb2e9e0990000000000000000007b39834a70b183c52cb1b832e412a00678eb8d143fb7232a9d109560fa28ae7f",
+    ),
+    (
+        "NINE",
+        "4f415442010001000102030405060708090a0b0c0d0e0fbfe3efe4b055175178c67a8c93f6d0ae70a60a153fd87742e3e744f78b114bf35060e6983fe5be0d9f20c0ff07e9b06df3ad3c7b55142456359aff4e3f5a23bb00000000098001000000000c03bf7284730139cfc19e93992822d82c5e8783ec750b15777c9989f44ffd1f",
+    ),
+    (
+        "FLAG",
+        "4f415442010001000102030405060708090a0b0c0d0e0fbfe3efe4b055175178c67a8c93f6d0ae70a60a153fd87742e3e744f78b114bf35060e6983fe5be0d9f20c0ff07e9b06df3ad3c7b55142456359aff4e3f5a23bb0200000000000000003c7d1ee8e9c7ff1a63cf0cf76f4609f45bd5344a95cb0422d0e53c0c61210f67",
+    ),
+    (
+        "BITS_2",
+        "4f415442010002000102030405060708090a0b0c0d0e0fdf36513e3ff2cfa9ec497b8e82e790f094110afe98de18608448166c0b5195561736fb92427488462fba94dec5853808e9556a60106bccd4a74545562365355000000000028000000001000000000001009ce8623c2dac873861314d719debe8258db0e2ed698feda6adc1b1e9576fdbe849",
+    ),
+    (
+        "BITS_0",
+        "4f415442010002000102030405060708090a0b0c0d0e0fdf36513e3ff2cfa9ec497b8e82e790f094110afe98de18608448166c0b5195561736fb92427488462fba94dec5853808e9556a60106bccd4a745455623653550000000000000000001000000000001009c398066c8c59071b528ff2faf04018b0aaf41457b80526273c8a4474c3051f5d3",
+    ),
+    (
+        "TARGETS_2",
+        "4f415442010002000102030405060708090a0b0c0d0e0fdf36513e3ff2cfa9ec497b8e82e790f094110afe98de18608448166c0b5195561736fb92427488462fba94dec5853808e9556a60106bccd4a74545562365355000000000018000000002000000000001009c000000000001009c6ce41e150f4da2c35cc3506a6793d91d92b435240178c4b588f2b2210fdc3e2f",
+    ),
+    (
+        "BLOB_C",
+        "4f415442010001000102030405060708090a0b0c0d0e0f86b84ea933c8c9d87bb894abcd09053f09024e569d6981040fbf4daac6361633186dbd5d3c43d4248a492edbbeb46ec3f1a4ff9ccc1865082a360c9a4719f90e0000000000000000002b266e54f3e65b4ee13d763fb2f58ec0b2c787b724bffef64d43162b084c13dd",
+    ),
+];
+
+/// Further ones, with a write that a run beside its verdict shows.
+pub const TRACED: [(&str, &str, &str); 4] = [
+    (
+        "TO_BRANCH",
+        "operation 1\nsteps 100000\n",
+        "operation 2\nsteps 100000\nwrite 15 7FFFFFE0 5C00010000000000\n",
+    ),
+    (
+        "EARLY_LIMIT",
+        "operation 1\nsteps 100000\n",
+        "operation 2\nsteps 100000\nwrite 0 40000000 2000000000000000\n",
+    ),
+    (
+        "EARLY_DOWN",
+        "operation 1\nsteps 100000\n",
+        "operation 2\nsteps 100000\nwrite 0 40000008 A800010000000000\n",
+    ),
+    (
+        "AFTERWARDS",
+        "operation 1\nsteps 100000\n",
+        "operation 2\nsteps 100000\nwrite 41 7FFFFFF0 1000010000000000\n",
+    ),
+];
+
+/// The texts of files that have one part of the case changed.
+pub const CASES: [(&str, &str, &str); 24] = [
+    ("K1", "100000\n", "100000\ncalls 1\n"),
+    ("K2", "100000\n", "100000\ncalls 2\n"),
+    (
+        "KB",
+        "operation 1\nsteps 100000\n",
+        "operation 2\nsteps 100000\n",
+    ),
+    (
+        "KD2",
+        "operation 1\nsteps 100000\n",
+        "operation 2\nsteps 100000\ncalls 2\n",
+    ),
+    (
+        "KD3",
+        "operation 1\nsteps 100000\n",
+        "operation 2\nsteps 100000\ncalls 3\n",
+    ),
+    (
+        "BETWEEN",
+        "operation 1\nsteps 100000\n",
+        "operation 2\nsteps 100000\ncalls 2\nwrite 45 40000000 2000000000000000\n",
+    ),
+    (
+        "ORDER",
+        "operation 1\nsteps 100000\n",
+        "operation 2\nsteps 100000\nwrite 15 7FFFFFE0 1C00010000000000\n",
+    ),
+    (
+        "TO_END",
+        "operation 1\nsteps 100000\n",
+        "operation 2\nsteps 100000\nwrite 15 7FFFFFE0 6C00010000000000\n",
+    ),
+    (
+        "TO_BEGIN",
+        "operation 1\nsteps 100000\n",
+        "operation 2\nsteps 100000\nwrite 15 7FFFFFE0 1000010000000000\n",
+    ),
+    (
+        "DOWN",
+        "operation 1\nsteps 100000\n",
+        "operation 2\nsteps 100000\nwrite 21 40000008 A800010000000000\n",
+    ),
+    (
+        "HELPER",
+        "operation 1\nsteps 100000\n",
+        "operation 2\nsteps 100000\nwrite 21 40000008 8400010000000000\n",
+    ),
+    (
+        "LIMIT",
+        "operation 1\nsteps 100000\n",
+        "operation 2\nsteps 100000\nwrite 30 40000000 2000000000000000\n",
+    ),
+    (
+        "RESTORED",
+        "operation 1\nsteps 100000\n",
+        "operation 2\nsteps 100000\nwrite 20 40000000 2000000000000000\nwrite 30 40000000 0A00000000000000\n",
+    ),
+    (
+        "NULL",
+        "operation 1\nsteps 100000\n",
+        "operation 2\nsteps 100000\nwrite 21 40000008 0000000000000000\n",
+    ),
+    (
+        "DATA",
+        "operation 1\nsteps 100000\n",
+        "operation 2\nsteps 100000\nwrite 15 7FFFFFE0 0000004000000000\n",
+    ),
+    (
+        "STEPS_40",
+        "operation 1\nsteps 100000\n",
+        "operation 2\nsteps 40\n",
+    ),
+    (
+        "STEPS_41",
+        "operation 1\nsteps 100000\n",
+        "operation 2\nsteps 41\n",
+    ),
+    ("K9", "operation 1", "operation 9"),
+    (
+        "NOKEY",
+        "key 0b0b0b0b0b0b0b0b0b0b0b0b0b0b0b0b0b0b0b0b\n",
+        "",
+    ),
+    (
+        "ODDKEY",
+        "key 0b0b0b0b0b0b0b0b0b0b0b0b0b0b0b0b0b0b0b0b",
+        "key 0",
+    ),
+    (
+        "TWICE",
+        "steps 100000\n",
+        "steps 100000\nnonce 000102030405060708090a0b0c0d0e0f\n",
+    ),
+    ("MANY", "100000", "4194305"),
+    (
+        "FALLS",
+        "steps 100000\n",
+        "steps 100000\nwrite 20 40000000 00\nwrite 15 40000000 00\n",
+    ),
+    (
+        "OUTSIDE",
+        "steps 100000\n",
+        "steps 100000\nwrite 0 40080000 00\n",
+    ),
+];
+
+/// The texts of files that have one part of the image of one jump changed.
+pub const IMAGES: [(&str, &str, &str); 9] = [
+    ("LOWER", "D2800029", "d2800029"),
+    ("JOINED", "oat-image 1", "oat-image1"),
+    ("BEGINS", "jump 00010008 0001000C", "begin 00010008 1"),
+    ("WORD", "D4000001", "04000001"),
+    ("MONITOR", "D4000001", "D40000E1"),
+    ("OTHER_BEGIN", "begin 00010000 1", "begin 00010000 2"),
+    ("NO_BLOCK", "0001000C b", "00010000 b"),
+    ("BEHIND", "00010000 main", "00020000 main"),
+    ("AT_BLOCK", "00010000 main", "0001000C main"),
+];
+
+/// The texts of files that have one part of another text changed.
+pub const CHANGED: [(&str, &str, &str, &str); 7] = [
+    ("VERSION", BLOB, "4f41544201", "4f41544203"),
+    (
+        "MOVED",
+        FIRST_WINDOW,
+        "4f41544202000100000000",
+        "4f41544202000100000001",
+    ),
+    ("BAD", CALLS, "blocks 2\n", "blocks 3\n0001005C bad\n"),
+    ("LAST", BLOB, "f558a5", "f558a4"),
+    (
+        "LAST_NONCE",
+        "4f41544201000100000000000000000000000000000000bfe3efe4b055175178c67a8c93f6d0ae70a60a153fd87742e3e744f78b114bf301b1dc98cdd8e30f0f0c954c4224edbc2d022fe69e3f3c0de5b8d2cd70aef263000000000000000000d2b13fc517bcf254d0ac22f77af95f1d9a8506cebd234c31a80c28f74a45143f",
+        "45143f",
+        "45143e",
+    ),
+    ("SHORT", BLOB, "f558a5", "f558"),
+    ("ADDED", BLOB, "f558a5", "f558a500"),
+];
