@@ -4,6 +4,7 @@ import http.client
 import json
 import os
 import random
+import sqlite3
 import threading
 import time
 from collections import Counter, deque
@@ -12,7 +13,6 @@ from dataclasses import dataclass, field
 from typing import Any, Callable, Iterable, Optional
 
 from answering import Client, Device, forged
-from comparison import compare
 from program import Program, replies_of, script_of
 from served import Served, audit
 from store import CALLS_OF_AN_OPEN_SCRIPT, DEVICES_OF_A_SCRIPT, Store
@@ -295,11 +295,12 @@ def judge(program: str, folder: str, seen: Seen) -> str:
 
 def spoil(folder: str, program: str) -> str:
     """Changes a stored reply, and answers what the audit says of it."""
-    store = Store(folder)
-    number = store.scripts()[-1]
-    store._base.execute("UPDATE calls SET reply = replace(reply, 'challenge 0', 'challenge 1') WHERE script = ? AND place = 0", (number,))
-    _, difference = compare(store, Program(program, folder), number)
-    store.close()
+    base = sqlite3.connect(os.path.join(folder, "store.sqlite"))
+    with base:
+        number = base.execute("SELECT max(script) FROM calls").fetchone()[0]
+        changed = "UPDATE calls SET reply = CAST(replace(reply, 'challenge 0', 'challenge 1') AS BLOB) WHERE script = ? AND place = 0"
+        base.execute(changed, (number,))
+    base.close()
     status, line = audit(program, folder)
-    have(status == 1 and f"script {number}, call 1" in line and difference is not None, f"the audit doesn't see a changed reply: {line}")
+    have(status == 1 and f"script {number}, call 1" in line, f"the audit doesn't see a changed reply: {line}")
     return line

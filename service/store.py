@@ -177,7 +177,7 @@ class Store:
                 return None
             devices = self._base.execute("SELECT id, image, key FROM devices WHERE circle = ? ORDER BY id", (found[0],))
             lines = [f"device {row['id']} images/{row['image']} {row['key'].hex()}" for row in devices]
-            calls = self._base.execute("SELECT line, reply FROM calls WHERE script = ? ORDER BY place", (number,)).fetchall()
+            calls = self._base.execute("SELECT line, CAST(reply AS BLOB) AS reply FROM calls WHERE script = ? ORDER BY place", (number,)).fetchall()
             return Script(lines, [row["line"] for row in calls], [row["reply"] for row in calls])
 
     def keep(self, script: int, put: Iterable[tuple[Call, Reply]]) -> None:
@@ -264,7 +264,7 @@ class Store:
         )
 
     def reply(self, script: int, place: int) -> Reply:
-        row = self._row("SELECT reply FROM calls WHERE script = ? AND place = ?", script, place)
+        row = self._row("SELECT CAST(reply AS BLOB) AS reply FROM calls WHERE script = ? AND place = ?", script, place)
         assert row is not None
         return Reply(row["reply"])
 
