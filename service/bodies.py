@@ -19,6 +19,7 @@ def malformed(draws: random.Random, frame: bytes) -> tuple[str, str, bytes, bool
     answers = "/scripts/1/answers"
     damaged = bytearray(frame)
     damaged[draws.randrange(len(damaged))] ^= 1 << draws.randrange(8)
+    operations = [b"", b"[]", b"{}", b'{"operation": 0}', b'{"operation": 9}', b"\xff", b"[" * 2000]
     return draws.choice(
         [
             ("POST", answers, draws.randbytes(draws.randrange(0, 400)), False),
@@ -31,7 +32,7 @@ def malformed(draws: random.Random, frame: bytes) -> tuple[str, str, bytes, bool
             ("POST", "/devices", draws.randbytes(draws.randrange(0, 3000)), False),
             ("POST", "/devices", draws.randbytes(draws.randrange(0, 3000)), True),
             ("POST", "/devices", json.dumps({"id": draws.choice([-1, 2**40, "x", None, 1]), "image": 7, "key": "0"}).encode(), True),
-            ("POST", "/devices/1/challenges", draws.choice([b"", b"[]", b"{}", b'{"operation": 0}', b'{"operation": 9}', b"\xff", b"[" * 2000]), True),
+            ("POST", "/devices/1/challenges", draws.choice(operations), True),
             ("POST", f"/devices/{draws.randrange(2, 10**12)}/challenges", b'{"operation": 1}', True),
             ("GET", f"/devices/{draws.choice(['x', '-1', '9' * 30, '%00'])}/challenge", b"", False),
             ("GET", f"/challenges/{draws.choice(['1', '1.9', '9.0', '..', '%2e%2e', '1.0.0'])}", b"", True),

@@ -29,26 +29,27 @@ def browser(width: int) -> Iterator[webdriver.Chrome]:
     driver = webdriver.Chrome(service=Service("/usr/bin/chromedriver"), options=options)
     try:
         driver.set_page_load_timeout(SECONDS)
-        sizes = {"width": width, "height": 1000, "deviceScaleFactor": 1, "mobile": width < 600}
-        driver.execute_cdp_cmd("Emulation.setDeviceMetricsOverride", sizes)
+        resize(driver, width, 1000)
         yield driver
     finally:
         driver.quit()
 
 
+def resize(driver: webdriver.Chrome, width: int, height: int) -> None:
+    sizes = {"width": width, "height": height, "deviceScaleFactor": 1, "mobile": width < 600}
+    driver.execute_cdp_cmd("Emulation.setDeviceMetricsOverride", sizes)
+
+
 def shoot(driver: webdriver.Chrome, width: int, file: str) -> None:
     """Keeps the whole page as a picture."""
-    height = driver.execute_script("return document.documentElement.scrollHeight")
-    driver.execute_cdp_cmd("Emulation.setDeviceMetricsOverride", {"width": width, "height": max(height, 600), "deviceScaleFactor": 1, "mobile": width < 600})
+    resize(driver, width, max(600, driver.execute_script("return document.documentElement.scrollHeight")))
     driver.save_screenshot(file)
 
 
-def text_of(driver: webdriver.Chrome, place: str) -> str:
-    return driver.find_element(By.CSS_SELECTOR, place).text
-
-
 def appears(driver: webdriver.Chrome, place: str, text: str) -> None:
-    holds = lambda: driver.find_elements(By.CSS_SELECTOR, place) and text in driver.execute_script("return document.querySelector(arguments[0])?.textContent ?? ''", place)
+    def holds() -> bool:
+        return text in driver.execute_script("return document.querySelector(arguments[0])?.textContent ?? ''", place)
+
     have(wait_until(holds, SECONDS), f"'{text}' doesn't appear at {place} of the page within {SECONDS} s")
 
 
@@ -62,13 +63,7 @@ def tab_to(driver: webdriver.Chrome, place: str) -> None:
 
 
 def look(served: Served, program: str, folder: str, valve: Kind, attacked: str) -> list[str]:
-    """Looks at the page while a device is challenged and answers, honest first and then attacked. The names of the screenshots."""
-    owner = served.owner()
-    with open(valve.image) as file:
-        text = file.read()
-    for number in (1, 2):
-        status, body = owner.call("POST", "/devices", {"id": number, "image": text, "key": valve.key()})
-        have(status == 201, f"the valve wasn't enrolled: {body.decode()}")
+    """Looks at the page while devices are enrolled, challenged and answer, one honest and one attacked. The names of the screenshots."""
 
     def run_device(number: int, case: str) -> None:
         words = [os.path.join(TOP, "service/device"), served.address, str(number), valve.image, case]
@@ -83,6 +78,9 @@ def look(served: Served, program: str, folder: str, valve: Kind, attacked: str) 
             driver.find_element(By.ID, "token").send_keys(served.token + Keys.ENTER)
             appears(driver, "#link", "by themselves")
             driver.execute_script("window.neverLoadedAgain = true")
+            if not shots:
+                enrol(driver, 1, valve)
+                enrol(driver, 2, valve)
             challenge_by_keyboard(driver, 1)
             appears(driver, "#detail-words", "No answer has come yet")
             run_device(1, valve.case)
@@ -103,6 +101,17 @@ def look(served: Served, program: str, folder: str, valve: Kind, attacked: str) 
     return shots
 
 
+def enrol(driver: webdriver.Chrome, number: int, kind: Kind) -> None:
+    """Enrols a device by the page's form."""
+    if not driver.find_element(By.ID, "enrol").is_displayed():
+        tab_to(driver, "summary")
+        driver.switch_to.active_element.send_keys(Keys.ENTER)
+    for field, value in (("id", str(number)), ("image", kind.image), ("key", kind.key())):
+        driver.find_element(By.ID, f"enrol-{field}").send_keys(value)
+    driver.find_element(By.CSS_SELECTOR, "#enrol button").send_keys(Keys.ENTER)
+    appears(driver, "#devices", f"device {number}")
+
+
 def challenge_by_keyboard(driver: webdriver.Chrome, number: int) -> None:
     driver.execute_script("document.activeElement.blur()")
     tab_to(driver, f"[data-device='{number}'] .ask button")
@@ -113,7 +122,7 @@ def challenge_by_keyboard(driver: webdriver.Chrome, number: int) -> None:
 def look_at_picture(driver: webdriver.Chrome) -> None:
     """The refused call's picture is there where pictures can be drawn."""
     if Painter().is_here:
-        drawn = lambda: driver.execute_script("const p = document.getElementById('picture'); return p.complete && p.naturalWidth > 0")
-        have(wait_until(drawn, SECONDS), "the picture doesn't appear")
+        drawn = "const p = document.getElementById('picture'); return p.complete && p.naturalWidth > 0"
+        have(wait_until(lambda: driver.execute_script(drawn), SECONDS), "the picture doesn't appear")
     else:
         have(not driver.find_element(By.ID, "detail-picture").is_displayed(), "the page speaks of a picture that isn't there")

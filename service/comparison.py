@@ -8,6 +8,8 @@ from typing import Optional
 from program import FIRST_WORDS, NoReply, Program, replies_of, script_of
 from store import Script, Store
 
+SHOWN = 160
+
 
 @dataclass(frozen=True)
 class Difference:
@@ -23,8 +25,10 @@ class Difference:
         return f"script {self.script}, call {self.call}, '{self.line}': stored '{self.stored}', now '{self.now}'"
 
 
-def shortened(text: str, most: int = 160) -> str:
-    return text if len(text) <= most else text[:most] + ".."
+def shortened(text: str) -> str:
+    """The first line of a text, or its front."""
+    line = text.partition("\n")[0]
+    return line if len(line) <= SHOWN else line[:SHOWN] + ".."
 
 
 def difference_of(number: int, script: Script, out: bytes) -> Optional[Difference]:
@@ -36,7 +40,7 @@ def difference_of(number: int, script: Script, out: bytes) -> Optional[Differenc
     replies += [b"nothing"] * (len(script.replies) - len(replies))
     pairs = enumerate(zip(script.calls, script.replies, replies), 1)
     place, (line, stored, new) = next(pair for pair in pairs if pair[1][1] != pair[1][2])
-    return Difference(number, place, shortened(line), shortened(stored.decode()), shortened(new.decode(errors="replace")))
+    return Difference(number, place, shortened(line), *(shortened(text.decode(errors="replace")) for text in (stored, new)))
 
 
 def compare(store: Store, program: Program, number: int) -> tuple[int, Optional[Difference]]:

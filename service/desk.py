@@ -135,8 +135,9 @@ class Desk:
         """Serves a script until nobody waits for a reply of it."""
         waiting = self._asked[script]
         while waiting:
+            taken = [waiting.popleft() for _ in range(min(len(waiting), CALLS_OF_A_RUN))]
             # Challenges come first, so that how many a script still takes depends on its stored calls alone.
-            taken = sorted((waiting.popleft() for _ in range(min(len(waiting), CALLS_OF_A_RUN))), key=lambda asked: asked.call.challenge is None)
+            taken.sort(key=lambda asked: asked.call.challenge is None)
             await self._serve_together(script, taken)
             await self._changes.tell()
         del self._asked[script]

@@ -83,7 +83,8 @@ class Speed:
         return sorted(self.times)[min(len(self.times) - 1, int(share * len(self.times)))]
 
     def __str__(self) -> str:
-        return f"{self.count / self.seconds:.0f} a second, median {self.part(0.5):.1f} ms, p99 {self.part(0.99):.1f} ms, longest {max(self.times):.1f} ms"
+        parts = f"median {self.part(0.5):.1f} ms, p99 {self.part(0.99):.1f} ms, longest {max(self.times):.1f} ms"
+        return f"{self.count / self.seconds:.0f} a second, {parts}"
 
 
 def timed(work: Callable[[Any], None], items: list[Any]) -> Speed:
@@ -290,7 +291,8 @@ def judge(program: str, folder: str, seen: Seen) -> str:
     have(issued == set(accepted), f"{len(issued - set(accepted))} challenges of honest devices weren't accepted")
     scripts = len(store.scripts())
     store.close()
-    return f"{len(issued)} challenges, all accepted once, in {calls} calls of {scripts} scripts; {len(seen.replies)} replies that clients saw are the audit's"
+    kept = f"{len(issued)} challenges, all accepted once, in {calls} calls of {scripts} scripts"
+    return f"{kept}; {len(seen.replies)} replies that clients saw are the audit's"
 
 
 def spoil(folder: str, program: str) -> str:

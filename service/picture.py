@@ -16,7 +16,7 @@ class Painter:
     """Draws one picture at a time."""
 
     def __init__(self) -> None:
-        self._script = os.environ.get("PICTURE_DRAW", os.path.join(TOP, "picture/draw"))
+        self._script = os.path.join(TOP, "picture/draw")
         self._turn = threading.Lock()
 
     @property

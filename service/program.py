@@ -3,13 +3,15 @@
 What is read here of a reply is its form alone (docs/FORMATS.md, "Frames"): which lines belong to one reply, and the words of its first
 line. No frame is read, and no verdict is found, anywhere in the service."""
 
+import os
+import resource
 import subprocess
-import threading
 from dataclasses import dataclass
 from typing import Iterable, Optional
 
 SECONDS = 20
 OUTPUT_LIMIT = 64 * 1024 * 1024
+LIMITS = {resource.RLIMIT_CPU: SECONDS, resource.RLIMIT_FSIZE: OUTPUT_LIMIT, resource.RLIMIT_CORE: 0}
 WANT_OF_MEMORY = 6
 
 FIRST_WORDS = (b"challenge ", b"accepted ", b"refused ")
@@ -20,7 +22,7 @@ class NoReply(Exception):
 
 
 class TooMuch(NoReply):
-    """A run wanted memory, took more time than a run may, or put more."""
+    """A run wanted memory, took more processor time than a run may, or put more."""
 
 
 @dataclass(frozen=True)
@@ -92,33 +94,15 @@ class Program:
         return out
 
     def _run(self, words: list[str], text: bytes) -> tuple[int, bytes, bytes]:
-        with subprocess.Popen(
-            [self._program, *words],
-            cwd=self._folder,
-            stdin=subprocess.PIPE,
-            stdout=subprocess.PIPE,
-            stderr=subprocess.PIPE,
-        ) as run:
-            watchdog = threading.Timer(SECONDS, run.kill)
-            watchdog.start()
-            try:
-                out, err = self._exchange(run, text)
-            finally:
-                watchdog.cancel()
-        if run.returncode < 0:
-            raise TooMuch(f"a run was ended: it took more than {SECONDS} s, or put more than {OUTPUT_LIMIT} bytes")
-        return run.returncode, out, err
-
-    @staticmethod
-    def _exchange(run: subprocess.Popen, text: bytes) -> tuple[bytes, bytes]:
-        """The program reads all of its files before it puts anything: so all of the text is written before anything is read."""
-        assert run.stdin and run.stdout and run.stderr
-        try:
-            run.stdin.write(text)
-            run.stdin.close()
-        except BrokenPipeError:
-            pass
-        out = run.stdout.read(OUTPUT_LIMIT + 1)
-        if len(out) > OUTPUT_LIMIT:
-            run.kill()
-        return out, run.stderr.read()
+        """The status and the outputs of a run. It reads the whole text before it puts anything, so its limits are set before that."""
+        with open(os.memfd_create("out"), "w+b") as out:
+            with subprocess.Popen(
+                [self._program, *words], cwd=self._folder, stdin=subprocess.PIPE, stdout=out, stderr=subprocess.PIPE
+            ) as run:
+                for limit, most in LIMITS.items():
+                    resource.prlimit(run.pid, limit, (most, most))
+                _, err = run.communicate(text)
+            if run.returncode < 0:
+                raise TooMuch(f"a run was ended: it took more than {SECONDS} s, or put more than {OUTPUT_LIMIT} bytes")
+            out.seek(0)
+            return run.returncode, out.read(), err

@@ -61,8 +61,8 @@ def told(store: Store, row: dict[str, Any]) -> dict[str, Any]:
     if row["accepted"] is not None:
         state, verdict, words = "accepted", "accept", "Accepted: the path is the one that the run executed."
     elif refusals:
-        last = (under_key or refusals)[0]
-        state, verdict, words = "refused" if under_key else "waiting", f"refuse {last['cause']}", "Refused: " + words_of_cause(last["cause"])
+        state, cause = "refused" if under_key else "waiting", (under_key or refusals)[0]["cause"]
+        verdict, words = f"refuse {cause}", f"Refused: {words_of_cause(cause)}"
     else:
         state, verdict, words = "waiting", None, "No answer has come yet."
     return {
@@ -106,8 +106,8 @@ class Signer:
         return {"keys": [self._public]}
 
     def result(self, told: dict[str, Any], path: bytes) -> str:
-        """The result of a challenge as a token: `ear.status` is affirming where an answer was accepted, contraindicated where an answer under
-        the device's key was refused and none was accepted, and else none."""
+        """The result of a challenge as a token: `ear.status` is affirming where an answer was accepted, contraindicated where none was and one
+        under the device's key was refused, and else none."""
         claims: dict[str, Any] = {
             "ear.status": STATUS[told["state"]],
             "oat.challenge": told["challenge"],

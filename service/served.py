@@ -27,7 +27,9 @@ class Served:
         """Starts the service, at the port that it had before, and waits until it serves."""
         words = [os.path.join(TOP, "service/start"), self.folder, "--port", str(self._port), "--seconds", str(SECONDS_OF_A_SERVICE)]
         with open(self.folder + ".log", "a") as log:
-            self._process = subprocess.Popen(words, env=self._environment, stdin=subprocess.DEVNULL, stdout=subprocess.PIPE, stderr=log, text=True)
+            self._process = subprocess.Popen(
+                words, env=self._environment, stdin=subprocess.DEVNULL, stdout=subprocess.PIPE, stderr=log, text=True
+            )
         assert self._process.stdout
         lines = [self._process.stdout.readline() for _ in range(3)]
         found = re.match(r"address (\S+:([0-9]+))\ntoken   (\S+)\n", "".join(lines))
@@ -42,7 +44,7 @@ class Served:
         return Client(self.address)
 
     def memory(self) -> int:
-        """The most memory, in MiB, that any of its processes had so far."""
+        """The most memory, in MiB, that its process, or one that was killed, had so far."""
         try:
             with open(f"/proc/{self._process.pid}/status") as file:
                 now = int(re.search(r"VmHWM:\s+([0-9]+) kB", file.read())[1]) // 1024

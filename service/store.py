@@ -177,7 +177,8 @@ class Store:
                 return None
             devices = self._base.execute("SELECT id, image, key FROM devices WHERE circle = ? ORDER BY id", (found[0],))
             lines = [f"device {row['id']} images/{row['image']} {row['key'].hex()}" for row in devices]
-            calls = self._base.execute("SELECT line, CAST(reply AS BLOB) AS reply FROM calls WHERE script = ? ORDER BY place", (number,)).fetchall()
+            kept = "SELECT line, CAST(reply AS BLOB) AS reply FROM calls WHERE script = ? ORDER BY place"
+            calls = self._base.execute(kept, (number,)).fetchall()
             return Script(lines, [row["line"] for row in calls], [row["reply"] for row in calls])
 
     def keep(self, script: int, put: Iterable[tuple[Call, Reply]]) -> None:
@@ -245,11 +246,15 @@ class Store:
         )
 
     def challenge(self, script: int, number: int) -> Optional[dict[str, Any]]:
-        return self._row("SELECT c.*, d.image FROM challenges c JOIN devices d ON d.id = c.device WHERE script = ? AND number = ?", script, number)
+        return self._row(
+            "SELECT c.*, d.image FROM challenges c JOIN devices d ON d.id = c.device WHERE script = ? AND number = ?", script, number
+        )
 
     def refusals(self, script: int, number: int) -> list[dict[str, Any]]:
         """The refused answers of a challenge by their causes, the last first."""
-        return self._rows("SELECT kind, cause, count, time FROM refusals WHERE script = ? AND number = ? ORDER BY time DESC", script, number)
+        return self._rows(
+            "SELECT kind, cause, count, time FROM refusals WHERE script = ? AND number = ? ORDER BY time DESC", script, number
+        )
 
     def challenges(self, only_open: bool, device: Optional[int], most: int) -> list[dict[str, Any]]:
         """The newest challenges, or the newest of those that are open, of one device or of all."""

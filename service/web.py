@@ -20,12 +20,15 @@ from results import Signer, path_of, told
 from store import Known, Store
 
 PAGE = os.path.join(os.path.dirname(os.path.abspath(__file__)), "page")
-SECONDS_OF_WAITING = 20
+SECONDS_OF_WAITING = 5
 
 # What a refused answer's kind is in HTTP.
 STATUS_OF_REFUSAL = {"frame": 400, "device": 404, "challenge": 404, "spent": 409, "verdict": 403}
 
-POLICY = "default-src 'none'; script-src 'self'; style-src 'self'; img-src blob: data:; connect-src 'self'; base-uri 'none'; form-action 'none'; frame-ancestors 'none'"
+POLICY = (
+    "default-src 'none'; script-src 'self'; style-src 'self'; img-src blob: data:; connect-src 'self'; "
+    "base-uri 'none'; form-action 'none'; frame-ancestors 'none'"
+)
 
 
 class Enrolment(BaseModel):
@@ -56,7 +59,8 @@ def answered(reply: Reply, name: str) -> JSONResponse:
 
 def application(store: Store, desk: Desk, changes: Changes, signer: Signer, painter: Painter) -> FastAPI:
     """The calls on a store."""
-    app = FastAPI(title="oat: an owner's service", description="Each reply to a challenge or an answer is what `oat owner` puts. docs/SERVICE.md has more.")
+    description = "Each reply to a challenge or an answer is what `oat owner` puts. docs/SERVICE.md has more."
+    app = FastAPI(title="oat: an owner's service", version="1", description=description)
     add_errors(app)
     add_devices_calls(app, store, desk)
     add_owners_calls(app, store, desk, changes, painter)
@@ -90,6 +94,10 @@ def add_errors(app: FastAPI) -> None:
     async def no_reply(request: Request, failure: NoReply) -> JSONResponse:
         return answer(503 if isinstance(failure, TooMuch) else 500, f"oat owner gave no reply: {failure}", "service")
 
+    @app.exception_handler(Exception)
+    async def failed(request: Request, failure: Exception) -> JSONResponse:
+        return answer(500, "the service failed: its log says how", "service")
+
     @app.exception_handler(Stopped)
     async def stopped(request: Request, failure: Stopped) -> JSONResponse:
         return answer(500, f"the store isn't what oat owner puts: {failure}", "store")
@@ -106,9 +114,11 @@ def add_devices_calls(app: FastAPI, store: Store, desk: Desk) -> None:
         row = store.next_of(device)
         if row is None:
             return Response(status_code=204)
-        return {"challenge": f"{row['script']}.{row['number']}", "frame": row["frame"], "answer": f"/scripts/{row['script']}/answers"}
+        script, number = row["script"], row["number"]
+        return {"challenge": f"{script}.{number}", "frame": row["frame"], "answer": f"/scripts/{script}/answers"}
 
-    frames = {"requestBody": {"required": True, "content": {"application/octet-stream": {"schema": {"type": "string", "format": "binary", "maxLength": ANSWER_LIMIT}}}}}
+    schema = {"type": "string", "format": "binary", "maxLength": ANSWER_LIMIT}
+    frames = {"requestBody": {"required": True, "content": {"application/octet-stream": {"schema": schema}}}}
     refusals = {status: {"description": f"refused answer {kind}"} for kind, status in STATUS_OF_REFUSAL.items()}
 
     @app.post("/scripts/{script}/answers", tags=["device"], openapi_extra=frames, responses=refusals)
@@ -160,7 +170,11 @@ def add_owners_calls(app: FastAPI, store: Store, desk: Desk, changes: Changes, p
         return {"reply": reply.line, "challenge": f"{script}.{reply.issued[0]}", "frame": reply.issued[1]}
 
     @app.get("/challenges", tags=["owner"])
-    def challenges(only_open: bool = False, device: Optional[int] = Query(None, ge=0, le=4294967295), most: int = Query(50, ge=1, le=500)) -> Any:
+    def challenges(
+        only_open: bool = False,
+        device: Optional[int] = Query(None, ge=0, le=4294967295),
+        most: int = Query(50, ge=1, le=500),
+    ) -> Any:
         """The newest challenges, or the newest of those to which no answer was accepted."""
         return [told(store, row) for row in store.challenges(only_open, device, most)]
 
@@ -218,12 +232,18 @@ def add_results(app: FastAPI, store: Store, signer: Signer, painter: Painter) ->
         drawn = painter.draw(store.image_file(row["image"]), result["verdict"], path_of(store, row))
         if drawn is None:
             raise error(404, "there is no picture", "service")
-        return Response(drawn, media_type="image/svg+xml", headers={"content-security-policy": "default-src 'none'; style-src 'unsafe-inline'"})
+        headers = {"content-security-policy": "default-src 'none'; style-src 'unsafe-inline'"}
+        return Response(drawn, media_type="image/svg+xml", headers=headers)
 
 
 def add_page(app: FastAPI) -> None:
     """The page, which is in three files."""
-    headers = {"content-security-policy": POLICY, "x-content-type-options": "nosniff", "referrer-policy": "no-referrer", "cache-control": "no-cache"}
+    headers = {
+        "content-security-policy": POLICY,
+        "x-content-type-options": "nosniff",
+        "referrer-policy": "no-referrer",
+        "cache-control": "no-cache",
+    }
 
     def add(path: str, name: str) -> None:
         @app.get(path, include_in_schema=False)

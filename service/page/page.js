@@ -140,31 +140,31 @@ function facts(told) {
   find("detail-facts").replaceChildren(...rows.flatMap(([name, value]) => [make("dt", {}, name), make("dd", {}, value)]));
 }
 
+// Shows a challenge, unless another one is to be shown by the time that it is told.
 async function show(challenge, move) {
-  const told = await get(`/challenges/${challenge}`);
-  const another = page.shown !== challenge;
   page.shown = challenge;
+  const told = await get(`/challenges/${challenge}`);
+  const lines = told.state === "accepted" ? (await (await call("GET", `/challenges/${challenge}/path`)).text()).trimEnd().split("\n") : [];
+  if (page.shown !== challenge) return;
   find("detail").hidden = false;
   find("detail-title").textContent = `Challenge ${challenge}`;
   find("detail-words").textContent = told.words;
   find("detail-words").className = `words ${told.state}`;
   facts(told);
-  await showPath(told);
-  await showPicture(told, another);
+  showPath(lines);
   if (move) find("detail").focus();
+  await showPicture(told);
 }
 
-async function showPath(told) {
-  const accepted = told.state === "accepted";
-  const lines = accepted ? (await (await call("GET", `/challenges/${told.challenge}/path`)).text()).trimEnd().split("\n") : [];
-  find("detail-path").hidden = !accepted;
+function showPath(lines) {
+  find("detail-path").hidden = !lines.length;
   find("path").replaceChildren(...lines.slice(0, PATH_LINES).map((line) => make("li", {}, line)));
   find("path-more").textContent = lines.length > PATH_LINES ? `The first ${PATH_LINES} of ${lines.length} lines.` : "";
 }
 
-async function showPicture(told, another) {
+async function showPicture(told) {
   const wanted = `${told.challenge} ${told.verdict}`;
-  if (page.picture === wanted && !another) return;
+  if (page.picture === wanted) return;
   page.picture = wanted;
   const image = find("picture");
   if (image.src) URL.revokeObjectURL(image.src);
@@ -172,7 +172,9 @@ async function showPicture(told, another) {
   find("detail-picture").hidden = true;
   if (!told.picture) return;
   try {
-    image.src = URL.createObjectURL(await (await call("GET", told.picture)).blob());
+    const drawn = await (await call("GET", told.picture)).blob();
+    if (page.picture !== wanted) return;
+    image.src = URL.createObjectURL(drawn);
     image.alt = `The control flow of the image, titled ${told.verdict}`;
     find("detail-picture").hidden = false;
   } catch (failure) {
