@@ -5,6 +5,7 @@ line. No frame is read, and no verdict is found, anywhere in the service."""
 
 import os
 import resource
+import signal
 import subprocess
 from dataclasses import dataclass
 from typing import Iterable, Optional
@@ -103,6 +104,6 @@ class Program:
                     resource.prlimit(run.pid, limit, (most, most))
                 _, err = run.communicate(text)
             if run.returncode < 0:
-                raise TooMuch(f"a run was ended: it took more than {SECONDS} s, or put more than {OUTPUT_LIMIT} bytes")
+                raise TooMuch(f"a run was ended by {signal.Signals(-run.returncode).name}: {err[-1000:].decode(errors='replace')}")
             out.seek(0)
             return run.returncode, out.read(), err
