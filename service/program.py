@@ -12,7 +12,7 @@ from typing import Iterable, Optional
 
 SECONDS = 20
 OUTPUT_LIMIT = 64 * 1024 * 1024
-LIMITS = {resource.RLIMIT_CPU: SECONDS, resource.RLIMIT_FSIZE: OUTPUT_LIMIT, resource.RLIMIT_CORE: 0}
+LIMITS = {resource.RLIMIT_CPU: SECONDS, resource.RLIMIT_FSIZE: OUTPUT_LIMIT}
 WANT_OF_MEMORY = 6
 
 FIRST_WORDS = (b"challenge ", b"accepted ", b"refused ")
