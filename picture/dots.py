@@ -3,7 +3,7 @@
 from image import Arrow
 
 FONT = "Helvetica,Arial,sans-serif"
-INK, PALE, RED, FRAME = "#1c2733", "#9aa5b1", "#c8102e", "#c9d2dc"
+INK, PALE, GREY, RED, FRAME = "#1c2733", "#8794a2", "#5b6875", "#c8102e", "#c9d2dc"
 ON_PATH, OFF_PATH, HURT = "#dcebfb", "#ffffff", "#fde3e6"
 # Of each kind: the colour where it was taken, the line's style, the head, and its word in the legend.
 KINDS = {
@@ -15,9 +15,9 @@ KINDS = {
     "icall": ("#1b7f4b", "dotted", "normal"),
     "ret": ("#7a4fa3", "dashed", "empty"),
 }
-LEGEND = "solid: jump, branch 1 or 0 \N{MIDDLE DOT} dashed: call, or return with an empty head \N{MIDDLE DOT} dotted: indirect call"
-LEGEND_OF_PATHS = " \N{MIDDLE DOT} thick: taken, so many times \N{MIDDLE DOT} red: not of the map"
-TIMES = "\N{MULTIPLICATION SIGN}"
+LEGEND = "solid: jump, branch 1 or 0; dashed: call, and return with an empty head; dotted: indirect call"
+LEGEND_OF_PATHS = "thick: taken, so many times; red: what the map or the last definition doesn't allow"
+TIMES, SPACE = "\N{MULTIPLICATION SIGN}", "\N{NO-BREAK SPACE}"
 MOST_CELLS = 4
 
 
@@ -29,7 +29,7 @@ def quoted(text):
     return '"' + text + '"'
 
 
-def small(text, colour=PALE):
+def small(text, colour):
     return f'<font point-size="10" color="{colour}">{text}</font>'
 
 
@@ -70,9 +70,9 @@ class Picture:
 
     def _title(self):
         image = self.image
-        legend = small(LEGEND + (LEGEND_OF_PATHS if self.counts and self.counts.have_a_path else ""))
+        legend = [LEGEND] + [LEGEND_OF_PATHS] * bool(self.counts and self.counts.have_a_path)
         title = self.counts.title if self.counts else f"an image of {len(image.functions)} functions and {len(image.places) - len(image.functions)} blocks"
-        return f"<<b>{title}</b><br/>{legend}<br/> >"
+        return f"<<b>{title}</b><br/>{'<br/>'.join(small(line, GREY) for line in legend)}<br/> >"
 
     def _cluster(self, number, function):
         yield f"subgraph cluster_{number} {{"
@@ -93,7 +93,7 @@ class Picture:
         lines += [self._mark(number, row) for number, row in rows if row.kind in ("begin", "end")]
         for word, kinds in (("uses", ("use", "useat")), ("defines", ("def", "defat"))):
             of_kind = [row for _, row in rows if row.kind in kinds]
-            lines += [small(f"{word} {cells_text(of_kind)}", "#5b6875")] if of_kind else []
+            lines += [small(f"{word} {cells_text(of_kind)}", GREY)] if of_kind else []
         for text in self._hurts(rows):
             lines.append(small(f"<b>{text}</b>", RED))
             is_hurt = True
@@ -130,22 +130,23 @@ class Picture:
             yield self._arrow(arrow, taken.get(arrow, 0), arrow in self.image.arrows)
 
     def _arrow(self, arrow, count, is_of_map):
+        """An arrow. A return is drawn backwards, from the call's block down to it, so that the layout goes from callers down to callees."""
         colour, style, head = KINDS[arrow.kind]
         words = [arrow.kind] if arrow.kind in "01" else []
-        shown = {"style": style, "arrowhead": head}
+        shown = {"style": style, "penwidth": "1.6" if style == "dotted" else "1"}
         if count:
             words.append(f"<b>{TIMES}{count}</b>")
-            shown |= {"penwidth": "2.6"}
+            shown["penwidth"] = "2.6"
         elif self.counts and self.counts.have_a_path:
             colour = PALE
         if not is_of_map:
             colour = RED
         shown |= {"color": colour, "fontcolor": colour}
         if words:
-            shown["label"] = f"<{' '.join(words)}>"
+            shown["label"] = f"<{SPACE}{' '.join(words)}{SPACE}>"
         if arrow.kind == "ret":
-            shown["constraint"] = "false"
-        return f"p{arrow.source} -> p{arrow.target} " + attributes(**shown)
+            return f"p{arrow.target} -> p{arrow.source} " + attributes(dir="back", arrowtail=head, **shown)
+        return f"p{arrow.source} -> p{arrow.target} " + attributes(arrowhead=head, **shown)
 
     def _strays(self):
         """Each stray, from the place of the one address to that of the other, or to a node outside all functions."""
@@ -154,9 +155,8 @@ class Picture:
             if target is None:
                 yield f"a{stray.target:X} " + attributes(label=f"{stray.target:08X}", color=RED, fontcolor=RED)
             yield f"p{self.image.place_over(stray.source)} -> " + (f"a{stray.target:X} " if target is None else f"p{target} ") + attributes(
-                label=f"<<b>stray {TIMES}{count}</b><br/>{stray.source:08X}<br/>to {stray.target:08X}>",
+                label=f'<<table border="0" cellborder="0" cellpadding="6"><tr><td><b>stray {TIMES}{count}</b><br/>{stray.source:08X}<br/>to {stray.target:08X}</td></tr></table>>',
                 color=RED,
                 fontcolor=RED,
                 penwidth="3",
-                constraint="false",
             )
