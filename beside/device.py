@@ -5,9 +5,11 @@ import subprocess
 import tempfile
 
 
-def image_text(words, rows=(), functions=(), blocks=(), data=()):
-    lines = ["oat-image 1", f"code {len(words)}", *(f"{word:08X}" for word in words)]
-    lines += [f"data {len(data)}", *(f"{index} {value:016X}" for index, value in sorted(dict(data).items())), "cells 0"]
+def image_text(words, rows=(), functions=(), blocks=(), data=(), cells=()):
+    version = 2 if any(row[1] in ("useat", "defat") for row in rows) else 1
+    lines = [f"oat-image {version}", f"code {len(words)}", *(f"{word:08X}" for word in words)]
+    lines += [f"data {len(data)}", *(f"{index} {value:016X}" for index, value in sorted(dict(data).items()))]
+    lines += [f"cells {len(cells)}", *map(str, cells)]
     lines += [f"functions {len(functions)}", *(f"{at:08X} {name} 0 1" for at, name in sorted(functions))]
     lines += [f"blocks {len(blocks)}", *(f"{at:08X} {label}" for at, label in sorted(blocks))]
     lines += [f"rows {len(rows)}", *(row_text(*row) for row in sorted(rows))]
@@ -15,12 +17,13 @@ def image_text(words, rows=(), functions=(), blocks=(), data=()):
 
 
 def row_text(at, kind, *fields):
-    numbers = {"icall", "begin"}
+    numbers = {"icall", "begin", "end", "use", "def", "useat", "defat"}
     return " ".join([kind, f"{at:08X}", *(str(field) if kind in numbers else f"{field:08X}" for field in fields)])
 
 
-def case_text(steps=1, inputs=(), writes=()):
-    lines = ["oat-case 1", "key 00", f"nonce {'00' * 16}", "operation 1", f"steps {steps}"]
+def case_text(steps=1, inputs=(), writes=(), key="00", nonce="00" * 16, operation=1, calls=None):
+    lines = ["oat-case 1", f"key {key}", f"nonce {nonce}", f"operation {operation}", f"steps {steps}"]
+    lines += [f"calls {calls}"] if calls else []
     lines += [f"input {value - 2**64 if value >> 63 else value}" for value in inputs]
     lines += [f"write {at} {address:X} {content.hex()}" for at, address, content in writes]
     return "\n".join([*lines, ""])
