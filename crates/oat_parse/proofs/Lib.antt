@@ -1,0 +1,4 @@
+mod PieceLaws
+mod Plain
+mod Ranged
+mod ReaderLaws

@@ -1,0 +1,10 @@
+pub mod Pieces
+pub mod SeenOpened
+pub mod SeenPlaces
+pub mod Moves
+pub mod Arguments
+pub mod Outsides
+pub mod SeenBodies
+pub mod Nexts
+pub mod Parts
+pub mod Readers
